@@ -6,12 +6,14 @@ use Rattle.std.specs.Option.{option_and_then}
 use Rattle.std.proofs.lemmas.List.{get_or_default}
 use Rattle.std.proofs.lemmas.Option.{get_or_from_slice_get, slice_get-get_or}
 use Rattle.mgs_model.specs.Access.{Directory}
-use Rattle.mgs_model.specs.Apart.{touched_by}
+use Rattle.mgs_laws.specs.Apart.{touched_by}
 use Rattle.mgs_model.specs.Apply.{applied, apply, outcome_in}
-use Rattle.mgs_model.specs.Events.{Saved, effect_in, may_be_refused, saved_by}
-use Rattle.mgs_model.specs.Outcome.{Act, Effect, No_effect, Edit, Unmodified, Relist, Reown, Create, Kill, Save, Quit, takes_memory}
+use Rattle.mgs_model.specs.Events.{Saved, effect_in, saved_by}
+use Rattle.mgs_laws.specs.Refusals.{may_be_refused}
+use Rattle.mgs_model.specs.Outcome.{Act, Effect, No_effect, Edit, Unmodified, SetList, SetOwners, Create, Kill, Save, Quit}
+use Rattle.mgs_laws.specs.Refusals.{takes_memory}
 use Rattle.mgs_model.specs.Outcome as outcomes
-use Rattle.mgs_model.specs.World.{Own}
+use Rattle.mgs_model.specs.World.{State}
 use Rattle.mgs_model.specs.declared.session.Question.{Question}
 use Rattle.mgs_model.specs.declared.entry.Decision.{Decision}
 use Rattle.mgs_model.specs.declared.entry.Decision.TheVariants.{Granted}
@@ -33,7 +35,7 @@ use Rattle.mgs_plan.proofs.Deeds.{acting_marks}
 use Rattle.mgs_plan.proofs.Tells.{tells_known}
 use Rattle.mgs_world.specs.Sound.{IsSound}
 use Rattle.mgs_act.specs.Doing.{CanDo, DoneBy, IsDone, IsQuietlyDone}
-use Rattle.mgs_world.specs.Worlds.{own_at, own_of, own_or_first, session_id, world_of}
+use Rattle.mgs_world.specs.Worlds.{state_at, state_of, state_or_first, session_id, world_of}
 
 -- the session at an index within
 pub here_is : (xs : List Session) (at : ℕ) (r h : Session) → at < length xs → slice_get xs at ≡ Some h → get_or xs at r ≡ h
@@ -57,10 +59,10 @@ marks_here ks xs at r within sound = go (window_marks_of (get_or xs at r)) refl
     go (Some x) is = acting_marks ks xs at x sound (ap (option_and_then window_marks_of) (slice_get-get_or xs at r within) ∙ is)
 
 -- the answer to a question, by what the session at an index holds
-pub asked_at : (directory : Directory) (ks : List MarkedBuffer) (xs : List Session) (at : ℕ) (r : Session) (q : Question) (n : Option ℕ) (typed : List ℕ) (o : Outcome) → at < length xs → ((next : Option ℕ) → IsOutcome directory ks xs next (get_or xs at r) (answer_act q n typed (own_of (get_or xs at r).own)) o)
-    → (next : Option ℕ) → IsOutcome directory ks xs next (get_or xs at r) (answer_act q n typed (own_at at xs)) o
+pub asked_at : (directory : Directory) (ks : List MarkedBuffer) (xs : List Session) (at : ℕ) (r : Session) (q : Question) (n : Option ℕ) (typed : List ℕ) (o : Outcome) → at < length xs → ((next : Option ℕ) → IsOutcome directory ks xs next (get_or xs at r) (answer_act q n typed (state_of (get_or xs at r).state)) o)
+    → (next : Option ℕ) → IsOutcome directory ks xs next (get_or xs at r) (answer_act q n typed (state_at at xs)) o
 asked_at directory ks xs at r q n typed o within planned =
-    subst (λ (own : Own). (next : Option ℕ) → IsOutcome directory ks xs next (get_or xs at r) (answer_act q n typed own) o) (sym (ap own_or_first (slice_get-get_or xs at r within))) planned
+    subst (λ (state : State). (next : Option ℕ) → IsOutcome directory ks xs next (get_or xs at r) (answer_act q n typed state) o) (sym (ap state_or_first (slice_get-get_or xs at r within))) planned
 
 -- RESULTS
 
@@ -97,8 +99,8 @@ pub nowhere_saves_none : (e : Effect) → touched_by e ≡ Nowhere → saved_by 
 nowhere_saves_none No_effect is = refl
 nowhere_saves_none (Edit name a b put) is = refl
 nowhere_saves_none (Unmodified name) is = refl
-nowhere_saves_none (Relist name entries) is = refl
-nowhere_saves_none (Reown name new) is = refl
+nowhere_saves_none (SetList name entries) is = refl
+nowhere_saves_none (SetOwners name new) is = refl
 nowhere_saves_none (Create name owner) is = refl
 nowhere_saves_none (Kill name) is = refl
 nowhere_saves_none (Save name text) is = cc

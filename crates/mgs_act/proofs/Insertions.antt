@@ -16,11 +16,11 @@ use Rattle.mgs_plan.specs.Following.{edit_told, followed}
 use Rattle.mgs_plan.specs.Inserting.{IsInserted, buffers_inserted, insertion_of, leaving, put_outcome}
 use Rattle.mgs_world.specs.Sound.{IsSound}
 use Rattle.mgs_world.specs.WindowMarks.{WindowMarksDropped}
-use Rattle.mgs_world.specs.Worlds.{id_after, idle, own_at, own_of, own_or_first, session_id, session_of, world_of}
+use Rattle.mgs_world.specs.Worlds.{id_after, idle, state_at, state_of, state_or_first, session_id, session_of, world_of}
 use Rattle.mgs_world.proofs.SelectedMark.{given_up_sessions, given_up_sound, reserved_mark}
 use Rattle.mgs_world.proofs.Soundness.{mark_is_kept, sound_placed, sound_set}
 use Rattle.mgs_world.proofs.Worlds.{same_world}
-use Rattle.mgs_plan.proofs.Deeds.{acting_marks, fresh_own, set_back}
+use Rattle.mgs_plan.proofs.Deeds.{acting_marks, fresh_state, set_back}
 use Rattle.mgs_plan.proofs.Leaving.{length_edited_by}
 use Rattle.mgs_act.proofs.Marked.{held_then, mark_there, marked_so, reserved_marks, text_left}
 
@@ -56,9 +56,9 @@ module _ (ks ls : List MarkedBuffer) (xs : List Session) (at place : ℕ) (put :
       let mark = mark_there x m.id change change.finish m.between (reserved_mark x.mark m.id ks m.between xs at h x refl sound kept found sel m.reserved) marks_l in
       rw (m.buffers, m.session) (sound_placed x.name m.id place _ _ mark (held_then ks m.between xs at m.id h x change change.finish change.finish sound kept m.reserved found sel marks_l))
 
-  inserted_so : (directory : Directory) (next : Option ℕ) (id : ℕ) → at ≡ position_or_len (session_id id) xs → at < length xs → IsSound ks xs → window_marks_of h ≡ Some x → AreMarks ks x → own_of h.own ≡ idle (own_of h.own) → IsInserted x place put ks ls h y
+  inserted_so : (directory : Directory) (next : Option ℕ) (id : ℕ) → at ≡ position_or_len (session_id id) xs → at < length xs → IsSound ks xs → window_marks_of h ≡ Some x → AreMarks ks x → state_of h.state ≡ idle (state_of h.state) → IsInserted x place put ks ls h y
       → place ≤ length (marked_at x.name ks).buffer.text
-      → world_of directory ls (followed x.name (edit_told (length (marked_at x.name ks).buffer.text) (insertion_of place put)) (slice_set xs at y)) next ≡ apply (world_of directory ks xs next) id (put_outcome (own_of h.own) x.name place put)
+      → world_of directory ls (followed x.name (edit_told (length (marked_at x.name ks).buffer.text) (insertion_of place put)) (slice_set xs at y)) next ≡ apply (world_of directory ks xs next) id (put_outcome (state_of h.state) x.name place put)
   inserted_so directory next id there within sound sel marks fresh m room =
       rw (m.buffers, m.session)
       (marked_so directory ks m.between xs next id at m.id place h x (insertion_of place put) (place + length put) [] (leaving place) (omega arith) room sound (mark_is_kept x.name x.point ks marks.point) m.reserved there within found sel marks fresh refl refl)
@@ -68,11 +68,11 @@ module _ (ks ls : List MarkedBuffer) (xs : List Session) (at place : ℕ) (put :
     inserted_sound (Ok o) sel ok err same sound = sound_then sound (sym (ap (option_and_then window_marks_of) found) ∙ sel) (acting_marks ks xs at x sound sel) ok
     inserted_sound (Err e) sel ok err same sound = rw same (sound_set ls xs at h h (sym (get_or_from_slice_get xs at h h found)) (λ n i. refl) (given_up_sound ks ls xs err sound))
 
-    pub inserted_ok : (r : Result T E) → place ≤ length (marked_at x.name ks).buffer.text → OnOk r (IsInserted x place put ks ls h y) → IsSound ks xs → at < length xs → option_and_then window_marks_of (slice_get xs at) ≡ Some x → own_at at xs ≡ idle (own_at at xs)
-        → OnOk r ((directory : Directory) (id : ℕ) (next : Option ℕ) → at ≡ position_or_len (session_id id) xs → world_of directory ls (followed x.name (edit_told (length (marked_at x.name ks).buffer.text) (insertion_of place put)) (slice_set xs at y)) next ≡ apply (world_of directory ks xs next) id (put_outcome (own_at at xs) x.name place put))
+    pub inserted_ok : (r : Result T E) → place ≤ length (marked_at x.name ks).buffer.text → OnOk r (IsInserted x place put ks ls h y) → IsSound ks xs → at < length xs → option_and_then window_marks_of (slice_get xs at) ≡ Some x → state_at at xs ≡ idle (state_at at xs)
+        → OnOk r ((directory : Directory) (id : ℕ) (next : Option ℕ) → at ≡ position_or_len (session_id id) xs → world_of directory ls (followed x.name (edit_told (length (marked_at x.name ks).buffer.text) (insertion_of place put)) (slice_set xs at y)) next ≡ apply (world_of directory ks xs next) id (put_outcome (state_at at xs) x.name place put))
     inserted_ok (Ok o) room ok sound within sel fresh = λ directory id next there.
-        inserted_so directory next id there within sound (sym (ap (option_and_then window_marks_of) found) ∙ sel) (acting_marks ks xs at x sound sel) (fresh_own xs at h found fresh) ok room
-        ∙ ap (λ s. apply (world_of directory ks xs next) id (put_outcome (own_or_first s) x.name place put)) (sym found)
+        inserted_so directory next id there within sound (sym (ap (option_and_then window_marks_of) found) ∙ sel) (acting_marks ks xs at x sound sel) (fresh_state xs at h found fresh) ok room
+        ∙ ap (λ s. apply (world_of directory ks xs next) id (put_outcome (state_or_first s) x.name place put)) (sym found)
     inserted_ok (Err e) room ok sound within sel fresh = ok
 
     pub inserted_err : (r : Result T E) → OnErr r (WindowMarksDropped None ks ls) → OnErr r (y ≡ h) → IsSound ks xs → OnErr r ((directory : Directory) (next : Option ℕ) → world_of directory ls (slice_set xs at y) next ≡ world_of directory ks xs next)

@@ -7,7 +7,8 @@ use Rattle.std.proofs.lemmas.Option.{get_or_from_slice_get}
 use Rattle.mgs_model.specs.Access.{Directory, decision}
 use Rattle.mgs_model.specs.World.{Buffer, Item, has_id}
 use Rattle.mgs_model.specs.World as model
-use Rattle.mgs_model.specs.Outcome.{Effect, No_effect, Keep, Keep_mark, Mark_at, effect_takes_memory, takes_memory}
+use Rattle.mgs_model.specs.Outcome.{Effect, No_effect, Keep, Keep_mark, Mark_at}
+use Rattle.mgs_laws.specs.Refusals.{effect_takes_memory, takes_memory}
 use Rattle.mgs_model.specs.Plans as plans
 use Rattle.mgs_model.specs.Acts.{edit_of, fails, finished, is_too_large}
 use Rattle.mgs_model.specs.Apply.{apply, buffers_after, change_at, change_first, session_after, session_arranged, window_adjusted}
@@ -28,7 +29,7 @@ use Rattle.mgs_plan.specs.Actions.{AreMarks, CanBeDone, IsMarked, edited_by, kil
 use Rattle.mgs_world.specs.Marking.{IsReserved, mark_at_place, session_marked}
 use Rattle.mgs_world.specs.Sound.{IsSound}
 use Rattle.mgs_world.specs.WindowMarks.{WindowMarksDropped}
-use Rattle.mgs_world.specs.Worlds.{id_after, idle, own_at, own_of, own_or_first, session_id, session_of, world_of}
+use Rattle.mgs_world.specs.Worlds.{id_after, idle, state_at, state_of, state_or_first, session_id, session_of, world_of}
 use Rattle.mgs_world.proofs.SelectedMark.{changed_first, get_set, given_up_sessions, given_up_sound, reserved_buffers, reserved_mark, reserved_more, reserved_sessions, reserved_sound, sessions_marked}
 use Rattle.mgs_world.proofs.Soundness.{in_use_mark, mark_is_kept, sound_placed, sound_set}
 use Rattle.mgs_world.proofs.Marks.{found_same, is_same}
@@ -36,7 +37,7 @@ use Rattle.mgs_world.proofs.Owns.{search_at_rest}
 use Rattle.mgs_world.proofs.WindowMarks.{added_mark}
 use Rattle.mgs_world.proofs.Worlds.{buffers_placed, same_world}
 use Rattle.mgs_world.proofs.Unmodified.{marks_unmodified}
-use Rattle.mgs_plan.proofs.Deeds.{acting_marks, at_twice, edited_buffers, edited_sound, ended, finished_there, fresh_own, gone_buffers, gone_sound, no_quit, once_used, set_back, unmarked, set_twice}
+use Rattle.mgs_plan.proofs.Deeds.{acting_marks, at_twice, edited_buffers, edited_sound, ended, finished_there, fresh_state, gone_buffers, gone_sound, no_quit, once_used, set_back, unmarked, set_twice}
 use Rattle.mgs_plan.proofs.Followed.{get_followed, place_followed, sessions_went, set_followed, sound_kept, within_followed}
 use Rattle.mgs_plan.proofs.Leaving.{length_edited_by, mark_edited_by, mark_still, text_gone, used_once}
 
@@ -87,27 +88,27 @@ first_pointwise {A = A} p f g same (x ∷ xs) = go (p x) (first_pointwise p f g 
 -- ONE SESSION
 
 -- the mark goes where the finish says, beside all else
-mark_ends : (p : ℕ) (f : plans.Finish) (e : Effect) (own : model.Own) (x : model.Session) → mark_at_place p (session_arranged (ended (unmarked f) e own) x) ≡ session_arranged (ended (record f { mark = Mark_at p }) e own) x
-mark_ends p f e own x =
-    let whole = session_arranged (ended (record f { mark = Mark_at p }) e own) x in
+mark_ends : (p : ℕ) (f : plans.Finish) (e : Effect) (state : model.State) (x : model.Session) → mark_at_place p (session_arranged (ended (unmarked f) e state) x) ≡ session_arranged (ended (record f { mark = Mark_at p }) e state) x
+mark_ends p f e state x =
+    let whole = session_arranged (ended (record f { mark = Mark_at p }) e state) x in
     ap (λ (ws : List model.Window). record whole { windows = ws })
     (at_twice (window_adjusted x.search f.point Keep_mark f.top None) (window_adjusted None Keep (Mark_at p) Keep None) x.selected x.windows)
 
 -- THE SESSIONS
 
-marked_there : (ks ls : List MarkedBuffer) (xs : List Session) (id at mid p : ℕ) (h : Session) (x : WindowMarks) (c : plans.Change) (behind : ℕ) (text : List ℕ) (f : Finish) → IsSound ks xs → HasBuffer x.name ks → IsReserved x.name x.mark mid ks ls → at ≡ position_or_len (session_id id) xs → at < length xs → slice_get xs at ≡ Some h → window_marks_of h ≡ Some x → AreMarks ks x → own_of h.own ≡ idle (own_of h.own) → IsMark x.name mid (marks_gone x (finish_read text h.kill behind f) (edited_by x.name c ls)) → IsSound (marks_gone x (finish_read text h.kill behind f) (edited_by x.name c ls)) (slice_set xs at (session_marked mid (session_finished (finish_read text h.kill behind f) h)))
+marked_there : (ks ls : List MarkedBuffer) (xs : List Session) (id at mid p : ℕ) (h : Session) (x : WindowMarks) (c : plans.Change) (behind : ℕ) (text : List ℕ) (f : Finish) → IsSound ks xs → HasBuffer x.name ks → IsReserved x.name x.mark mid ks ls → at ≡ position_or_len (session_id id) xs → at < length xs → slice_get xs at ≡ Some h → window_marks_of h ≡ Some x → AreMarks ks x → state_of h.state ≡ idle (state_of h.state) → IsMark x.name mid (marks_gone x (finish_read text h.kill behind f) (edited_by x.name c ls)) → IsSound (marks_gone x (finish_read text h.kill behind f) (edited_by x.name c ls)) (slice_set xs at (session_marked mid (session_finished (finish_read text h.kill behind f) h)))
     → (let left = finish_read text h.kill behind f in
     map (session_of (change_first (marked_named x.name) (marked_placed mid p) (marks_gone x left (edited_by x.name c ls)))) (slice_set xs at (session_marked mid (session_finished left h)))
-    ≡ change_first (has_id id) (session_arranged (ended (record left { mark = Mark_at p }) (edit_of x.name c) (own_of h.own))) (map (session_of (edited_by x.name c ls)) xs))
+    ≡ change_first (has_id id) (session_arranged (ended (record left { mark = Mark_at p }) (edit_of x.name c) (state_of h.state))) (map (session_of (edited_by x.name c ls)) xs))
 marked_there ks ls xs id at mid p h x c behind text f sound kept r place within is sel marks fresh mark held =
     let left = finish_read text h.kill behind f in
-    let own = own_of h.own in
+    let state = state_of h.state in
     let ls2 = marks_gone x left (edited_by x.name c ls) in
     let y = session_finished left h in
     let e = edit_of x.name c in
     let zs = map (session_of (edited_by x.name c ls)) xs in
     let there : at ≡ position_or_len (has_id id) zs = place ∙ sym (position_or_len-map (session_of (edited_by x.name c ls)) (has_id id) xs) in
-    let arranged : model.Session → model.Session = session_arranged (ended (unmarked left) e own) in
+    let arranged : model.Session → model.Session = session_arranged (ended (unmarked left) e state) in
     ap (map (session_of (change_first (marked_named x.name) (marked_placed mid p) ls2))) (sym (set_twice xs at y (session_marked mid y)))
     ∙ sessions_marked p mid ls2 (slice_set xs at y) at y x (get_set xs at h y is) sel mark (subst (IsSound ls2) (sym (set_twice xs at y (session_marked mid y))) held)
     ∙ ap (change_at at (mark_at_place p))
@@ -115,7 +116,7 @@ marked_there ks ls xs id at mid p h x c behind text f sound kept r place within 
     ∙ sym (changed_first (has_id id) arranged zs at there))
     ∙ at_twice arranged (mark_at_place p) at zs
     ∙ changed_first (has_id id) (λ z. mark_at_place p (arranged z)) zs at there
-    ∙ first_pointwise (has_id id) (λ z. mark_at_place p (arranged z)) (session_arranged (ended (record left { mark = Mark_at p }) e own)) (mark_ends p left e own) zs
+    ∙ first_pointwise (has_id id) (λ z. mark_at_place p (arranged z)) (session_arranged (ended (record left { mark = Mark_at p }) e state)) (mark_ends p left e state) zs
 
 -- THE WORLD
 
@@ -170,16 +171,16 @@ held_then ks ls xs at mid h x c f g sound kept r is sel marks =
     (sound_set (marks_gone x f ls1) ys at (session_marked mid h) (session_marked mid (session_finished g h)) (sym (get_or_from_slice_get ys at (session_marked mid h) (session_marked mid h) (get_set xs at h (session_marked mid h) is))) (λ n i. refl) after)
 
 -- the sessions, where the searches of all went by the edit
-marked_sessions : (ks ls : List MarkedBuffer) (xs : List Session) (id at mid p : ℕ) (h : Session) (x : WindowMarks) (c : plans.Change) (behind : ℕ) (text : List ℕ) (f : Finish) → c.a ≤ c.b → c.b ≤ length (marked_at x.name ks).buffer.text → IsSound ks xs → HasBuffer x.name ks → IsReserved x.name x.mark mid ks ls → at ≡ position_or_len (session_id id) xs → at < length xs → slice_get xs at ≡ Some h → window_marks_of h ≡ Some x → AreMarks ks x → own_of h.own ≡ idle (own_of h.own) → IsMark x.name mid (marks_gone x (finish_read text h.kill behind f) (edited_by x.name c ls))
+marked_sessions : (ks ls : List MarkedBuffer) (xs : List Session) (id at mid p : ℕ) (h : Session) (x : WindowMarks) (c : plans.Change) (behind : ℕ) (text : List ℕ) (f : Finish) → c.a ≤ c.b → c.b ≤ length (marked_at x.name ks).buffer.text → IsSound ks xs → HasBuffer x.name ks → IsReserved x.name x.mark mid ks ls → at ≡ position_or_len (session_id id) xs → at < length xs → slice_get xs at ≡ Some h → window_marks_of h ≡ Some x → AreMarks ks x → state_of h.state ≡ idle (state_of h.state) → IsMark x.name mid (marks_gone x (finish_read text h.kill behind f) (edited_by x.name c ls))
     → (let left = finish_read text h.kill behind f in
     map (session_of (change_first (marked_named x.name) (marked_placed mid p) (marks_gone x left (edited_by x.name c ls)))) (followed x.name (edit_told (length (marked_at x.name ks).buffer.text) c) (slice_set xs at (session_marked mid (session_finished left h))))
-    ≡ change_first (has_id id) (session_arranged (ended (record left { mark = Mark_at p }) (edit_of x.name c) (own_of h.own))) (map (session_after (edit_of x.name c)) (map (session_of ks) xs)))
+    ≡ change_first (has_id id) (session_arranged (ended (record left { mark = Mark_at p }) (edit_of x.name c) (state_of h.state))) (map (session_after (edit_of x.name c)) (map (session_of ks) xs)))
 marked_sessions ks ls xs id at mid p h x c behind text f order room sound kept r place within is sel marks fresh mark =
     let left = finish_read text h.kill behind f in
-    let arranged : model.Session → model.Session = session_arranged (ended (record left { mark = Mark_at p }) (edit_of x.name c) (own_of h.own)) in
+    let arranged : model.Session → model.Session = session_arranged (ended (record left { mark = Mark_at p }) (edit_of x.name c) (state_of h.state)) in
     let o = edit_told (length (marked_at x.name ks).buffer.text) c in
     let ys = followed x.name o xs in
-    let none = search_at_rest h.own fresh in
+    let none = search_at_rest h.state fresh in
     let found = get_followed x.name o xs at h none is in
     let sound_f = sound_kept x.name o ks xs sound in
     let marks_l = reserved_marks x mid ks ls kept r marks in
@@ -190,11 +191,11 @@ marked_sessions ks ls xs id at mid p h x c behind text f order room sound kept r
     ∙ ap (change_first (has_id id) arranged) (sessions_went x.name c ls xs order (omega (arith, same, room)) (mark_is_kept x.name x.point ls marks_l.point))
     ∙ ap (λ (ss : List model.Session). change_first (has_id id) arranged (map (session_after (edit_of x.name c)) ss)) (reserved_sessions x mid ks ls xs sound kept r)
 
-pub marked_so : (directory : Directory) (ks ls : List MarkedBuffer) (xs : List Session) (next : Option ℕ) (id at mid p : ℕ) (h : Session) (x : WindowMarks) (c : plans.Change) (behind : ℕ) (text : List ℕ) (f : Finish) → c.a ≤ c.b → c.b ≤ length (marked_at x.name ks).buffer.text → IsSound ks xs → HasBuffer x.name ks → IsReserved x.name x.mark mid ks ls → at ≡ position_or_len (session_id id) xs → at < length xs → slice_get xs at ≡ Some h → window_marks_of h ≡ Some x → AreMarks ks x → own_of h.own ≡ idle (own_of h.own) → f.mark ≡ Some p → is_too_large (kill_read text h.kill f.kill) ≡ false
-    → (let left = finish_read text h.kill behind f in world_of directory (change_first (marked_named x.name) (marked_placed mid p) (marks_gone x left (edited_by x.name c ls))) (followed x.name (edit_told (length (marked_at x.name ks).buffer.text) c) (slice_set xs at (session_marked mid (session_finished left h)))) next ≡ apply (world_of directory ks xs next) id (finished (own_of h.own) left (edit_of x.name c)))
+pub marked_so : (directory : Directory) (ks ls : List MarkedBuffer) (xs : List Session) (next : Option ℕ) (id at mid p : ℕ) (h : Session) (x : WindowMarks) (c : plans.Change) (behind : ℕ) (text : List ℕ) (f : Finish) → c.a ≤ c.b → c.b ≤ length (marked_at x.name ks).buffer.text → IsSound ks xs → HasBuffer x.name ks → IsReserved x.name x.mark mid ks ls → at ≡ position_or_len (session_id id) xs → at < length xs → slice_get xs at ≡ Some h → window_marks_of h ≡ Some x → AreMarks ks x → state_of h.state ≡ idle (state_of h.state) → f.mark ≡ Some p → is_too_large (kill_read text h.kill f.kill) ≡ false
+    → (let left = finish_read text h.kill behind f in world_of directory (change_first (marked_named x.name) (marked_placed mid p) (marks_gone x left (edited_by x.name c ls))) (followed x.name (edit_told (length (marked_at x.name ks).buffer.text) c) (slice_set xs at (session_marked mid (session_finished left h)))) next ≡ apply (world_of directory ks xs next) id (finished (state_of h.state) left (edit_of x.name c)))
 marked_so directory ks ls xs next id at mid p h x c behind text f order room sound kept r place within is sel marks fresh told small =
     let left = finish_read text h.kill behind f in
-    let own = own_of h.own in
+    let state = state_of h.state in
     let ls1 = edited_by x.name c ls in
     let ls2 = mark_gone x.name x.point left.point ls1 in
     let marks_l = reserved_marks x mid ks ls kept r marks in
@@ -202,12 +203,12 @@ marked_so directory ks ls xs next id at mid p h x c behind text f order room sou
     same_world directory _ _ _ _ (id_after next)
     (buffers_placed x.name mid p (marks_gone x left ls1) ∙ gone_buffers x.name x.top left.top ls2 ∙ gone_buffers x.name x.point left.point ls1 ∙ edited_buffers x.name c ls ∙ ap (buffers_after (edit_of x.name c)) (reserved_buffers x.name x.mark mid ks ls r))
     (marked_sessions ks ls xs id at mid p h x c behind text f order room sound kept r place within is sel marks fresh mark ∙ sym (no_quit x.name c id _))
-    ∙ ap (λ m. apply (world_of directory ks xs next) id (ended (record left { mark = mark_read m }) (edit_of x.name c) own)) (sym told)
-    ∙ ap (λ b. apply (world_of directory ks xs next) id (cond b (fails own KillTooLarge) (ended left (edit_of x.name c) own))) (sym small)
+    ∙ ap (λ m. apply (world_of directory ks xs next) id (ended (record left { mark = mark_read m }) (edit_of x.name c) state)) (sym told)
+    ∙ ap (λ b. apply (world_of directory ks xs next) id (cond b (fails state KillTooLarge) (ended left (edit_of x.name c) state))) (sym small)
 
 -- ANY ACTION
 
-acted_so : (directory : Directory) (ks ls : List MarkedBuffer) (xs : List Session) (next : Option ℕ) (id at p : ℕ) (x : WindowMarks) (h y : Session) (action : Action) → IsSound ks xs → at ≡ position_or_len (session_id id) xs → at < length xs → slice_get xs at ≡ Some h → window_marks_of h ≡ Some x → AreMarks ks x → own_of h.own ≡ idle (own_of h.own) → CanBeDone ks x h.kill action → mark_told action ≡ Some p → IsMarked x p action ks ls h y → world_of directory ls (followed x.name (edit_through x ks h.kill action) (slice_set xs at y)) next ≡ apply (world_of directory ks xs next) id (outcome_through (own_of h.own) x ks h.kill action)
+acted_so : (directory : Directory) (ks ls : List MarkedBuffer) (xs : List Session) (next : Option ℕ) (id at p : ℕ) (x : WindowMarks) (h y : Session) (action : Action) → IsSound ks xs → at ≡ position_or_len (session_id id) xs → at < length xs → slice_get xs at ≡ Some h → window_marks_of h ≡ Some x → AreMarks ks x → state_of h.state ≡ idle (state_of h.state) → CanBeDone ks x h.kill action → mark_told action ≡ Some p → IsMarked x p action ks ls h y → world_of directory ls (followed x.name (edit_through x ks h.kill action) (slice_set xs at y)) next ≡ apply (world_of directory ks xs next) id (outcome_through (state_of h.state) x ks h.kill action)
 acted_so directory ks ls xs next id at p x h y (Fails message) sound place within is sel marks fresh can told m = cc
 acted_so directory ks ls xs next id at p x h y (Edits mask c) sound place within is sel marks fresh can told m =
     let text = (marked_at x.name ks).buffer.text in
@@ -245,12 +246,12 @@ marked_sound (Ok o) ks ls xs at p x h y action is sel ok err same marks told sou
 marked_sound (Err e) ks ls xs at p x h y action is sel ok err same marks told sound =
     rw same (sound_set ls xs at h h (sym (get_or_from_slice_get xs at h h is)) (λ n i. refl) (given_up_sound ks ls xs err sound))
 
-pub marked_ok : {T E : Type 0} (r : Result T E) (ks ls : List MarkedBuffer) (xs : List Session) (at p : ℕ) (x : WindowMarks) (h y : Session) (action : Action) → slice_get xs at ≡ Some h → OnOk r (IsMarked x p action ks ls h y) → IsSound ks xs → at < length xs → option_and_then window_marks_of (slice_get xs at) ≡ Some x → own_at at xs ≡ idle (own_at at xs) → CanBeDone ks x (kill_at at xs) action → mark_told action ≡ Some p → OnOk r ((directory : Directory) (id : ℕ) (next : Option ℕ) → at ≡ position_or_len (session_id id) xs → world_of directory ls (followed x.name (edit_through x ks (kill_at at xs) action) (slice_set xs at y)) next ≡ apply (world_of directory ks xs next) id (outcome_through (own_at at xs) x ks (kill_at at xs) action))
+pub marked_ok : {T E : Type 0} (r : Result T E) (ks ls : List MarkedBuffer) (xs : List Session) (at p : ℕ) (x : WindowMarks) (h y : Session) (action : Action) → slice_get xs at ≡ Some h → OnOk r (IsMarked x p action ks ls h y) → IsSound ks xs → at < length xs → option_and_then window_marks_of (slice_get xs at) ≡ Some x → state_at at xs ≡ idle (state_at at xs) → CanBeDone ks x (kill_at at xs) action → mark_told action ≡ Some p → OnOk r ((directory : Directory) (id : ℕ) (next : Option ℕ) → at ≡ position_or_len (session_id id) xs → world_of directory ls (followed x.name (edit_through x ks (kill_at at xs) action) (slice_set xs at y)) next ≡ apply (world_of directory ks xs next) id (outcome_through (state_at at xs) x ks (kill_at at xs) action))
 marked_ok (Ok o) ks ls xs at p x h y action is ok sound within sel fresh can told = λ directory id next place.
     let sel_h : window_marks_of h ≡ Some x = sym (ap (option_and_then window_marks_of) is) ∙ sel in
     ap (λ (o : Option Session). world_of directory ls (followed x.name (edit_through x ks (kill_or_none o) action) (slice_set xs at y)) next) is
-    ∙ acted_so directory ks ls xs next id at p x h y action sound place within is sel_h (acting_marks ks xs at x sound sel) (fresh_own xs at h is fresh) (subst (λ o. CanBeDone ks x (kill_or_none o) action) is can) told ok
-    ∙ ap (λ o. apply (world_of directory ks xs next) id (outcome_through (own_or_first o) x ks (kill_or_none o) action)) (sym is)
+    ∙ acted_so directory ks ls xs next id at p x h y action sound place within is sel_h (acting_marks ks xs at x sound sel) (fresh_state xs at h is fresh) (subst (λ o. CanBeDone ks x (kill_or_none o) action) is can) told ok
+    ∙ ap (λ o. apply (world_of directory ks xs next) id (outcome_through (state_or_first o) x ks (kill_or_none o) action)) (sym is)
 marked_ok (Err e) ks ls xs at p x h y action is ok sound within sel fresh can told = ok
 
 pub marked_err : {T E : Type 0} (r : Result T E) (ks ls : List MarkedBuffer) (xs : List Session) (at : ℕ) (h y : Session) → slice_get xs at ≡ Some h → OnErr r (WindowMarksDropped None ks ls) → OnErr r (y ≡ h) → IsSound ks xs → OnErr r ((directory : Directory) (next : Option ℕ) → world_of directory ls (slice_set xs at y) next ≡ world_of directory ks xs next)
@@ -264,22 +265,22 @@ or_true : (a : Bool) → (a || true) ≡ true
 or_true true = refl
 or_true false = refl
 
-pub finish_takes : (own : model.Own) (f : plans.Finish) (e : Effect) (p : ℕ) → is_too_large f.kill ≡ false → f.mark ≡ Mark_at p → takes_memory (finished own f e) ≡ true
-finish_takes own f e p small told =
-    ap (λ b. takes_memory (cond b (fails own KillTooLarge) (ended f e own))) small
-    ∙ ap (λ m. takes_memory (ended (record f { mark = m }) e own)) told
+pub finish_takes : (state : model.State) (f : plans.Finish) (e : Effect) (p : ℕ) → is_too_large f.kill ≡ false → f.mark ≡ Mark_at p → takes_memory (finished state f e) ≡ true
+finish_takes state f e p small told =
+    ap (λ b. takes_memory (cond b (fails state KillTooLarge) (ended f e state))) small
+    ∙ ap (λ m. takes_memory (ended (record f { mark = m }) e state)) told
     ∙ or_true (effect_takes_memory e)
 
-pub marking_takes : (own : model.Own) (x : WindowMarks) (ks : List MarkedBuffer) (kill : List ℕ) (action : Action) (p : ℕ) → CanBeDone ks x kill action → mark_told action ≡ Some p → takes_memory (outcome_through own x ks kill action) ≡ true
-marking_takes own x ks kill (Fails message) p can told = cc
-marking_takes own x ks kill (Edits mask c) p can told =
+pub marking_takes : (state : model.State) (x : WindowMarks) (ks : List MarkedBuffer) (kill : List ℕ) (action : Action) (p : ℕ) → CanBeDone ks x kill action → mark_told action ≡ Some p → takes_memory (outcome_through state x ks kill action) ≡ true
+marking_takes state x ks kill (Fails message) p can told = cc
+marking_takes state x ks kill (Edits mask c) p can told =
     let text = (marked_at x.name ks).buffer.text in
-    finish_takes own (change_read text kill c).finish (edit_of x.name (change_read text kill c)) p can.small (ap mark_read told)
-marking_takes own x ks kill (Undoes u) p can told = cc
-marking_takes own x ks kill (Moves f) p can told =
+    finish_takes state (change_read text kill c).finish (edit_of x.name (change_read text kill c)) p can.small (ap mark_read told)
+marking_takes state x ks kill (Undoes u) p can told = cc
+marking_takes state x ks kill (Moves f) p can told =
     let text = (marked_at x.name ks).buffer.text in
-    finish_takes own (finish_read text kill 0 f) No_effect p can.small (ap mark_read told)
-marking_takes own x ks kill Clears p can told = cc
+    finish_takes state (finish_read text kill 0 f) No_effect p can.small (ap mark_read told)
+marking_takes state x ks kill Clears p can told = cc
 
 pub when_refused : {T E P : Type 0} (r : Result T E) → P → OnErr r P
 when_refused (Ok o) p = tt

@@ -8,10 +8,10 @@ use Rattle.mgs_model.specs.Access.{Directory}
 use Rattle.mgs_model.specs.World.{has_id}
 use Rattle.mgs_model.specs.World as model
 use Rattle.mgs_model.specs.Outcome.{Keep, Keep_mark}
-use Rattle.mgs_model.specs.Plans.{acted_own, row_scrolled}
+use Rattle.mgs_model.specs.Plans.{acted_state, row_scrolled}
 use Rattle.mgs_model.specs.Acts.{scrolls_rows}
 use Rattle.mgs_model.specs.Apply.{apply, change_at, change_first, session_arranged, window_adjusted}
-use Rattle.mgs_model.specs.Apart.{touched_by}
+use Rattle.mgs_laws.specs.Apart.{touched_by}
 use Rattle.mgs_model.specs.Events.{saved_by}
 use Rattle.mgs_model.specs.declared.session.Kind.TheVariants.{Other}
 use Rattle.mgs_model.specs.declared.session.Scrolling.{Scrolling}
@@ -24,12 +24,12 @@ use Rattle.mgs_windows.specs.declared.RowPane.{RowPane}
 use Rattle.mgs_windows.specs.declared.RowPane.TheVariants.{NoRows, Buffers, Entries}
 use Rattle.mgs_windows.specs.Panes.{rows_set}
 use Rattle.mgs_session.specs.Sessions.{acted}
-use Rattle.mgs_session.specs.declared.Own.{Own}
+use Rattle.mgs_session.specs.declared.State.{State}
 use Rattle.mgs_session.specs.declared.Session.{Session}
 use Rattle.mgs_arrange.proofs.WindowsGone.{sum_changed}
 use Rattle.mgs_plan.specs.Rows.{CanScroll, pane_scrolled, rows_outcome, rows_scrolled, session_rows}
 use Rattle.mgs_world.specs.Sound.{session_uses, window_uses}
-use Rattle.mgs_world.specs.Worlds.{id_after, idle, own_of, session_id, session_of, window_of, window_shown, world_of}
+use Rattle.mgs_world.specs.Worlds.{id_after, idle, state_of, session_id, session_of, window_of, window_shown, world_of}
 use Rattle.mgs_world.proofs.Owns.{at_rest, search_kept}
 use Rattle.mgs_world.proofs.Worlds.{same_world}
 
@@ -57,52 +57,52 @@ row_seen ks rows row w none does =
 
 -- THE SESSION
 
-fresh_scrolling : (o : Own) → own_of o ≡ idle (own_of o) → own_of (record o { kind = Other }) ≡ acted_own (own_of o)
-fresh_scrolling o fresh = at_rest (λ (own : model.Own). record own { kind = Other }) acted_own (λ own. refl) (own_of o) fresh
+fresh_scrolling : (o : State) → state_of o ≡ idle (state_of o) → state_of (record o { kind = Other }) ≡ acted_state (state_of o)
+fresh_scrolling o fresh = at_rest (λ (state : model.State). record state { kind = Other }) acted_state (λ state. refl) (state_of o) fresh
 
-module _ (directory : Directory) (ks : List MarkedBuffer) (xs : List Session) (next : Option ℕ) (id at : ℕ) (h : Session) (place : at ≡ position_or_len (session_id id) xs) (within : at < length xs) (found : slice_get xs at ≡ Some h) (fresh : own_of h.own ≡ idle (own_of h.own)) where
+module _ (directory : Directory) (ks : List MarkedBuffer) (xs : List Session) (next : Option ℕ) (id at : ℕ) (h : Session) (place : at ≡ position_or_len (session_id id) xs) (within : at < length xs) (found : slice_get xs at ≡ Some h) (fresh : state_of h.state ≡ idle (state_of h.state)) where
   rows_so : (w : Window) (rows : RowPane) (row : ℕ) → slice_get h.windows.windows h.windows.selected ≡ Some w → w.shows ≡ None → window_shown ks w.height None rows ≡ row_by row (window_shown ks w.height None w.rows)
-      → world_of directory ks (slice_set xs at (acted Other (session_rows rows h))) next ≡ apply (world_of directory ks xs next) id (scrolls_rows (own_of h.own) (Some row))
+      → world_of directory ks (slice_set xs at (acted Other (session_rows rows h))) next ≡ apply (world_of directory ks xs next) id (scrolls_rows (state_of h.state) (Some row))
   rows_so w rows row is none does =
-      let f = session_arranged (scrolls_rows (own_of h.own) (Some row)) in
+      let f = session_arranged (scrolls_rows (state_of h.state) (Some row)) in
       same_world directory _ _ _ _ (id_after next) refl
       (written_first (session_of ks) (has_id id) f xs at h (acted Other (session_rows rows h)) (place ∙ sym (position_or_len-map (session_of ks) (has_id id) xs)) within (sym (get_or_from_slice_get xs at h h found))
       (λ i. record (session_of ks h) {
-        own = fresh_scrolling h.own fresh i;
+        state = fresh_scrolling h.state fresh i;
         windows = changed_there (window_of ks) (rows_set rows) (row_by row) h.windows.selected h.windows.windows w is (row_seen ks rows row w none does) i;
         search = search_kept ks h fresh i;
       })
       ∙ ap (change_first (has_id id) f) (sym (map-id (map (session_of ks) xs))))
 
   by_rows : (c : Scrolling) (w : Window) (pane rows : RowPane) → slice_get h.windows.windows h.windows.selected ≡ Some w → w.shows ≡ None → w.rows ≡ pane → pane_scrolled c w.height pane ≡ Some rows
-      → world_of directory ks (slice_set xs at (acted Other (session_rows rows h))) next ≡ apply (world_of directory ks xs next) id (rows_outcome (own_of h.own) rows)
+      → world_of directory ks (slice_set xs at (acted Other (session_rows rows h))) next ≡ apply (world_of directory ks xs next) id (rows_outcome (state_of h.state) rows)
   by_rows c w NoRows rows is none e scrolled = cc
   by_rows c w (Buffers row) rows is none e scrolled =
       let top = row_scrolled c row w.height in
       let same : Buffers top ≡ rows = cc in
-      subst (λ (r : RowPane). world_of directory ks (slice_set xs at (acted Other (session_rows r h))) next ≡ apply (world_of directory ks xs next) id (rows_outcome (own_of h.own) r)) same
+      subst (λ (r : RowPane). world_of directory ks (slice_set xs at (acted Other (session_rows r h))) next ≡ apply (world_of directory ks xs next) id (rows_outcome (state_of h.state) r)) same
       (rows_so w (Buffers top) top is none (sym (ap (λ (r : RowPane). row_by top (window_shown ks w.height None r)) e)))
   by_rows c w (Entries name row) rows is none e scrolled =
       let top = row_scrolled c row w.height in
       let same : Entries name top ≡ rows = cc in
-      subst (λ (r : RowPane). world_of directory ks (slice_set xs at (acted Other (session_rows r h))) next ≡ apply (world_of directory ks xs next) id (rows_outcome (own_of h.own) r)) same
+      subst (λ (r : RowPane). world_of directory ks (slice_set xs at (acted Other (session_rows r h))) next ≡ apply (world_of directory ks xs next) id (rows_outcome (state_of h.state) r)) same
       (rows_so w (Entries name top) top is none (sym (ap (λ (r : RowPane). row_by top (window_shown ks w.height None r)) e)))
 
   by_window : (s : Option Scrolling) (o : Option Window) (rows : RowPane) → slice_get h.windows.windows h.windows.selected ≡ o → option_and_then (λ (w : Window). w.shows) o ≡ None → rows_scrolled s o ≡ Some rows
-      → world_of directory ks (slice_set xs at (acted Other (session_rows rows h))) next ≡ apply (world_of directory ks xs next) id (rows_outcome (own_of h.own) rows)
+      → world_of directory ks (slice_set xs at (acted Other (session_rows rows h))) next ≡ apply (world_of directory ks xs next) id (rows_outcome (state_of h.state) rows)
   by_window None o rows is none scrolled = cc
   by_window (Some c) None rows is none scrolled = cc
   by_window (Some c) (Some w) rows is none scrolled = by_rows c w w.rows rows is none refl scrolled
 
-  pub scrolled_so : (rows : RowPane) → CanScroll h rows → world_of directory ks (slice_set xs at (acted Other (session_rows rows h))) next ≡ apply (world_of directory ks xs next) id (rows_outcome (own_of h.own) rows)
+  pub scrolled_so : (rows : RowPane) → CanScroll h rows → world_of directory ks (slice_set xs at (acted Other (session_rows rows h))) next ≡ apply (world_of directory ks xs next) id (rows_outcome (state_of h.state) rows)
   scrolled_so rows can = by_window can.by (slice_get h.windows.windows h.windows.selected) rows refl can.unshown can.scrolled
 
-pub rows_save_nothing : (own : model.Own) (rows : RowPane) → saved_by (rows_outcome own rows).effect ≡ []
-rows_save_nothing own NoRows = refl
-rows_save_nothing own (Buffers row) = refl
-rows_save_nothing own (Entries name row) = refl
+pub rows_save_nothing : (state : model.State) (rows : RowPane) → saved_by (rows_outcome state rows).effect ≡ []
+rows_save_nothing state NoRows = refl
+rows_save_nothing state (Buffers row) = refl
+rows_save_nothing state (Entries name row) = refl
 
-pub rows_touch_nothing : (own : model.Own) (rows : RowPane) → Nowhere ≡ touched_by (rows_outcome own rows).effect
-rows_touch_nothing own NoRows = refl
-rows_touch_nothing own (Buffers row) = refl
-rows_touch_nothing own (Entries name row) = refl
+pub rows_touch_nothing : (state : model.State) (rows : RowPane) → Nowhere ≡ touched_by (rows_outcome state rows).effect
+rows_touch_nothing state NoRows = refl
+rows_touch_nothing state (Buffers row) = refl
+rows_touch_nothing state (Entries name row) = refl

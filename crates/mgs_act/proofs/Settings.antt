@@ -19,6 +19,6 @@ pub set_uses : (s : Setting) (n : Option ℕ) (x : Session) (m : List ℕ) (i : 
 set_uses SetFillColumn None x m i = refl
 set_uses SetFillColumn (Some n) x m i = either_same (session_uses m i) x (failed BadColumn x) (filling n (acted Other x)) refl refl (n == 0)
 set_uses KeyboardQuit n x m i = refl
-set_uses StartMacro n x m i = either_same (session_uses m i) x (failed InMacro x) (macro_started x) refl refl (x.own.recorder.recording || x.own.player.playing)
-set_uses EndMacro n x m i = either_same (session_uses m i) x (failed InMacro x) (cond x.own.recorder.recording (macro_ended x) (failed NotInMacro x)) refl (either_same (session_uses m i) x (macro_ended x) (failed NotInMacro x) refl refl x.own.recorder.recording) x.own.player.playing
+set_uses StartMacro n x m i = either_same (session_uses m i) x (failed InMacro x) (macro_started x) refl refl (x.state.recorder.recording || x.state.player.playing)
+set_uses EndMacro n x m i = either_same (session_uses m i) x (failed InMacro x) (cond x.state.recorder.recording (macro_ended x) (failed NotInMacro x)) refl (either_same (session_uses m i) x (macro_ended x) (failed NotInMacro x) refl refl x.state.recorder.recording) x.state.player.playing
 set_uses CallMacro n x m i = refl

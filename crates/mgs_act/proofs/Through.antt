@@ -5,14 +5,15 @@ use Rattle.std.specs.List.{position_or_len}
 use Rattle.std.specs.Option.{option_and_then}
 use Rattle.std.proofs.lemmas.Option.{slice_get-get_or}
 use Rattle.mgs_model.specs.Access.{Directory}
-use Rattle.mgs_model.specs.Acts.{edit_of, fails, finished, finished_own, is_too_large}
-use Rattle.mgs_model.specs.Apart.{touched_by}
+use Rattle.mgs_model.specs.Acts.{edit_of, fails, finished, finished_state, is_too_large}
+use Rattle.mgs_laws.specs.Apart.{touched_by}
 use Rattle.mgs_model.specs.Apply.{apply}
 use Rattle.mgs_model.specs.Events.{saved_by}
-use Rattle.mgs_model.specs.Outcome.{Effect, No_effect, Edit, Adjust, takes_memory}
+use Rattle.mgs_model.specs.Outcome.{Effect, No_effect, Edit, Adjust}
+use Rattle.mgs_laws.specs.Refusals.{takes_memory}
 use Rattle.mgs_model.specs.Plans as plans
 use Rattle.mgs_model.specs.Text.{is_edit}
-use Rattle.mgs_model.specs.World.{Own}
+use Rattle.mgs_model.specs.World.{State}
 use Rattle.mgs_model.specs.declared.message.Message.TheVariants.{KillTooLarge}
 use Rattle.mgs_model.specs.declared.touched.Touched.{Touched}
 use Rattle.mgs_buffers.specs.MarkedBuffer.{MarkedBuffer, marked_at}
@@ -28,27 +29,27 @@ use Rattle.mgs_plan.specs.declared.outcome.Outcome.TheVariants.{Acts, Copies}
 use Rattle.mgs_act.proofs.Done.{quietly}
 use Rattle.mgs_act.proofs.Marked.{finish_takes}
 use Rattle.mgs_act.specs.Doing.{CanDo, IsQuietlyDone, TakesMemory}
-use Rattle.mgs_world.specs.Worlds.{own_at, own_of, own_or_first, session_id, world_of}
+use Rattle.mgs_world.specs.Worlds.{state_at, state_of, state_or_first, session_id, world_of}
 
 -- IT SAVES NOTHING
 
-finished_saves_none : (own : Own) (f : plans.Finish) (e : Effect) → saved_by e ≡ [] → saved_by (finished own f e).effect ≡ []
-finished_saves_none own f e none =
-    elim (is_too_large f.kill) as (λ b. saved_by (cond b (fails own KillTooLarge) (record { own = finished_own f own; kill = f.kill; arrange = Adjust f.point f.mark f.top None f.sought; effect = e })).effect ≡ []) [ true ↦ refl | false ↦ none ]
+finished_saves_none : (state : State) (f : plans.Finish) (e : Effect) → saved_by e ≡ [] → saved_by (finished state f e).effect ≡ []
+finished_saves_none state f e none =
+    elim (is_too_large f.kill) as (λ b. saved_by (cond b (fails state KillTooLarge) (record { state = finished_state f state; kill = f.kill; arrange = Adjust f.point f.mark f.top None f.sought; effect = e })).effect ≡ []) [ true ↦ refl | false ↦ none ]
 
 edit_saves_none : (name : List ℕ) (c : plans.Change) → saved_by (edit_of name c) ≡ []
 edit_saves_none name c = elim (is_edit c.a c.b c.put) as (λ b. saved_by (cond b (Edit name c.a c.b c.put) No_effect) ≡ []) [ true ↦ refl | false ↦ refl ]
 
-change_saves_none : (own : Own) (name : List ℕ) (c : plans.Change) → saved_by (finished own c.finish (edit_of name c)).effect ≡ []
-change_saves_none own name c = finished_saves_none own c.finish (edit_of name c) (edit_saves_none name c)
+change_saves_none : (state : State) (name : List ℕ) (c : plans.Change) → saved_by (finished state c.finish (edit_of name c)).effect ≡ []
+change_saves_none state name c = finished_saves_none state c.finish (edit_of name c) (edit_saves_none name c)
 
-through_saves_none : (own : Own) (x : WindowMarks) (ks : List MarkedBuffer) (kill : List ℕ) (action : Action) → saved_by (outcome_through own x ks kill action).effect ≡ []
-through_saves_none own x ks kill (Fails message) = refl
-through_saves_none own x ks kill (Edits mask c) = change_saves_none own x.name (change_read (marked_at x.name ks).buffer.text kill c)
-through_saves_none own x ks kill (Undoes u) =
-    let b = (marked_at x.name ks).buffer in change_saves_none own x.name (undone_read b.text kill (removed_by u.serial b.items) u)
-through_saves_none own x ks kill (Moves f) = finished_saves_none own (finish_read (marked_at x.name ks).buffer.text kill 0 f) No_effect refl
-through_saves_none own x ks kill Clears = refl
+through_saves_none : (state : State) (x : WindowMarks) (ks : List MarkedBuffer) (kill : List ℕ) (action : Action) → saved_by (outcome_through state x ks kill action).effect ≡ []
+through_saves_none state x ks kill (Fails message) = refl
+through_saves_none state x ks kill (Edits mask c) = change_saves_none state x.name (change_read (marked_at x.name ks).buffer.text kill c)
+through_saves_none state x ks kill (Undoes u) =
+    let b = (marked_at x.name ks).buffer in change_saves_none state x.name (undone_read b.text kill (removed_by u.serial b.items) u)
+through_saves_none state x ks kill (Moves f) = finished_saves_none state (finish_read (marked_at x.name ks).buffer.text kill 0 f) No_effect refl
+through_saves_none state x ks kill Clears = refl
 
 -- AN ACTION
 
@@ -63,32 +64,32 @@ module _ (directory : Directory) (at : ℕ) (ks : List MarkedBuffer) (xs : List 
       subst (λ s. CanBeDone ks x (kill_or_none s) action) (sym found) (can (get_or xs at r) found).can
 
   pub through_done : (ls : List MarkedBuffer) (ys : List Session) (touched : Touched)
-      → ((id : ℕ) (next : Option ℕ) → at ≡ position_or_len (session_id id) xs → world_of directory ls ys next ≡ apply (world_of directory ks xs next) id (outcome_through (own_at at xs) x ks (kill_at at xs) action))
-      → ((h : Session) → slice_get xs at ≡ Some h → touched ≡ touched_by (outcome_through (own_of h.own) x ks h.kill action).effect)
+      → ((id : ℕ) (next : Option ℕ) → at ≡ position_or_len (session_id id) xs → world_of directory ls ys next ≡ apply (world_of directory ks xs next) id (outcome_through (state_at at xs) x ks (kill_at at xs) action))
+      → ((h : Session) → slice_get xs at ≡ Some h → touched ≡ touched_by (outcome_through (state_of h.state) x ks h.kill action).effect)
       → IsQuietlyDone directory at (Acts x action) ks xs ls ys touched
   through_done ls ys touched done touches = quietly directory at (Acts x action) ks ls xs ys touched (λ id next h place found. (
-    done id next place ∙ ap (λ s. apply (world_of directory ks xs next) id (outcome_through (own_or_first s) x ks (kill_or_none s) action)) found,
+    done id next place ∙ ap (λ s. apply (world_of directory ks xs next) id (outcome_through (state_or_first s) x ks (kill_or_none s) action)) found,
     touches h found,
-    through_saves_none (own_of h.own) x ks h.kill action,
+    through_saves_none (state_of h.state) x ks h.kill action,
   ))
 
-pub through_takes : (at : ℕ) (ks : List MarkedBuffer) (xs : List Session) (x : WindowMarks) (action : Action) → ((own : Own) → takes_memory (outcome_through own x ks (kill_at at xs) action) ≡ true) → TakesMemory at (Acts x action) ks xs
+pub through_takes : (at : ℕ) (ks : List MarkedBuffer) (xs : List Session) (x : WindowMarks) (action : Action) → ((state : State) → takes_memory (outcome_through state x ks (kill_at at xs) action) ≡ true) → TakesMemory at (Acts x action) ks xs
 through_takes at ks xs x action takes = λ directory id next h place found.
-    subst (λ s. takes_memory (outcome_through (own_or_first s) x ks (kill_or_none s) action) ≡ true) found (takes (own_at at xs))
+    subst (λ s. takes_memory (outcome_through (state_or_first s) x ks (kill_or_none s) action) ≡ true) found (takes (state_at at xs))
 
 -- A COPY
 
 pub copy_done : (directory : Directory) (at : ℕ) (ks ls : List MarkedBuffer) (xs ys : List Session) (x : WindowMarks) (source : List ℕ) (place : ℕ) (touched : Touched)
-    → ((id : ℕ) (next : Option ℕ) → at ≡ position_or_len (session_id id) xs → world_of directory ls ys next ≡ apply (world_of directory ks xs next) id (put_outcome (own_at at xs) x.name place (marked_at source ks).buffer.text))
-    → ((own : Own) → touched ≡ touched_by (put_outcome own x.name place (marked_at source ks).buffer.text).effect)
+    → ((id : ℕ) (next : Option ℕ) → at ≡ position_or_len (session_id id) xs → world_of directory ls ys next ≡ apply (world_of directory ks xs next) id (put_outcome (state_at at xs) x.name place (marked_at source ks).buffer.text))
+    → ((state : State) → touched ≡ touched_by (put_outcome state x.name place (marked_at source ks).buffer.text).effect)
     → IsQuietlyDone directory at (Copies x source place) ks xs ls ys touched
 copy_done directory at ks ls xs ys x source place touched done touches = quietly directory at (Copies x source place) ks ls xs ys touched (λ id next h here found. (
-  done id next here ∙ ap (λ s. apply (world_of directory ks xs next) id (put_outcome (own_or_first s) x.name place (marked_at source ks).buffer.text)) found,
-  touches (own_of h.own),
-  change_saves_none (own_of h.own) x.name (insertion_of place (marked_at source ks).buffer.text),
+  done id next here ∙ ap (λ s. apply (world_of directory ks xs next) id (put_outcome (state_or_first s) x.name place (marked_at source ks).buffer.text)) found,
+  touches (state_of h.state),
+  change_saves_none (state_of h.state) x.name (insertion_of place (marked_at source ks).buffer.text),
 ))
 
 pub copy_takes : (at : ℕ) (ks : List MarkedBuffer) (xs : List Session) (x : WindowMarks) (source : List ℕ) (place : ℕ) → TakesMemory at (Copies x source place) ks xs
 copy_takes at ks xs x source place = λ directory id next h here found.
     let c = insertion_of place (marked_at source ks).buffer.text in
-    finish_takes (own_of h.own) c.finish (edit_of x.name c) place refl refl
+    finish_takes (state_of h.state) c.finish (edit_of x.name c) place refl refl

@@ -2,17 +2,18 @@
 use Rattle.std.specs.Prelude.{◌≡◌, ℕ, Bool, true, false, List, Option, Some, Ok, slice_get}
 use Rattle.std.specs.List.{flat_map, position_or_len}
 use Rattle.mgs_model.specs.Access.{Directory}
-use Rattle.mgs_model.specs.Apart.{touched_by}
+use Rattle.mgs_laws.specs.Apart.{touched_by}
 use Rattle.mgs_model.specs.Apply.{act, apply, change_first, outcome_in}
-use Rattle.mgs_model.specs.Events.{Saved, act_effects, may_be_refused, saved_by}
-use Rattle.mgs_model.specs.Outcome.{Act, takes_memory}
+use Rattle.mgs_model.specs.Events.{Saved, act_effects, saved_by}
+use Rattle.mgs_model.specs.Outcome.{Act}
+use Rattle.mgs_laws.specs.Refusals.{takes_memory}
 use Rattle.mgs_model.specs.Outcome as outcomes
 use Rattle.mgs_model.specs.World.{World}
 use Rattle.mgs_model.specs.declared.entry.Entry.{Entry}
 use Rattle.mgs_model.specs.declared.session.Question.{Question}
 use Rattle.mgs_model.specs.declared.touched.Touched.{Touched}
 use Rattle.mgs_store.specs.Stores.{IsCounted, StoreTold, store_told, told_more}
-use Rattle.mgs_buffers.specs.MarkedBuffer.{MarkedBuffer, marked_at, marked_named, marked_relisted}
+use Rattle.mgs_buffers.specs.MarkedBuffer.{MarkedBuffer, marked_at, marked_named, marked_list_set}
 use Rattle.mgs_session.specs.declared.Session.{Session}
 use Rattle.mgs_plan.specs.Deciding.{CanPerform, outcome_read, view_at}
 use Rattle.mgs_plan.specs.Searching.{answer_act}
@@ -20,7 +21,8 @@ use Rattle.mgs_plan.specs.Tells.{touched_in}
 use Rattle.mgs_plan.specs.Listed.{entries_planned}
 use Rattle.mgs_plan.specs.declared.outcome.EntryPlan.{EntryPlan}
 use Rattle.mgs_plan.specs.declared.outcome.Outcome.{Outcome}
-use Rattle.mgs_world.specs.Worlds.{own_at, session_id, world_of}
+pub use Rattle.mgs_world.specs.Acted.{IsRefusable}
+use Rattle.mgs_world.specs.Worlds.{state_at, session_id, world_of}
 
 -- that it can be done
 abbrev pub CanDo : Directory → ℕ → List MarkedBuffer → List Session → Outcome → Type 0
@@ -47,13 +49,9 @@ abbrev pub IsQuietlyDone : Directory → ℕ → Outcome → List MarkedBuffer �
 IsQuietlyDone directory at o ks xs ls ys touched = (t : StoreTold) → IsDone directory at o ks xs t ls ys t touched
 
 -- that the access list of the buffer of a name is as it was planned
-abbrev pub IsRelisted : List ℕ → EntryPlan → List MarkedBuffer → List MarkedBuffer → Type 0
-IsRelisted name plan ks ls =
-    (entries : List Entry) → entries_planned plan (marked_at name ks).buffer.entries ≡ Ok entries → ls ≡ change_first (marked_named name) (marked_relisted entries) ks
-
--- that nothing is done
-abbrev pub IsUnchanged : List MarkedBuffer → List Session → List MarkedBuffer → List Session → Type 0
-IsUnchanged ks xs ls ys = (directory : Directory) (next : Option ℕ) → world_of directory ls ys next ≡ world_of directory ks xs next
+abbrev pub IsListSet : List ℕ → EntryPlan → List MarkedBuffer → List MarkedBuffer → Type 0
+IsListSet name plan ks ls =
+    (entries : List Entry) → entries_planned plan (marked_at name ks).buffer.entries ≡ Ok entries → ls ≡ change_first (marked_named name) (marked_list_set entries) ks
 
 -- that it takes memory
 abbrev pub TakesMemory : ℕ → Outcome → List MarkedBuffer → List Session → Type 0
@@ -77,11 +75,6 @@ abbrev pub IsActed : {S : Type 0} → (S → ℕ) → (S → Option (List Saved)
 IsActed failed accepted directory at c ks xs s ls ys t touched =
     (id : ℕ) (next : Option ℕ) → at ≡ position_or_len (session_id id) xs → DoneBy touched (world_of directory ks xs next) (world_of directory ls ys next) (store_told failed accepted s) (store_told failed accepted t) id c
 
--- that it may be refused
-abbrev pub IsRefusable : Directory → ℕ → Act → List MarkedBuffer → List Session → Type 0
-IsRefusable directory at c ks xs =
-    (id : ℕ) (next : Option ℕ) → at ≡ position_or_len (session_id id) xs → may_be_refused (outcome_in (world_of directory ks xs next) id c true) ≡ true
-
 -- the answer to a question
 abbrev pub Answers : {S : Type 0} → (S → ℕ) → (S → Option (List Saved)) → Directory → ℕ → Question → Option ℕ → List ℕ → List MarkedBuffer → List Session → S → List MarkedBuffer → List Session → S → Touched → Type 0
-Answers failed accepted directory at question argument typed ks xs s ls ys t touched = IsActed failed accepted directory at (answer_act question argument typed (own_at at xs)) ks xs s ls ys t touched
+Answers failed accepted directory at question argument typed ks xs s ls ys t touched = IsActed failed accepted directory at (answer_act question argument typed (state_at at xs)) ks xs s ls ys t touched

@@ -1,13 +1,14 @@
 // What was decided is done: whole, or not at all.
 ghost use Rattle.std.specs.Prelude.{◌≡◌, ◌<◌, length, Some, IfOk, OnErr};
 ghost use Rattle.mgs_model.specs.Apply.{change_first};
-ghost use Rattle.mgs_buffers.specs.MarkedBuffer.{HasBuffer, marked_named, marked_reowned};
+ghost use Rattle.mgs_buffers.specs.MarkedBuffer.{HasBuffer, marked_named, marked_owners_set};
 ghost use Rattle.mgs_plan.specs.Deciding.{CanList, IsGranted};
-ghost use Rattle.mgs_plan.specs.declared.outcome.Outcome.TheVariants.{Kills, Relists, Reowns, Saves};
+ghost use Rattle.mgs_plan.specs.declared.outcome.Outcome.TheVariants.{Kills, SetsList, SetsOwners, Saves};
 ghost use Rattle.mgs_plan.specs.Rows.{scrolled_to};
-ghost use Rattle.mgs_act.specs.Doing.{CanDo, IsDoneIn, IsQuietlyDone, IsRelisted, IsUnchanged, TakesMemory};
+ghost use Rattle.mgs_act.specs.Doing.{CanDo, IsDoneIn, IsQuietlyDone, IsListSet, TakesMemory};
+ghost use Rattle.mgs_world.specs.Acted.{IsUnchanged};
 ghost use Rattle.mgs_world.specs.Sound.{IsSound};
-ghost use Rattle.mgs_world.specs.Worlds.{idle, own_at};
+ghost use Rattle.mgs_world.specs.Worlds.{idle, state_at};
 
 use crate::inserting::insert_copy;
 use crate::performing::perform;
@@ -35,7 +36,7 @@ fn kill<T: Marked + Drop>(
 ) -> Touched
     requires sound { IsSound buffers.old sessions.old }
     requires within { at < length sessions.old }
-    requires fresh { own_at at sessions.old ≡ idle (own_at at sessions.old) }
+    requires fresh { state_at at sessions.old ≡ idle (state_at at sessions.old) }
     requires can { CanDo directory.now at buffers.old sessions.old (Kills name.now) }
     ensures sound { IsSound buffers.new sessions.new }
     ensures done { IsQuietlyDone directory.now at (Kills name.now) buffers.old sessions.old buffers.new sessions.new result }
@@ -57,16 +58,16 @@ fn set_owner<T: Marked + Drop>(
 )
     requires kept { HasBuffer name.now buffers.old }
     requires granted { IsGranted directory.now buffers.old user.now name.now 524288 }
-    ensures { buffers.new ≡ change_first (marked_named name.now) (marked_reowned new) buffers.old }
+    ensures { buffers.new ≡ change_first (marked_named name.now) (marked_owners_set new) buffers.old }
 {
     let _done = match new {
-        NewOwner::ToUser(owner) => buffers.reown_as(directory, user, name, owner),
+        NewOwner::ToUser(owner) => buffers.set_owner_as(directory, user, name, owner),
         NewOwner::ToGroup(group) => buffers.set_group_as(directory, user, name, group),
     };
 }
 
 /// The same, by an act of the session at `at`.
-fn reown<T: Marked + Drop>(
+fn assign<T: Marked + Drop>(
     buffers: &mut Buffers<T>,
     directory: &Directory,
     sessions: &mut [Session],
@@ -76,10 +77,10 @@ fn reown<T: Marked + Drop>(
 ) -> Touched
     requires sound { IsSound buffers.old sessions.old }
     requires within { at < length sessions.old }
-    requires fresh { own_at at sessions.old ≡ idle (own_at at sessions.old) }
-    requires can { CanDo directory.now at buffers.old sessions.old (Reowns name.now new) }
+    requires fresh { state_at at sessions.old ≡ idle (state_at at sessions.old) }
+    requires can { CanDo directory.now at buffers.old sessions.old (SetsOwners name.now new) }
     ensures sound { IsSound buffers.new sessions.new }
-    ensures done { IsQuietlyDone directory.now at (Reowns name.now new) buffers.old sessions.old buffers.new sessions.new result }
+    ensures done { IsQuietlyDone directory.now at (SetsOwners name.now new) buffers.old sessions.old buffers.new sessions.new result }
 {
     set_owner(buffers, directory, &sessions[at].user, name, new);
     set_kind(&mut sessions[at], Kind::Other);
@@ -87,7 +88,7 @@ fn reown<T: Marked + Drop>(
 }
 
 /// The access list of the buffer of a name changes as planned, by a user who may change it.
-fn set_list<T: Marked + Drop>(
+fn put_list<T: Marked + Drop>(
     buffers: &mut Buffers<T>,
     directory: &Directory,
     user: &Name,
@@ -95,11 +96,11 @@ fn set_list<T: Marked + Drop>(
     plan: &EntryPlan,
 )
     requires { CanList directory.now buffers.old user.now name.now plan.now }
-    ensures { IsRelisted name.now plan.now buffers.old buffers.new }
+    ensures { IsListSet name.now plan.now buffers.old buffers.new }
 {
     match changed(buffers.copy_list(name), plan) {
         Ok(list) => {
-            let _done = buffers.relist_as(directory, user, name, list);
+            let _done = buffers.set_list_as(directory, user, name, list);
         }
         // It was planned on the same list.
         Err(_) => {}
@@ -107,7 +108,7 @@ fn set_list<T: Marked + Drop>(
 }
 
 /// The same, by an act of the session at `at`.
-fn relist<T: Marked + Drop>(
+fn set_list<T: Marked + Drop>(
     buffers: &mut Buffers<T>,
     directory: &Directory,
     sessions: &mut [Session],
@@ -117,12 +118,12 @@ fn relist<T: Marked + Drop>(
 ) -> Touched
     requires sound { IsSound buffers.old sessions.old }
     requires within { at < length sessions.old }
-    requires fresh { own_at at sessions.old ≡ idle (own_at at sessions.old) }
-    requires can { CanDo directory.now at buffers.old sessions.old (Relists name.now plan.now) }
+    requires fresh { state_at at sessions.old ≡ idle (state_at at sessions.old) }
+    requires can { CanDo directory.now at buffers.old sessions.old (SetsList name.now plan.now) }
     ensures sound { IsSound buffers.new sessions.new }
-    ensures done { IsQuietlyDone directory.now at (Relists name.now plan.now) buffers.old sessions.old buffers.new sessions.new result }
+    ensures done { IsQuietlyDone directory.now at (SetsList name.now plan.now) buffers.old sessions.old buffers.new sessions.new result }
 {
-    set_list(buffers, directory, &sessions[at].user, name, plan);
+    put_list(buffers, directory, &sessions[at].user, name, plan);
     set_kind(&mut sessions[at], Kind::Other);
     Touched::Anywhere
 }
@@ -147,10 +148,11 @@ fn save<T: Marked + Drop, S: Store>(
 ) -> Result<Touched, Short>
     requires sound { IsSound buffers.old sessions.old }
     requires within { at < length sessions.old }
-    requires fresh { own_at at sessions.old ≡ idle (own_at at sessions.old) }
+    requires fresh { state_at at sessions.old ≡ idle (state_at at sessions.old) }
     requires can { CanDo directory.now at buffers.old sessions.old (Saves name.now) }
     ensures sound { IsSound buffers.new sessions.new }
-    ensures done { IfOk result (IsDoneIn S.failed S.accepted directory.now at (Saves name.now) buffers.old sessions.old store.old buffers.new sessions.new store.new) }
+    ensures done { IfOk result (IsDoneIn S.failed S.accepted directory.now at (Saves name.now)
+        buffers.old sessions.old store.old buffers.new sessions.new store.new) }
     ensures err { OnErr result (IsUnchanged buffers.old sessions.old buffers.new sessions.new) }
     ensures unasked { OnErr result (store.new ≡ store.old) }
 {
@@ -185,10 +187,11 @@ pub fn do_decided<T: Marked + Drop, S: Store>(
 ) -> Result<Touched, Short>
     requires sound { IsSound buffers.old sessions.old }
     requires within { at < length sessions.old }
-    requires fresh { own_at at sessions.old ≡ idle (own_at at sessions.old) }
+    requires fresh { state_at at sessions.old ≡ idle (state_at at sessions.old) }
     requires can { CanDo directory.now at buffers.old sessions.old outcome.now }
     ensures sound { IsSound buffers.new sessions.new }
-    ensures done { IfOk result (IsDoneIn S.failed S.accepted directory.now at outcome.now buffers.old sessions.old store.old buffers.new sessions.new store.new) }
+    ensures done { IfOk result (IsDoneIn S.failed S.accepted directory.now at outcome.now
+        buffers.old sessions.old store.old buffers.new sessions.new store.new) }
     ensures err { OnErr result (IsUnchanged buffers.old sessions.old buffers.new sessions.new) }
     ensures unasked { OnErr result (store.new ≡ store.old) }
     ensures may { OnErr result (TakesMemory at outcome.now buffers.old sessions.old) }
@@ -200,8 +203,8 @@ pub fn do_decided<T: Marked + Drop, S: Store>(
         }
         Outcome::Acts(by, action) => perform(alloc, buffers, directory, sessions, at, by, action),
         Outcome::Kills(name) => Ok(kill(buffers, directory, sessions, at, name)),
-        Outcome::Reowns(name, new) => Ok(reown(buffers, directory, sessions, at, name, *new)),
-        Outcome::Relists(name, plan) => Ok(relist(buffers, directory, sessions, at, name, plan)),
+        Outcome::SetsOwners(name, new) => Ok(assign(buffers, directory, sessions, at, name, *new)),
+        Outcome::SetsList(name, plan) => Ok(set_list(buffers, directory, sessions, at, name, plan)),
         Outcome::Lists(name) => {
             show_entries(buffers, sessions, at, name);
             Ok(Touched::Nowhere)

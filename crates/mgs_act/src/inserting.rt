@@ -1,17 +1,18 @@
 // A buffer's text is inserted: whole, or not at all.
 ghost use Rattle.std.specs.Prelude.{◌≡◌, ◌<◌, ℕ, length, None, IfOk, OnOk, OnErr};
-ghost use Rattle.mgs_model.specs.Apart.{touched_by};
-ghost use Rattle.mgs_model.specs.World.{Own};
+ghost use Rattle.mgs_laws.specs.Apart.{touched_by};
+ghost use Rattle.mgs_model.specs.World.{State};
 ghost use Rattle.mgs_model.specs.declared.entry.Decision.TheVariants.{Granted};
 ghost use Rattle.mgs_buffers.specs.MarkedBuffer.{HasBuffer, marked_at};
 ghost use Rattle.mgs_plan.specs.Actions.{AreMarks, edited_by, insertion_mask};
 ghost use Rattle.mgs_plan.specs.declared.outcome.Outcome.TheVariants.{Copies};
 ghost use Rattle.mgs_plan.specs.Inserting.{CanPut, IsInserted, buffers_inserted, insertion_of, leaving, put_outcome, session_inserted, target_decision};
-ghost use Rattle.mgs_act.specs.Doing.{CanDo, IsQuietlyDone, IsUnchanged};
+ghost use Rattle.mgs_act.specs.Doing.{CanDo, IsQuietlyDone};
 ghost use Rattle.mgs_act.specs.Performing.{IsPutIn, MayInsert};
+ghost use Rattle.mgs_world.specs.Acted.{IsUnchanged};
 ghost use Rattle.mgs_world.specs.Sound.{IsSound};
 ghost use Rattle.mgs_world.specs.WindowMarks.{WindowMarksDropped};
-ghost use Rattle.mgs_world.specs.Worlds.{idle, own_at};
+ghost use Rattle.mgs_world.specs.Worlds.{idle, state_at};
 
 use crate::performing::{edit_by, leave};
 use mgs_buffers::Buffers;
@@ -38,7 +39,7 @@ fn insertion_mask(place: usize, size: usize) -> Mask
 
 /// What the insertion of these characters touches.
 fn touched_by_insertion(name: &Name, put: &[char]) -> Touched
-    ensures { (own : Own) (place : ℕ) → result ≡ touched_by (put_outcome own name.now place put.now).effect }
+    ensures { (state : State) (place : ℕ) → result ≡ touched_by (put_outcome state name.now place put.now).effect }
 {
     if put.is_empty() {
         Touched::Nowhere
@@ -173,7 +174,7 @@ fn insert_unfollowed<T: Marked + Drop>(
 ) -> Result<(), Short>
     requires sound { IsSound buffers.old sessions.old }
     requires within { at < length sessions.old }
-    requires fresh { own_at at sessions.old ≡ idle (own_at at sessions.old) }
+    requires fresh { state_at at sessions.old ≡ idle (state_at at sessions.old) }
     requires can { CanPut (marked_at window_marks.now.name buffers.old).buffer put.now place }
     requires may { MayInsert directory.now at buffers.old sessions.old window_marks.now place }
     ensures sound { IsSound buffers.new sessions.new }
@@ -203,7 +204,7 @@ pub fn insert_copy<T: Marked + Drop>(
 ) -> Result<Touched, Short>
     requires sound { IsSound buffers.old sessions.old }
     requires within { at < length sessions.old }
-    requires fresh { own_at at sessions.old ≡ idle (own_at at sessions.old) }
+    requires fresh { state_at at sessions.old ≡ idle (state_at at sessions.old) }
     requires can { CanDo directory.now at buffers.old sessions.old (Copies window_marks.now source.now place) }
     ensures sound { IsSound buffers.new sessions.new }
     ensures done { IfOk result (IsQuietlyDone directory.now at (Copies window_marks.now source.now place) buffers.old sessions.old buffers.new sessions.new) }

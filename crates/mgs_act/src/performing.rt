@@ -1,22 +1,21 @@
 // An action is done: in the buffers, and to the session that acts.
-ghost use Rattle.std.specs.Prelude.{IsSome, ◌≡◌, ◌+◌, ◌-◌, ◌^◌, ◌++◌, ◌<◌, ◌≤◌, ℕ, List, [], length, Option, Some, None, IfOk, OnOk, OnErr, true};
+ghost use Rattle.std.specs.Prelude.{◌≡◌, ◌+◌, ◌-◌, ◌^◌, ◌++◌, ◌<◌, ◌≤◌, ℕ, List, [], length, Option, Some, None, IfOk, OnOk, OnErr, true};
 ghost use Rattle.mgs_model.specs.Apply.{change_first, kill_after};
-ghost use Rattle.mgs_model.specs.Outcome.{kill_takes_memory};
+ghost use Rattle.mgs_laws.specs.Refusals.{kill_takes_memory};
 ghost use Rattle.mgs_buffers.specs.Changing.{writes};
-ghost use Rattle.mgs_buffers.specs.MarkedBuffer.{HasBuffer, MarkedBuffer, marked_at, marked_edited, marked_named};
-ghost use Rattle.mgs_marks.specs.Marks.{mark_in};
-ghost use Rattle.mgs_buffers.specs.Placing.{CanStand, placed_if};
+ghost use Rattle.mgs_buffers.specs.MarkedBuffer.{HasBuffer, marked_at, marked_edited, marked_named};
 ghost use Rattle.mgs_edit.specs.Reading.{ChangeWithin, GoesWithin, IsWithin, PieceWithin, kill_read, point_read, put_read, top_read};
 ghost use Rattle.mgs_session.specs.Sessions.{acted, told};
 ghost use Rattle.mgs_plan.specs.declared.action.Action.TheVariants.{Edits, Moves, Undoes};
 ghost use Rattle.mgs_plan.specs.declared.outcome.Outcome.TheVariants.{Acts};
-ghost use Rattle.mgs_plan.specs.Actions.{AreMarks, CanBeDone, IsMarked, edited_by, kill_at, kill_set, mark_gone, mark_told, removed_by};
+ghost use Rattle.mgs_plan.specs.Actions.{AreMarks, CanBeDone, IsMarked, edited_by, kill_at, kill_set, mark_told, removed_by};
 ghost use Rattle.mgs_plan.specs.Deciding.{IsActionGranted, IsGranted};
-ghost use Rattle.mgs_act.specs.Doing.{CanDo, IsQuietlyDone, IsUnchanged, TakesMemory};
-ghost use Rattle.mgs_act.specs.Performing.{CanComeBack, HasRoom, IsEdit, IsFollowed, IsTouched, MayBeShort, acted_in, back_in, buffers_acted, buffers_edited, change_in, marks_left, undone_in};
+ghost use Rattle.mgs_act.specs.Doing.{CanDo, IsQuietlyDone, TakesMemory};
+ghost use Rattle.mgs_act.specs.Performing.{CanComeBack, HasRoom, IsEdit, IsFollowed, IsTarget, IsTouched, MayBeShort, PointCanStand, TopCanStand, acted_in, back_in, buffers_acted, buffers_edited, change_in, marks_left, undone_in};
+ghost use Rattle.mgs_world.specs.Acted.{IsUnchanged};
 ghost use Rattle.mgs_world.specs.Sound.{IsSound};
 ghost use Rattle.mgs_world.specs.WindowMarks.{WindowMarksDropped};
-ghost use Rattle.mgs_world.specs.Worlds.{idle, own_at};
+ghost use Rattle.mgs_world.specs.Worlds.{idle, state_at};
 
 use mgs_buffers::{Buffers, EditFault};
 use mgs_edit::{
@@ -257,8 +256,8 @@ fn restore<T: Marked + Drop>(
 
 /// The point of a window, and where it goes. What was put in ends at `behind`.
 fn point_target(window_marks: &WindowMarks, goes: &Goes, behind: usize) -> Option<(MarkId, usize)>
-    ensures value { (name : List ℕ) (ks : List MarkedBuffer) → placed_if name result ks ≡ mark_gone name window_marks.now.point (point_read behind goes.now) ks }
-    ensures stands { (k : MarkedBuffer) → IsSome (mark_in k.marks window_marks.now.point) → GoesWithin (length k.buffer.text) goes.now → behind ≤ length k.buffer.text → CanStand k.marks k.buffer.text result }
+    ensures value { IsTarget window_marks.now.point (point_read behind goes.now) result }
+    ensures stands { PointCanStand window_marks.now.point goes.now behind result }
 {
     match *goes {
         Goes::Stays => None,
@@ -269,8 +268,8 @@ fn point_target(window_marks: &WindowMarks, goes: &Goes, behind: usize) -> Optio
 
 /// The top of a window, and where it goes.
 fn top_target(window_marks: &WindowMarks, top: &Option<usize>) -> Option<(MarkId, usize)>
-    ensures value { (name : List ℕ) (ks : List MarkedBuffer) → placed_if name result ks ≡ mark_gone name window_marks.now.top (top_read top.now) ks }
-    ensures stands { (k : MarkedBuffer) → IsSome (mark_in k.marks window_marks.now.top) → IsWithin (length k.buffer.text) top.now → CanStand k.marks k.buffer.text result }
+    ensures value { IsTarget window_marks.now.top (top_read top.now) result }
+    ensures stands { TopCanStand window_marks.now.top top.now result }
 {
     match *top {
         None => None,
@@ -503,7 +502,7 @@ fn perform_plain<T: Marked + Drop>(
 ) -> Result<(), Short>
     requires sound { IsSound buffers.old sessions.old }
     requires within { at < length sessions.old }
-    requires fresh { own_at at sessions.old ≡ idle (own_at at sessions.old) }
+    requires fresh { state_at at sessions.old ≡ idle (state_at at sessions.old) }
     requires can { CanDo directory.now at buffers.old sessions.old (Acts window_marks.now action.now) }
     requires unmarked { mark_told action.now ≡ None }
     ensures sound { IsSound buffers.new sessions.new }
@@ -534,7 +533,7 @@ fn perform_marked<T: Marked + Drop>(
 ) -> Result<(), Short>
     requires sound { IsSound buffers.old sessions.old }
     requires within { at < length sessions.old }
-    requires fresh { own_at at sessions.old ≡ idle (own_at at sessions.old) }
+    requires fresh { state_at at sessions.old ≡ idle (state_at at sessions.old) }
     requires can { CanDo directory.now at buffers.old sessions.old (Acts window_marks.now action.now) }
     requires told { mark_told action.now ≡ Some position }
     ensures sound { IsSound buffers.new sessions.new }
@@ -565,7 +564,7 @@ fn perform_unfollowed<T: Marked + Drop>(
 ) -> Result<(), Short>
     requires sound { IsSound buffers.old sessions.old }
     requires within { at < length sessions.old }
-    requires fresh { own_at at sessions.old ≡ idle (own_at at sessions.old) }
+    requires fresh { state_at at sessions.old ≡ idle (state_at at sessions.old) }
     requires can { CanDo directory.now at buffers.old sessions.old (Acts window_marks.now action.now) }
     ensures sound { IsSound buffers.new sessions.new }
     ensures ok { OnOk result (IsFollowed at window_marks.now action.now buffers.old sessions.old buffers.new sessions.new) }
@@ -632,7 +631,7 @@ pub fn perform<T: Marked + Drop>(
 ) -> Result<Touched, Short>
     requires sound { IsSound buffers.old sessions.old }
     requires within { at < length sessions.old }
-    requires fresh { own_at at sessions.old ≡ idle (own_at at sessions.old) }
+    requires fresh { state_at at sessions.old ≡ idle (state_at at sessions.old) }
     requires can { CanDo directory.now at buffers.old sessions.old (Acts window_marks.now action.now) }
     ensures sound { IsSound buffers.new sessions.new }
     ensures done { IfOk result (IsQuietlyDone directory.now at (Acts window_marks.now action.now) buffers.old sessions.old buffers.new sessions.new) }

@@ -23,7 +23,7 @@ fn set_column(session: &mut Session, argument: Option<usize>)
 fn start_recording(session: &mut Session)
     ensures { session.new ≡ recording_started session.old }
 {
-    if session.own.recorder.is_recording() || session.own.player.is_playing() {
+    if session.state.recorder.is_recording() || session.state.player.is_playing() {
         fail(session, Message::InMacro);
     } else {
         start_macro(session);
@@ -34,9 +34,9 @@ fn start_recording(session: &mut Session)
 fn end_recording(session: &mut Session)
     ensures { session.new ≡ recording_ended session.old }
 {
-    if session.own.player.is_playing() {
+    if session.state.player.is_playing() {
         fail(session, Message::InMacro);
-    } else if session.own.recorder.is_recording() {
+    } else if session.state.recorder.is_recording() {
         end_macro(session);
     } else {
         fail(session, Message::NotInMacro);

@@ -2,9 +2,10 @@
 ghost use Rattle.std.specs.Prelude.{◌≡◌, ◌<◌, length, IfOk, OnErr, false};
 ghost use Rattle.mgs_buffers.specs.MarkedBuffer.{has_buffer};
 ghost use Rattle.mgs_plan.specs.declared.outcome.Outcome.TheVariants.{Creates};
-ghost use Rattle.mgs_act.specs.Doing.{IsQuietlyDone, IsUnchanged};
+ghost use Rattle.mgs_act.specs.Doing.{IsQuietlyDone};
+ghost use Rattle.mgs_world.specs.Acted.{IsUnchanged};
 ghost use Rattle.mgs_world.specs.Sound.{IsSound};
-ghost use Rattle.mgs_world.specs.Worlds.{idle, own_at};
+ghost use Rattle.mgs_world.specs.Worlds.{idle, state_at};
 
 use mgs_arrange::show;
 use mgs_buffers::Buffers;
@@ -24,7 +25,7 @@ pub fn show_created<T: Marked + Drop>(
 ) -> Result<Touched, Short>
     requires sound { IsSound buffers.old sessions.old }
     requires within { at < length sessions.old }
-    requires fresh { own_at at sessions.old ≡ idle (own_at at sessions.old) }
+    requires fresh { state_at at sessions.old ≡ idle (state_at at sessions.old) }
     requires free { has_buffer name buffers.old ≡ false }
     ensures sound { IsSound buffers.new sessions.new }
     ensures done { IfOk result (IsQuietlyDone directory.now at (Creates name) buffers.old sessions.old buffers.new sessions.new) }

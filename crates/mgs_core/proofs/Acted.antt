@@ -4,48 +4,48 @@ use Rattle.std.specs.List.{position_or_len}
 use Rattle.std.proofs.lemmas.List.{length-map}
 use Rattle.mgs_model.specs.Access.{Directory}
 use Rattle.mgs_model.specs.World.{World, has_id}
-use Rattle.mgs_model.specs.Apart.{Apart}
+use Rattle.mgs_laws.specs.Apart.{Apart}
 use Rattle.mgs_model.specs.Apply.{act}
-use Rattle.mgs_model.specs.Events.{own_set}
+use Rattle.mgs_model.specs.Events.{state_set}
 use Rattle.mgs_model.specs.Outcome.{Act}
 use Rattle.mgs_model.specs.declared.search.Direction.{Direction}
 use Rattle.mgs_model.specs.declared.touched.Touched.{Touched}
-use Rattle.mgs_laws.proofs.Apart.{apart_own, apart_same, apart_then}
+use Rattle.mgs_laws.proofs.Apart.{apart_state, apart_same, apart_then}
 use Rattle.mgs_store.specs.Stores.{StoreTold}
 use Rattle.mgs_buffers.specs.MarkedBuffer.{MarkedBuffer}
 use Rattle.mgs_session.specs.declared.Session.{Session}
 use Rattle.mgs_plan.proofs.Tells.{apart_act}
-use Rattle.mgs_plan.specs.Beginning.{searching_own}
-use Rattle.mgs_seek.specs.Replacing.{replacing_own}
+use Rattle.mgs_plan.specs.Beginning.{searching_state}
+use Rattle.mgs_seek.specs.Replacing.{replacing_state}
 use Rattle.mgs_world.specs.Worlds.{is_size_of, session_id, session_size, size_in, sizes, sizes_in, world_of}
 use Rattle.mgs_world.proofs.Sizes.{sizes_act, sizes_of_world}
 use Rattle.mgs_world.proofs.Worlds.{map-change_first_same}
-use Rattle.mgs_core.specs.declared.deeds.Before.{Before}
-use Rattle.mgs_core.specs.declared.deeds.Deed.{Deed}
-use Rattle.mgs_core.specs.declared.deeds.Deed.TheVariants as deeds
+use Rattle.mgs_core.specs.declared.byte_acts.Before.{Before}
+use Rattle.mgs_core.specs.declared.byte_acts.ByteAct.{ByteAct}
+use Rattle.mgs_core.specs.declared.byte_acts.ByteAct.TheVariants as byte_acts
 use Rattle.mgs_act.specs.Doing.{DoneBy}
-use Rattle.mgs_core.specs.Steps.{started_by, started_world}
-use Rattle.mgs_core.specs.Stepped.{asked_of, deed_world}
+use Rattle.mgs_core.specs.KeyActs.{started_by, started_world}
+use Rattle.mgs_core.specs.ByteActs.{asked_of, deciding_world}
 use Rattle.mgs_core.proofs.Sizes.{place_sized}
 
 -- THE WORLD IN WHICH IT IS DECIDED is the world before, but for the record of its session
 
 sizes_started : (o : Option Direction) (id : ℕ) (w : World) → sizes (started_world o id w) ≡ sizes w
 sizes_started None id w = refl
-sizes_started (Some d) id w = map-change_first_same session_size (has_id id) (own_set (searching_own d)) (λ x. refl) w.sessions
+sizes_started (Some d) id w = map-change_first_same session_size (has_id id) (state_set (searching_state d)) (λ x. refl) w.sessions
 
-sizes_begun : (b : Before) (deed : Deed) (id : ℕ) (w : World) → sizes (deed_world b deed id w) ≡ sizes w
-sizes_begun b (deeds.Act a) id w = sizes_started (started_by a) id w
-sizes_begun b deeds.StartReplacing id w = map-change_first_same session_size (has_id id) (own_set (replacing_own (asked_of b).first (asked_of b).input)) (λ x. refl) w.sessions
+sizes_begun : (b : Before) (byte_act : ByteAct) (id : ℕ) (w : World) → sizes (deciding_world b byte_act id w) ≡ sizes w
+sizes_begun b (byte_acts.Act a) id w = sizes_started (started_by a) id w
+sizes_begun b byte_acts.StartReplacing id w = map-change_first_same session_size (has_id id) (state_set (replacing_state (asked_of b).first (asked_of b).input)) (λ x. refl) w.sessions
 sizes_begun b _ id w = refl
 
 started_apart : (t : Touched) (o : Option Direction) (id : ℕ) (w : World) → Apart t id w (started_world o id w)
 started_apart t None id w = apart_same t id w
-started_apart t (Some d) id w = apart_own t id (searching_own d) w
+started_apart t (Some d) id w = apart_state t id (searching_state d) w
 
-begun_apart : (t : Touched) (b : Before) (deed : Deed) (id : ℕ) (w : World) → Apart t id w (deed_world b deed id w)
-begun_apart t b (deeds.Act a) id w = started_apart t (started_by a) id w
-begun_apart t b deeds.StartReplacing id w = apart_own t id (replacing_own (asked_of b).first (asked_of b).input) w
+begun_apart : (t : Touched) (b : Before) (byte_act : ByteAct) (id : ℕ) (w : World) → Apart t id w (deciding_world b byte_act id w)
+begun_apart t b (byte_acts.Act a) id w = started_apart t (started_by a) id w
+begun_apart t b byte_acts.StartReplacing id w = apart_state t id (replacing_state (asked_of b).first (asked_of b).input) w
 begun_apart t b _ id w = apart_same t id w
 
 -- ALL THAT IT DID NOT TOUCH
@@ -55,18 +55,18 @@ done_apart t old new before after id c did =
     let stored = did.acted.stored in
     subst (Apart t id old) (sym did.acted.world) (subst (λ (s : Touched). Apart s id old (act old id c stored)) (sym did.tells) (apart_act old id c stored))
 
-pub deed_apart : (t : Touched) (b : Before) (deed : Deed) (w new : World) (before after : StoreTold) (id : ℕ) (c : Act) → DoneBy t (deed_world b deed id w) new before after id c → Apart t id w new
-deed_apart t b deed w new before after id c did =
-    let begun : World = deed_world b deed id w in
-    apart_then t id w begun new (begun_apart t b deed id w) (done_apart t begun new before after id c did)
+pub byte_act_apart : (t : Touched) (b : Before) (byte_act : ByteAct) (w new : World) (before after : StoreTold) (id : ℕ) (c : Act) → DoneBy t (deciding_world b byte_act id w) new before after id c → Apart t id w new
+byte_act_apart t b byte_act w new before after id c did =
+    let begun : World = deciding_world b byte_act id w in
+    apart_then t id w begun new (begun_apart t b byte_act id w) (done_apart t begun new before after id c did)
 
 -- SIZES: no session went, so that none has quit
-pub deed_sizes : (t : Touched) (b : Before) (deed : Deed) (d : Directory) (ks ls : List MarkedBuffer) (xs ys : List Session) (id at : ℕ) (before after : StoreTold) (c : Act)
-    → at ≡ position_or_len (session_id id) xs → at < length xs → length ys ≡ length xs → DoneBy t (deed_world b deed id (world_of d ks xs None)) (world_of d ls ys None) before after id c → sizes_in ys ≡ sizes_in xs
-deed_sizes t b deed d ks ls xs ys id at before after c place within many did =
+pub byte_act_sizes : (t : Touched) (b : Before) (byte_act : ByteAct) (d : Directory) (ks ls : List MarkedBuffer) (xs ys : List Session) (id at : ℕ) (before after : StoreTold) (c : Act)
+    → at ≡ position_or_len (session_id id) xs → at < length xs → length ys ≡ length xs → DoneBy t (deciding_world b byte_act id (world_of d ks xs None)) (world_of d ls ys None) before after id c → sizes_in ys ≡ sizes_in xs
+byte_act_sizes t b byte_act d ks ls xs ys id at before after c place within many did =
     let w : World = world_of d ks xs None in
-    let begun : World = deed_world b deed id w in
-    let same : sizes begun ≡ sizes_in xs = sizes_begun b deed id w ∙ sizes_of_world d ks xs None in
+    let begun : World = deciding_world b byte_act id w in
+    let same : sizes begun ≡ sizes_in xs = sizes_begun b byte_act id w ∙ sizes_of_world d ks xs None in
     let new : sizes (act begun id c did.acted.stored) ≡ sizes_in ys = sym (ap sizes did.acted.world) ∙ sizes_of_world d ls ys None in
     let there : position_or_len (is_size_of id) (sizes begun) < length (sizes begun) =
     omega (arith, place, within, place_sized id xs, ap (position_or_len (is_size_of id)) same, ap length same, length_sizes xs) in

@@ -3,9 +3,9 @@ use Rattle.std.proofs.Common.{◌≡◌, ℕ, ◌≤◌, ◌<◌, Bool, true, fa
 use Rattle.std.specs.Prelude.{slice_set}
 use Rattle.std.specs.List.{position_or_len}
 use Rattle.mgs_model.specs.Access.{Directory}
-use Rattle.mgs_model.specs.World.{Own, World, Buffer, Session, Todo, has_id}
+use Rattle.mgs_model.specs.World.{State, World, Buffer, Session, Todo, has_id}
 use Rattle.mgs_model.specs.Apply.{change_first, remove_first, searches}
-use Rattle.mgs_model.specs.Events.{begun_if, begun_own, own_set, with_own}
+use Rattle.mgs_model.specs.Events.{begun_if, begun_state, state_set, with_state}
 use Rattle.mgs_model.specs.declared.message.Message.TheVariants.{MacroTooLong}
 use Rattle.mgs_model.specs.declared.session.Kind.TheVariants.{Other}
 use Rattle.mgs_buffers.specs.MarkedBuffer.{MarkedBuffer}
@@ -17,9 +17,9 @@ use Rattle.mgs_session.specs.declared.search.Aim.{Aim}
 use Rattle.mgs_session.specs.declared.search.Aim.TheVariants.{Find, Replace}
 use Rattle.mgs_session.specs.declared.search.Search.{Search}
 use Rattle.mgs_mini.specs.Typing.{PromptInput}
-use Rattle.mgs_world.specs.Worlds.{aim_mode, buffers_of, mode_in, search_of, own_at, own_of, own_or_first, session_id, session_of, world_of}
-use Rattle.mgs_core.specs.Steps.{closed}
-use Rattle.mgs_core.specs.Turned.{has_all, weight}
+use Rattle.mgs_world.specs.Worlds.{aim_mode, buffers_of, mode_in, search_of, state_at, state_of, state_or_first, session_id, session_of, world_of}
+use Rattle.mgs_core.specs.Calls.{closed}
+use Rattle.mgs_core.specs.Turns.{has_all, weight}
 use Rattle.mgs_core.proofs.Steps.{set_there, world_changed}
 
 -- A WORLD IN WHICH WHAT A SESSION HOLDS CHANGED
@@ -32,21 +32,21 @@ removed_changed {A = A} p f same (x ∷ xs) = by (removed_changed p f same xs) (
     by later true e = ap (λ (b : Bool). cond b xs (f x ∷ remove_first p xs)) (same x ∙ e)
     by later false e = ap (λ (b : Bool). cond b (change_first p f xs) (x ∷ remove_first p (change_first p f xs))) e ∙ ap (λ (ys : List A). x ∷ ys) later
 
-pub closed_own : (w : World) (id : ℕ) (f : Own → Own) → closed (with_own id f w) id ≡ closed w id
-closed_own w id f = ap (λ (xs : List Session). let v : World = record w { sessions = xs } in v) (removed_changed (has_id id) (own_set f) (λ x. refl) w.sessions)
+pub closed_state : (w : World) (id : ℕ) (f : State → State) → closed (with_state id f w) id ≡ closed w id
+closed_state w id f = ap (λ (xs : List Session). let v : World = record w { sessions = xs } in v) (removed_changed (has_id id) (state_set f) (λ x. refl) w.sessions)
 
 -- THE SESSION THAT A BYTE COMES TO
 
 -- what it holds then
 abbrev one_too_many : code.Session → code.Session
-one_too_many x = held.playing_as (stopped x.own.player) (held.told MacroTooLong (held.acted Other (held.recording_as nothing_recorded x)))
+one_too_many x = held.playing_as (stopped x.state.player) (held.told MacroTooLong (held.acted Other (held.recording_as nothing_recorded x)))
 
 abbrev keeps : ℕ → code.Session → code.Session
-keeps byte x = held.playing_as (byte_typed byte x.own.player) (held.recording_as (appended byte x.own.recorder) x)
+keeps byte x = held.playing_as (byte_typed byte x.state.player) (held.recording_as (appended byte x.state.recorder) x)
 
 -- what is no part of that is as it was
 pub begun_same : {A : Type 0} (f : code.Session → A) (byte : ℕ) (x y : code.Session) → f (one_too_many x) ≡ f x → f (keeps byte x) ≡ f x → y ≡ held.begun byte x → f y ≡ f x
-begun_same f byte x y one other is = ap f is ∙ by (is_full x.own.recorder)
+begun_same f byte x y one other is = ap f is ∙ by (is_full x.state.recorder)
   where
     by : (c : Bool) → f (cond c (one_too_many x) (keeps byte x)) ≡ f x
     by true = one
@@ -62,28 +62,28 @@ search_still bs (Some s) p = by s.aim
     by (Find f) = refl
     by (Replace r) = refl
 
-pub begun_world : (d : Directory) (ks : List MarkedBuffer) (xs : List code.Session) (next : Option ℕ) (id at byte : ℕ) (h y : code.Session) → at ≡ position_or_len (session_id id) xs → at < length xs → h ≡ get_or xs at h → y ≡ held.begun byte h → world_of d ks (slice_set xs at y) next ≡ with_own id (begun_own byte) (world_of d ks xs next)
+pub begun_world : (d : Directory) (ks : List MarkedBuffer) (xs : List code.Session) (next : Option ℕ) (id at byte : ℕ) (h y : code.Session) → at ≡ position_or_len (session_id id) xs → at < length xs → h ≡ get_or xs at h → y ≡ held.begun byte h → world_of d ks (slice_set xs at y) next ≡ with_state id (begun_state byte) (world_of d ks xs next)
 begun_world d ks xs next id at byte h y place within is_h begins =
-    world_changed (begun_own byte) d ks xs next id at h y place within is_h (ap (session_of ks) begins ∙ by (is_full h.own.recorder))
+    world_changed (begun_state byte) d ks xs next id at h y place within is_h (ap (session_of ks) begins ∙ by (is_full h.state.recorder))
   where
-    by : (c : Bool) → session_of ks (cond c (one_too_many h) (keeps byte h)) ≡ own_set (begun_if c byte) (session_of ks h)
-    by true = λ i. record (session_of ks h) { search = search_still (buffers_of ks) h.own.search h.own.prompt i; own = begun_if true byte (own_of h.own) }
-    by false = λ i. record (session_of ks h) { search = search_still (buffers_of ks) h.own.search h.own.prompt i; own = begun_if false byte (own_of h.own) }
+    by : (c : Bool) → session_of ks (cond c (one_too_many h) (keeps byte h)) ≡ state_set (begun_if c byte) (session_of ks h)
+    by true = λ i. record (session_of ks h) { search = search_still (buffers_of ks) h.state.search h.state.prompt i; state = begun_if true byte (state_of h.state) }
+    by false = λ i. record (session_of ks h) { search = search_still (buffers_of ks) h.state.search h.state.prompt i; state = begun_if false byte (state_of h.state) }
 
 -- what there is to do is the byte, or nothing
-pub begun_weight : (xs : List code.Session) (at byte : ℕ) (h y : code.Session) → at < length xs → y ≡ held.begun byte h → weight 0 (own_at at (slice_set xs at y)).todo ≤ 53689341958
+pub begun_weight : (xs : List code.Session) (at byte : ℕ) (h y : code.Session) → at < length xs → y ≡ held.begun byte h → weight 0 (state_at at (slice_set xs at y)).todo ≤ 53689341958
 begun_weight xs at byte h y within begins =
-    subst (λ (todo : List Todo). weight 0 todo ≤ 53689341958) (sym (ap (λ (o : Option code.Session). (own_or_first o).todo) (set_there xs at y within) ∙ ap (λ (s : code.Session). s.own.player.todo) begins)) (by (is_full h.own.recorder))
+    subst (λ (todo : List Todo). weight 0 todo ≤ 53689341958) (sym (ap (λ (o : Option code.Session). (state_or_first o).todo) (set_there xs at y within) ∙ ap (λ (s : code.Session). s.state.player.todo) begins)) (by (is_full h.state.recorder))
   where
-    by : (c : Bool) → weight 0 (cond c (one_too_many h) (keeps byte h)).own.player.todo ≤ 53689341958
+    by : (c : Bool) → weight 0 (cond c (one_too_many h) (keeps byte h)).state.player.todo ≤ 53689341958
     by true = omega arith
     by false = omega arith
 
 -- and no further replacement
-pub begun_none : (xs : List code.Session) (at byte : ℕ) (h y : code.Session) → at < length xs → y ≡ held.begun byte h → has_all (own_at at (slice_set xs at y)).todo ≡ false
+pub begun_none : (xs : List code.Session) (at byte : ℕ) (h y : code.Session) → at < length xs → y ≡ held.begun byte h → has_all (state_at at (slice_set xs at y)).todo ≡ false
 begun_none xs at byte h y within begins =
-    ap (λ (o : Option code.Session). has_all (own_or_first o).todo) (set_there xs at y within) ∙ ap (λ (s : code.Session). has_all s.own.player.todo) begins ∙ by (is_full h.own.recorder)
+    ap (λ (o : Option code.Session). has_all (state_or_first o).todo) (set_there xs at y within) ∙ ap (λ (s : code.Session). has_all s.state.player.todo) begins ∙ by (is_full h.state.recorder)
   where
-    by : (c : Bool) → has_all (cond c (one_too_many h) (keeps byte h)).own.player.todo ≡ false
+    by : (c : Bool) → has_all (cond c (one_too_many h) (keeps byte h)).state.player.todo ≡ false
     by true = refl
     by false = refl

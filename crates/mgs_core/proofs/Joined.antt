@@ -5,26 +5,26 @@ use Rattle.std.specs.List.{list_any}
 use Rattle.std.specs.Option.{option_and_then}
 use Rattle.mgs_model.specs.Names.{same_name}
 use Rattle.mgs_model.specs.World.{World, Session, Window, find_buffer, has_id}
-use Rattle.mgs_model.specs.Apart.{Apart, bare, may_show, spared}
+use Rattle.mgs_laws.specs.Apart.{Apart, bare, may_show, unchanged}
 use Rattle.mgs_model.specs.declared.touched.Touched.{Touched}
 use Rattle.mgs_model.specs.declared.touched.Touched.TheVariants.{Nowhere, In, Anywhere}
 use Rattle.mgs_laws.proofs.Apart.{apart_then}
 use Rattle.mgs_model.proofs.Blind.{same_names}
-use Rattle.mgs_core.specs.Turned.{touched_both}
+use Rattle.mgs_core.specs.Turns.{touched_both}
 
 -- nothing is said to stay where anything was touched
 pub apart_anywhere : (id : ℕ) (u v : World) → v.directory ≡ u.directory → Apart Anywhere id u v
 apart_anywhere id u v same = record { directory = same; buffers = tt; rules = λ h. cc; texts = λ h. cc; sessions = λ h. cc }
 
 -- a session that shows nothing of a buffer is one that is not the acting one
-spared_less : (name : List ℕ) (id : ℕ) (x : Session) → spared (In name) id x ≡ option_and_then (spared (In name) id) (spared Nowhere id x)
-spared_less name id x = by (has_id id x) (list_any (λ (w : Window). may_show Nowhere w.shows) x.windows) refl (none_shown x.windows)
+unchanged_less : (name : List ℕ) (id : ℕ) (x : Session) → unchanged (In name) id x ≡ option_and_then (unchanged (In name) id) (unchanged Nowhere id x)
+unchanged_less name id x = by (has_id id x) (list_any (λ (w : Window). may_show Nowhere w.shows) x.windows) refl (none_shown x.windows)
   where
     none_shown : (xs : List Window) → list_any (λ (w : Window). may_show Nowhere w.shows) xs ≡ false
     none_shown [] = refl
     none_shown (w ∷ ws) = none_shown ws
 
-    by : (own shown : Bool) → has_id id x ≡ own → shown ≡ false → spared (In name) id x ≡ option_and_then (spared (In name) id) (cond (own || shown) None (Some (bare x)))
+    by : (state shown : Bool) → has_id id x ≡ state → shown ≡ false → unchanged (In name) id x ≡ option_and_then (unchanged (In name) id) (cond (state || shown) None (Some (bare x)))
     by true shown e h = ap (λ (b : Bool). cond (b || list_any (λ (w : Window). may_show (In name) w.shows) x.windows) None (Some (bare x))) e
     by false true e h = cc
     by false false e h = refl
@@ -44,7 +44,7 @@ nowhere_in name id u v a = record {
   buffers = λ other differs. ap (find_buffer other) a.buffers;
   rules = λ h. a.rules refl;
   texts = λ h. a.texts refl;
-  sessions = λ h. map_through (spared (In name) id) (spared Nowhere id) (option_and_then (spared (In name) id)) (spared_less name id) v.sessions u.sessions (a.sessions refl);
+  sessions = λ h. map_through (unchanged (In name) id) (unchanged Nowhere id) (option_and_then (unchanged (In name) id)) (unchanged_less name id) v.sessions u.sessions (a.sessions refl);
 }
 
 pub apart_nowhere : (t : Touched) (id : ℕ) (u v : World) → Apart Nowhere id u v → Apart t id u v

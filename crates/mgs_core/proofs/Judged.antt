@@ -1,7 +1,7 @@
 -- What a judge keeps is right for the buffers as a byte leaves them.
 use Rattle.std.proofs.Common.{◌≡◌, ℕ, List, refl, sym, subst}
 use Rattle.mgs_model.specs.Access.{Directory}
-use Rattle.mgs_model.specs.Apart.{Apart, Rules, rules_in}
+use Rattle.mgs_laws.specs.Apart.{Apart, Rules, rules_in}
 use Rattle.mgs_model.specs.World.{World}
 use Rattle.mgs_model.specs.declared.touched.Touched.{Touched}
 use Rattle.mgs_model.specs.declared.touched.Touched.TheVariants.{Nowhere, In, Anywhere}

@@ -20,58 +20,58 @@ use Rattle.mgs_laws.proofs.LeftToDo.{is_single}
 use Rattle.mgs_maps.specs.Held.{Held, FedBy, is_bound, is_bound_alteration, is_bound_change, is_bound_motion}
 use Rattle.mgs_maps.specs.declared.maps.Fed.TheVariants as fed
 use Rattle.mgs_mini.specs.Typing.{PromptInput}
-use Rattle.mgs_session.specs.declared.Own.{Own}
+use Rattle.mgs_session.specs.declared.State.{State}
 use Rattle.mgs_session.specs.declared.search.Search.{Search}
-use Rattle.mgs_world.specs.Worlds.{own_of}
+use Rattle.mgs_world.specs.Worlds.{state_of}
 use Rattle.mgs_plan.specs.declared.key_act.KeyAct.{KeyAct}
 use Rattle.mgs_plan.specs.declared.key_act.KeyAct.TheVariants as acts
 use Rattle.mgs_edit.specs.Reading.{is_alteration_planned}
 use Rattle.mgs_plan.specs.Actions.{act_of, is_entry_done, is_setting_done}
 use Rattle.mgs_world.specs.Worlds.{idle}
-use Rattle.mgs_core.specs.Prompted.{own_turn}
-use Rattle.mgs_core.specs.Stepped.{is_call, is_exit}
-use Rattle.mgs_core.specs.Steps.{command_act, is_acted, line_act, motion_act, started_by, started_own}
+use Rattle.mgs_core.specs.Prompted.{state_turn}
+use Rattle.mgs_core.specs.ByteSteps.{is_call, is_exit}
+use Rattle.mgs_core.specs.KeyActs.{command_act, is_acted, line_act, motion_act, started_by, started_state}
 
 -- AS A KEY
 
 -- what a session holds that neither searches nor is at a prompt, its echo line emptied
-abbrev silent : Own → model.Own
-silent o = record (own_of (record o { search = None; prompt = None })) { echo = Silent }
+abbrev silent : State → model.State
+silent o = record (state_of (record o { search = None; prompt = None })) { echo = Silent }
 
 -- to such a session a byte is a key
-plain_turn : (v : View) (o : Own) (byte : ℕ) → o.search ≡ None → o.prompt ≡ None → own_turn v o byte ≡ key_turn (silent o) byte
+plain_turn : (v : View) (o : State) (byte : ℕ) → o.search ≡ None → o.prompt ≡ None → state_turn v o byte ≡ key_turn (silent o) byte
 plain_turn v o byte still none =
-    ap (λ (s : Option Search). own_turn v (record o { search = s }) byte) still
-    ∙ ap (λ (p : Option PromptInput). own_turn v (record o { search = None; prompt = p }) byte) none
+    ap (λ (s : Option Search). state_turn v (record o { search = s }) byte) still
+    ∙ ap (λ (p : Option PromptInput). state_turn v (record o { search = None; prompt = p }) byte) none
 
 -- a bound command is done at once, or asks for its line
-line_done : (own : model.Own) (n : Option ℕ) → line_turn own n ≡ Do (started_own (started_by (line_act n)) own) (act_of (line_act n))
-line_done own None = refl
-line_done own (Some n) = refl
+line_done : (state : model.State) (n : Option ℕ) → line_turn state n ≡ Do (started_state (started_by (line_act n)) state) (act_of (line_act n))
+line_done state None = refl
+line_done state (Some n) = refl
 
-motion_done : (own : model.Own) (n : Option ℕ) (c : Motion) → is_bound_motion c ≡ true → command_turn own n (Move c) ≡ Do (started_own (started_by (motion_act c n)) own) (act_of (motion_act c n))
-motion_done own n GoToLine h = line_done own n
-motion_done own n (StartSearch d) h = refl
-motion_done own n _ h = refl
+motion_done : (state : model.State) (n : Option ℕ) (c : Motion) → is_bound_motion c ≡ true → command_turn state n (Move c) ≡ Do (started_state (started_by (motion_act c n)) state) (act_of (motion_act c n))
+motion_done state n GoToLine h = line_done state n
+motion_done state n (StartSearch d) h = refl
+motion_done state n _ h = refl
 
-setting_done : (own : model.Own) (n : Option ℕ) (c : Setting) → is_call (Set c) ≡ false → command_turn own n (Set c) ≡ Do own (outcomes.Run (Set c) n [])
-setting_done own n CallMacro h = cc
-setting_done own n _ h = refl
+setting_done : (state : model.State) (n : Option ℕ) (c : Setting) → is_call (Set c) ≡ false → command_turn state n (Set c) ≡ Do state (outcomes.Run (Set c) n [])
+setting_done state n CallMacro h = cc
+setting_done state n _ h = refl
 
-pub command_done : (own : model.Own) (n : Option ℕ) (c : Command) → is_bound c ≡ true → is_call c ≡ false → command_turn own n c ≡ Do (started_own (started_by (command_act c n)) own) (act_of (command_act c n))
-command_done own n (Move c) h e = motion_done own n c h
-command_done own n (Set c) h e = setting_done own n c e
-command_done own n _ h e = refl
+pub command_done : (state : model.State) (n : Option ℕ) (c : Command) → is_bound c ≡ true → is_call c ≡ false → command_turn state n c ≡ Do (started_state (started_by (command_act c n)) state) (act_of (command_act c n))
+command_done state n (Move c) h e = motion_done state n c h
+command_done state n (Set c) h e = setting_done state n c e
+command_done state n _ h e = refl
 
 -- a word goes on
-pub turn_kept : (v : View) (o : Own) (byte : ℕ) (k : Held) → o.search ≡ None → o.prompt ≡ None → FedBy fed.Pending (key_read o.keyboard.argument o.keyboard.keys byte) k → own_turn v o byte ≡ Keep (own_of (record o { echo = Silent; keyboard = k; prompt = None; search = None }))
+pub turn_kept : (v : View) (o : State) (byte : ℕ) (k : Held) → o.search ≡ None → o.prompt ≡ None → FedBy fed.Pending (key_read o.keyboard.argument o.keyboard.keys byte) k → state_turn v o byte ≡ Keep (state_of (record o { echo = Silent; keyboard = k; prompt = None; search = None }))
 turn_kept v o byte k still none e = plain_turn v o byte still none ∙ ap (read_turn (silent o)) e
 
 -- or runs a command, or none, by a session that holds nothing
-pub turn_command : (v : View) (o : Own) (byte : ℕ) (k : Held) (c : Command) (n : Option ℕ) → o.search ≡ None → o.prompt ≡ None → FedBy (fed.Run c n) (key_read o.keyboard.argument o.keyboard.keys byte) k → own_turn v o byte ≡ command_turn (idle (own_of o)) n c
+pub turn_command : (v : View) (o : State) (byte : ℕ) (k : Held) (c : Command) (n : Option ℕ) → o.search ≡ None → o.prompt ≡ None → FedBy (fed.Run c n) (key_read o.keyboard.argument o.keyboard.keys byte) k → state_turn v o byte ≡ command_turn (idle (state_of o)) n c
 turn_command v o byte k c n still none e = plain_turn v o byte still none ∙ ap (read_turn (silent o)) e.0
 
-pub turn_unbound : (v : View) (o : Own) (byte : ℕ) (k : Held) → o.search ≡ None → o.prompt ≡ None → FedBy fed.Unbound (key_read o.keyboard.argument o.keyboard.keys byte) k → own_turn v o byte ≡ Do (idle (own_of o)) outcomes.Unbound
+pub turn_unbound : (v : View) (o : State) (byte : ℕ) (k : Held) → o.search ≡ None → o.prompt ≡ None → FedBy fed.Unbound (key_read o.keyboard.argument o.keyboard.keys byte) k → state_turn v o byte ≡ Do (idle (state_of o)) outcomes.Unbound
 turn_unbound v o byte k still none e = plain_turn v o byte still none ∙ ap (read_turn (silent o)) e.0
 
 -- the motions and alterations of the table are done by the act, and the settings but one

@@ -21,7 +21,7 @@ use Rattle.mgs_world.specs.Worlds.{buffers_of, id_after, session_of, window_show
 use Rattle.mgs_world.specs.Sound.{IsSound, in_use}
 use Rattle.mgs_world.specs.WindowMarks.{FirstWindowMarks, MarksStay, WindowMarksDropped, first_name, window_marks_name}
 use Rattle.mgs_model.specs.declared.right.Right.TheVariants.{ReadAttributes}
-use Rattle.mgs_core.specs.Steps.{OpenAnswers, OpenedBy}
+use Rattle.mgs_core.specs.Calls.{OpenAnswers, OpenedBy}
 use Rattle.mgs_core.proofs.Stays.{opened_rests}
 use Rattle.mgs_world.proofs.Marks.{same_is}
 use Rattle.mgs_world.proofs.Worlds.{same_window, same_windows, same_world}

@@ -8,16 +8,18 @@ use Rattle.mgs_model.specs.World as model
 use Rattle.mgs_model.specs.View.{View}
 use Rattle.mgs_model.specs.Outcome.{Act, Run}
 use Rattle.mgs_model.specs.Apply.{outcome_in}
-use Rattle.mgs_model.specs.Completion.{completion, granted_names, shown_names}
-use Rattle.mgs_model.specs.Turns.{Keep, Do, command_turn, answer_turn, answered, completed, named_turn, names_buffers, names_commands, names_completed, plain_own, prompt_turn, unbound_own}
-use Rattle.mgs_model.specs.Events.{may_be_refused, refused_own}
+use Rattle.mgs_model.specs.Completion.{completion, shown_names}
+use Rattle.mgs_mini.specs.Narrowing.{granted_names}
+use Rattle.mgs_model.specs.Turns.{Keep, Do, command_turn, answer_turn, answered, completed, named_turn, names_buffers, names_commands, names_completed, plain_state, prompt_turn, unbound_state}
+use Rattle.mgs_model.specs.Events.{refused_state}
+use Rattle.mgs_laws.specs.Refusals.{may_be_refused}
 use Rattle.mgs_model.specs.declared.message.Message.TheVariants.{Silent, NoMemory, NoSuchCommand, Quitting}
 use Rattle.mgs_model.specs.declared.session.Command.{Command}
 use Rattle.mgs_model.specs.declared.session.Mode.TheVariants.{Prompt}
 use Rattle.mgs_model.specs.declared.session.Question.{Question}
 use Rattle.mgs_model.specs.declared.session.Question.TheVariants.{SwitchTo, RunWhich, ReplaceWhat, ReplaceWith}
 use Rattle.mgs_laws.proofs.LeftToDo.{is_single}
-use Rattle.mgs_mini.specs.Typing.{PromptInput, keys_of, stepped, typed_own}
+use Rattle.mgs_mini.specs.Typing.{PromptInput, keys_of, stepped, typed_state}
 use Rattle.mgs_mini.specs.Typing as prompts
 use Rattle.mgs_mini.specs.declared.Step.{Step}
 use Rattle.mgs_mini.specs.declared.Step.TheVariants.{GoesOn, Answered, Quit, Completes, Unbound}
@@ -26,7 +28,7 @@ use Rattle.mgs_mini.specs.declared.Waiting.TheVariants.{NoKey}
 use Rattle.mgs_plan.specs.Actions.{is_answered}
 use Rattle.mgs_model.specs.declared.touched.Touched.{Touched}
 use Rattle.mgs_plan.specs.Searching.{meant}
-use Rattle.mgs_model.specs.Plans.{failed_own}
+use Rattle.mgs_model.specs.Plans.{failed_state}
 use Rattle.mgs_buffers.specs.MarkedBuffer.{MarkedBuffer}
 use Rattle.mgs_session.specs.declared.Session.{Session}
 use Rattle.mgs_session.specs.declared.search.Aim.{Aim}
@@ -36,27 +38,28 @@ use Rattle.mgs_session.specs.Sessions.{failed, prompting, resting, unbound, unpr
 use Rattle.mgs_session.specs.Seeking.{unsearched}
 use Rattle.mgs_store.specs.Stores.{StoreTold}
 use Rattle.mgs_act.specs.Doing.{DoneBy}
-use Rattle.mgs_world.specs.Worlds.{aim_mode, buffers_of, idle, mode_in, own_of}
+use Rattle.mgs_world.specs.Worlds.{aim_mode, buffers_of, idle, mode_in, state_of}
 use Rattle.mgs_world.proofs.Owns.{prompt_fed}
-use Rattle.mgs_core.specs.declared.deeds.Deed.{Deed}
-use Rattle.mgs_core.specs.declared.deeds.Deed.TheVariants as deeds
-use Rattle.mgs_core.specs.declared.deeds.Before.{Before}
-use Rattle.mgs_core.specs.declared.deeds.Before.TheVariants as befores
+use Rattle.mgs_core.specs.declared.byte_acts.ByteAct.{ByteAct}
+use Rattle.mgs_core.specs.declared.byte_acts.ByteAct.TheVariants as byte_acts
+use Rattle.mgs_core.specs.declared.byte_acts.Before.{Before}
+use Rattle.mgs_core.specs.declared.byte_acts.Before.TheVariants as befores
 use Rattle.mgs_core.specs.declared.keying.ByteStep.{ByteStep}
 use Rattle.mgs_core.specs.declared.keying.ByteStep.TheVariants.{Kept, Acts}
-use Rattle.mgs_core.specs.Prompted.{names_for, own_turn}
+use Rattle.mgs_core.specs.Prompted.{names_for, state_turn}
 use Rattle.mgs_mini.specs.Typing.{IsFirst}
-use Rattle.mgs_core.specs.Stepped.{IsAlone, IsAnswerStep, IsAskedStep, IsByteStep, IsCommandStep, IsNamedStep, IsReplyStep, SeesNames, asked_of, deed_act, deed_own, deed_world, refused_again, second_input}
+use Rattle.mgs_core.specs.ByteActs.{asked_of, model_act, deciding_state, deciding_world, refused_again}
+use Rattle.mgs_core.specs.ByteSteps.{IsAlone, IsAnswerStep, IsAskedStep, IsByteStep, IsCommandStep, IsNamedStep, IsReplyStep, SeesNames, second_input}
 use Rattle.mgs_core.proofs.Stepped.{command_step, fit_same, left_same, none_stays, acts_same, kept_none, kept_same}
 
 -- WHAT AN ANSWER IS FOR
 
 -- the act of a question whose answer is for a command of its own
-asked_turn : (c : Question) → is_answered c ≡ true → (own : model.Own) → answer_turn c own ≡ Do (plain_own own) (Run (answered c) (value_of own.argument) (meant c own.pattern own.input))
-asked_turn RunWhich h own = cc
-asked_turn ReplaceWhat h own = cc
-asked_turn ReplaceWith h own = cc
-asked_turn _ h own = refl
+asked_turn : (c : Question) → is_answered c ≡ true → (state : model.State) → answer_turn c state ≡ Do (plain_state state) (Run (answered c) (value_of state.argument) (meant c state.pattern state.input))
+asked_turn RunWhich h state = cc
+asked_turn ReplaceWhat h state = cc
+asked_turn ReplaceWith h state = cc
+asked_turn _ h state = refl
 
 -- it leaves no more to do, and saves nothing
 pub answered_single : (c : Question) (n : Option ℕ) (typed : List ℕ) → is_single (Run (answered c) n typed) ≡ true
@@ -65,48 +68,48 @@ answered_single _ n typed = refl
 
 -- A TURN
 
-at_prompt : (v : View) (y : Session) (p : PromptInput) (byte : ℕ) → (unsearched y).own.prompt ≡ Some p → own_turn v (unsearched y).own byte ≡ prompt_turn v p.question (record (own_of (unsearched y).own) { echo = Silent }) byte
-at_prompt v y p byte is = ap (λ (r : Option PromptInput). own_turn v (record (unsearched y).own { prompt = r }) byte) is ∙ sym (ap (λ (r : Option PromptInput). prompt_turn v p.question (record (own_of (record (unsearched y).own { prompt = r })) { echo = Silent }) byte) is)
+at_prompt : (v : View) (y : Session) (p : PromptInput) (byte : ℕ) → (unsearched y).state.prompt ≡ Some p → state_turn v (unsearched y).state byte ≡ prompt_turn v p.question (record (state_of (unsearched y).state) { echo = Silent }) byte
+at_prompt v y p byte is = ap (λ (r : Option PromptInput). state_turn v (record (unsearched y).state { prompt = r }) byte) is ∙ sym (ap (λ (r : Option PromptInput). prompt_turn v p.question (record (state_of (record (unsearched y).state { prompt = r })) { echo = Silent }) byte) is)
 
 -- A STEP OF A PROMPT
 
 -- what a byte comes to, which leaves q of p
 abbrev pub IsFed : PromptInput → PromptInput → ℕ → Step → Type 0
-IsFed p q byte step = (v : View) (own : model.Own) → prompt_turn v p.question (typed_own own p.input p.waiting) byte ≡ stepped v p.question (typed_own own q.input q.waiting) step
+IsFed p q byte step = (v : View) (state : model.State) → prompt_turn v p.question (typed_state state p.input p.waiting) byte ≡ stepped v p.question (typed_state state q.input q.waiting) step
 
-step_turn : (v : View) (y : Session) (p q : PromptInput) (step : Step) (byte : ℕ) → (unsearched y).own.prompt ≡ Some p → q.question ≡ p.question → q.first ≡ p.first → IsFed p q byte step → own_turn v (unsearched y).own byte ≡ stepped v p.question (own_of (prompting q (unsearched y)).own) step
+step_turn : (v : View) (y : Session) (p q : PromptInput) (step : Step) (byte : ℕ) → (unsearched y).state.prompt ≡ Some p → q.question ≡ p.question → q.first ≡ p.first → IsFed p q byte step → state_turn v (unsearched y).state byte ≡ stepped v p.question (state_of (prompting q (unsearched y)).state) step
 step_turn v y p q step byte is question first turn = at_prompt v y p byte is ∙ prompt_fed v (unsearched y) p q step byte refl is question first turn
 
-pub goes_on : (d : Directory) (ks : List MarkedBuffer) (y taken new : Session) (p q : PromptInput) (byte : ℕ) → IsAlone (unsearched y).own.player → (unsearched y).own.prompt ≡ Some p → q.question ≡ p.question → q.first ≡ p.first → IsFed p q byte GoesOn → taken ≡ unprompted (unsearched y) → new ≡ prompting q taken → IsByteStep d ks (unsearched y) new byte befores.Plain Kept
+pub goes_on : (d : Directory) (ks : List MarkedBuffer) (y taken new : Session) (p q : PromptInput) (byte : ℕ) → IsAlone (unsearched y).state.player → (unsearched y).state.prompt ≡ Some p → q.question ≡ p.question → q.first ≡ p.first → IsFed p q byte GoesOn → taken ≡ unprompted (unsearched y) → new ≡ prompting q taken → IsByteStep d ks (unsearched y) new byte befores.Plain Kept
 goes_on d ks y taken new p q byte alone is question first turn took held =
     let it : Session = prompting q (unsearched y) in
-    kept_same (SeesNames d ks (unsearched y).user) (λ v. own_turn v (unsearched y).own byte) (unsearched y) new it (held ∙ ap (prompting q) took) refl (none_stays (unsearched y).own it.own refl) alone (λ v sees. step_turn v y p q GoesOn byte is question first turn) refl
+    kept_same (SeesNames d ks (unsearched y).user) (λ v. state_turn v (unsearched y).state byte) (unsearched y) new it (held ∙ ap (prompting q) took) refl (none_stays (unsearched y).state it.state refl) alone (λ v sees. step_turn v y p q GoesOn byte is question first turn) refl
 
-pub quits : (d : Directory) (ks : List MarkedBuffer) (y taken new : Session) (p q : PromptInput) (byte : ℕ) → (unsearched y).own.prompt ≡ Some p → q.question ≡ p.question → q.first ≡ p.first → IsFed p q byte Quit → taken ≡ unprompted (unsearched y) → new ≡ failed Quitting taken → IsByteStep d ks (unsearched y) new byte befores.Plain Kept
+pub quits : (d : Directory) (ks : List MarkedBuffer) (y taken new : Session) (p q : PromptInput) (byte : ℕ) → (unsearched y).state.prompt ≡ Some p → q.question ≡ p.question → q.first ≡ p.first → IsFed p q byte Quit → taken ≡ unprompted (unsearched y) → new ≡ failed Quitting taken → IsByteStep d ks (unsearched y) new byte befores.Plain Kept
 quits d ks y taken new p q byte is question first turn took held =
     let it : Session = failed Quitting (unsearched y) in
-    kept_none (SeesNames d ks (unsearched y).user) (λ v. own_turn v (unsearched y).own byte) (unsearched y) new it (held ∙ ap (failed Quitting) took) refl (none_stays (unsearched y).own it.own refl) (λ v sees. step_turn v y p q Quit byte is question first turn) refl
+    kept_none (SeesNames d ks (unsearched y).user) (λ v. state_turn v (unsearched y).state byte) (unsearched y) new it (held ∙ ap (failed Quitting) took) refl (none_stays (unsearched y).state it.state refl) (λ v sees. step_turn v y p q Quit byte is question first turn) refl
 
-pub unbinds : (d : Directory) (ks : List MarkedBuffer) (y taken new : Session) (p q : PromptInput) (byte : ℕ) → (unsearched y).own.prompt ≡ Some p → q.question ≡ p.question → q.first ≡ p.first → q.waiting ≡ NoKey → IsFed p q byte Unbound → taken ≡ unprompted (unsearched y) → new ≡ unbound (prompting q taken) → IsByteStep d ks (unsearched y) new byte befores.Plain Kept
+pub unbinds : (d : Directory) (ks : List MarkedBuffer) (y taken new : Session) (p q : PromptInput) (byte : ℕ) → (unsearched y).state.prompt ≡ Some p → q.question ≡ p.question → q.first ≡ p.first → q.waiting ≡ NoKey → IsFed p q byte Unbound → taken ≡ unprompted (unsearched y) → new ≡ unbound (prompting q taken) → IsByteStep d ks (unsearched y) new byte befores.Plain Kept
 unbinds d ks y taken new p q byte is question first none turn took held =
-    let own : model.Own = unbound_own (own_of (prompting q (unsearched y)).own) in
+    let state : model.State = unbound_state (state_of (prompting q (unsearched y)).state) in
     let it : Session = unbound (prompting q (unsearched y)) in
-    kept_none (SeesNames d ks (unsearched y).user) (λ v. own_turn v (unsearched y).own byte) (unsearched y) new it (held ∙ ap (λ (s : Session). unbound (prompting q s)) took) refl (none_stays (unsearched y).own it.own refl)
-    (λ v sees. step_turn v y p q Unbound byte is question first turn ∙ sym (ap (λ (w : Waiting). Keep (record own { keys = keys_of w })) none)) refl
+    kept_none (SeesNames d ks (unsearched y).user) (λ v. state_turn v (unsearched y).state byte) (unsearched y) new it (held ∙ ap (λ (s : Session). unbound (prompting q s)) took) refl (none_stays (unsearched y).state it.state refl)
+    (λ v sees. step_turn v y p q Unbound byte is question first turn ∙ sym (ap (λ (w : Waiting). Keep (record state { keys = keys_of w })) none)) refl
 
 -- what is completed: the names that are seen are those that are granted
-completed_seen : (d : Directory) (ks : List MarkedBuffer) (user : List ℕ) (v : View) (c e : Question) (own : model.Own) (input : List ℕ) → shown_names v ≡ granted_names d user (buffers_of ks) → e ≡ c → completed own (completion (names_completed v c) input) ≡ completed own (completion (names_for d user ks e) input)
-completed_seen d ks user v c e own input sees same =
-    ap (λ (names : List (List ℕ)). completed own (completion (cond (names_buffers c) names (cond (names_commands c) command_names [])) input)) sees
-    ∙ sym (ap (λ (k : Question). completed own (completion (names_for d user ks k) input)) same)
+completed_seen : (d : Directory) (ks : List MarkedBuffer) (user : List ℕ) (v : View) (c e : Question) (state : model.State) (input : List ℕ) → shown_names v ≡ granted_names d user (buffers_of ks) → e ≡ c → completed state (completion (names_completed v c) input) ≡ completed state (completion (names_for d user ks e) input)
+completed_seen d ks user v c e state input sees same =
+    ap (λ (names : List (List ℕ)). completed state (completion (cond (names_buffers c) names (cond (names_commands c) command_names [])) input)) sees
+    ∙ sym (ap (λ (k : Question). completed state (completion (names_for d user ks k) input)) same)
 
-completed_todo : (own : model.Own) (o : Option (List ℕ)) → (completed own o).todo ≡ own.todo
-completed_todo own None = refl
-completed_todo own (Some text) = refl
+completed_todo : (state : model.State) (o : Option (List ℕ)) → (completed state o).todo ≡ state.todo
+completed_todo state None = refl
+completed_todo state (Some text) = refl
 
-completed_mode : (own : model.Own) (o : Option (List ℕ)) → (completed own o).mode ≡ own.mode
-completed_mode own None = refl
-completed_mode own (Some text) = refl
+completed_mode : (state : model.State) (o : Option (List ℕ)) → (completed state o).mode ≡ state.mode
+completed_mode state None = refl
+completed_mode state (Some text) = refl
 
 -- a session in the mode of a prompt does not search
 prompted_none : (s : Option Search) (p : Option PromptInput) (c : Question) → mode_in s p ≡ Prompt c → s ≡ None
@@ -117,71 +120,71 @@ prompted_none (Some s) p c e = by s.aim e
     by (Find f) h = cc
     by (Replace r) h = cc
 
-pub completes : (d : Directory) (ks : List MarkedBuffer) (y taken new : Session) (p q : PromptInput) (byte : ℕ) → IsAlone (unsearched y).own.player → (unsearched y).own.prompt ≡ Some p → q.question ≡ p.question → q.first ≡ p.first → IsFed p q byte Completes → taken ≡ unprompted (unsearched y)
-    → own_of new.own ≡ completed (own_of (prompting q taken).own) (completion (names_for d taken.user ks q.question) q.input) → new ≡ record taken { own = new.own } → IsByteStep d ks (unsearched y) new byte befores.Plain Kept
+pub completes : (d : Directory) (ks : List MarkedBuffer) (y taken new : Session) (p q : PromptInput) (byte : ℕ) → IsAlone (unsearched y).state.player → (unsearched y).state.prompt ≡ Some p → q.question ≡ p.question → q.first ≡ p.first → IsFed p q byte Completes → taken ≡ unprompted (unsearched y)
+    → state_of new.state ≡ completed (state_of (prompting q taken).state) (completion (names_for d taken.user ks q.question) q.input) → new ≡ record taken { state = new.state } → IsByteStep d ks (unsearched y) new byte befores.Plain Kept
 completes d ks y taken new p q byte alone is question first turn took owns rest = record {
-  own = rest ∙ ap (λ (s : Session). record s { own = new.own }) took;
-  stays = none_stays (unsearched y).own new.own
-      (prompted_none new.own.search new.own.prompt q.question
-      (ap (λ (o : model.Own). o.mode) owns
-      ∙ completed_mode (own_of (prompting q taken).own) (completion (names_for d taken.user ks q.question) q.input)
-      ∙ ap (λ (s : Session). (own_of (prompting q s).own).mode) took));
+  state = rest ∙ ap (λ (s : Session). record s { state = new.state }) took;
+  stays = none_stays (unsearched y).state new.state
+      (prompted_none new.state.search new.state.prompt q.question
+      (ap (λ (o : model.State). o.mode) owns
+      ∙ completed_mode (state_of (prompting q taken).state) (completion (names_for d taken.user ks q.question) q.input)
+      ∙ ap (λ (s : Session). (state_of (prompting q s).state).mode) took));
   turn = λ v sees.
       step_turn v y p q Completes byte is question first turn
       ∙ ap Keep
-      (completed_seen d ks (unsearched y).user v p.question q.question (own_of (prompting q (unsearched y)).own) q.input sees question
-      ∙ sym (ap (λ (s : Session). completed (own_of (prompting q s).own) (completion (names_for d s.user ks q.question) q.input)) took)
+      (completed_seen d ks (unsearched y).user v p.question q.question (state_of (prompting q (unsearched y)).state) q.input sees question
+      ∙ sym (ap (λ (s : Session). completed (state_of (prompting q s).state) (completion (names_for d s.user ks q.question) q.input)) took)
       ∙ sym owns);
-  left = left_same (unsearched y).own.player new.own.player.todo alone
-      (ap (λ (o : model.Own). o.todo) owns
-      ∙ completed_todo (own_of (prompting q taken).own) (completion (names_for d taken.user ks q.question) q.input)
-      ∙ ap (λ (s : Session). s.own.player.todo) took);
-  fit = fit_same (unsearched y).own.player (own_of new.own) alone
-      (ap (λ (o : model.Own). o.todo) owns
-      ∙ completed_todo (own_of (prompting q taken).own) (completion (names_for d taken.user ks q.question) q.input)
-      ∙ ap (λ (s : Session). s.own.player.todo) took);
+  left = left_same (unsearched y).state.player new.state.player.todo alone
+      (ap (λ (o : model.State). o.todo) owns
+      ∙ completed_todo (state_of (prompting q taken).state) (completion (names_for d taken.user ks q.question) q.input)
+      ∙ ap (λ (s : Session). s.state.player.todo) took);
+  fit = fit_same (unsearched y).state.player (state_of new.state) alone
+      (ap (λ (o : model.State). o.todo) owns
+      ∙ completed_todo (state_of (prompting q taken).state) (completion (names_for d taken.user ks q.question) q.input)
+      ∙ ap (λ (s : Session). s.state.player.todo) took);
 }
 
 -- a completion, by the record that it leaves
-completed_still : (y : Session) (p q : PromptInput) (text : Option (List ℕ)) (b : Bool) → q.question ≡ p.question → q.first ≡ p.first → ((own : model.Own) → completed (typed_own own p.input p.waiting) text ≡ prompts.told b (typed_own own q.input q.waiting)) → prompts.told b (own_of (prompting q (unsearched y)).own) ≡ completed (own_of (prompting p (unsearched y)).own) text
+completed_still : (y : Session) (p q : PromptInput) (text : Option (List ℕ)) (b : Bool) → q.question ≡ p.question → q.first ≡ p.first → ((state : model.State) → completed (typed_state state p.input p.waiting) text ≡ prompts.told b (typed_state state q.input q.waiting)) → prompts.told b (state_of (prompting q (unsearched y)).state) ≡ completed (state_of (prompting p (unsearched y)).state) text
 completed_still y p q text b question first input =
-    let own : model.Own = own_of (prompting p (unsearched y)).own in
-    (λ i. prompts.told b (record (typed_own own q.input q.waiting) { mode = Prompt (question i); old = first i })) ∙ sym (input own)
+    let state : model.State = state_of (prompting p (unsearched y)).state in
+    (λ i. prompts.told b (record (typed_state state q.input q.waiting) { mode = Prompt (question i); old = first i })) ∙ sym (input state)
 
-pub completed_as : (x : Session) (p q : PromptInput) (text : Option (List ℕ)) (b : Bool) → x ≡ unsearched x → q.question ≡ p.question → q.first ≡ p.first → ((own : model.Own) → completed (typed_own own p.input p.waiting) text ≡ prompts.told b (typed_own own q.input q.waiting)) → prompts.told b (own_of (prompting q x).own) ≡ completed (own_of (prompting p x).own) text
-completed_as x p q text b still question first input = subst (λ (z : Session). prompts.told b (own_of (prompting q z).own) ≡ completed (own_of (prompting p z).own) text) (sym still) (completed_still x p q text b question first input)
+pub completed_as : (x : Session) (p q : PromptInput) (text : Option (List ℕ)) (b : Bool) → x ≡ unsearched x → q.question ≡ p.question → q.first ≡ p.first → ((state : model.State) → completed (typed_state state p.input p.waiting) text ≡ prompts.told b (typed_state state q.input q.waiting)) → prompts.told b (state_of (prompting q x).state) ≡ completed (state_of (prompting p x).state) text
+completed_as x p q text b still question first input = subst (λ (z : Session). prompts.told b (state_of (prompting q z).state) ≡ completed (state_of (prompting p z).state) text) (sym still) (completed_still x p q text b question first input)
 
 -- AN ANSWER, with no key half read
 
 -- its act begins with the session at rest
-plain_rests : (y : Session) (p : PromptInput) → p.waiting ≡ NoKey → p.first ≡ [] → plain_own (own_of (prompting p (unsearched y)).own) ≡ idle (own_of (unsearched y).own)
-plain_rests y p none first = λ i. record (idle (own_of (unsearched y).own)) { keys = keys_of (none i); old = first i }
+plain_rests : (y : Session) (p : PromptInput) → p.waiting ≡ NoKey → p.first ≡ [] → plain_state (state_of (prompting p (unsearched y)).state) ≡ idle (state_of (unsearched y).state)
+plain_rests y p none first = λ i. record (idle (state_of (unsearched y).state)) { keys = keys_of (none i); old = first i }
 
-asked_at : (v : View) (y : Session) (p : PromptInput) (byte : ℕ) → (unsearched y).own.prompt ≡ Some p → p.waiting ≡ NoKey → p.first ≡ [] → IsFed p p byte Answered → is_answered p.question ≡ true
-    → own_turn v (unsearched y).own byte ≡ Do (idle (own_of (unsearched y).own)) (Run (answered p.question) (value_of (unsearched y).own.keyboard.argument) (meant p.question (unsearched y).own.pattern p.input))
+asked_at : (v : View) (y : Session) (p : PromptInput) (byte : ℕ) → (unsearched y).state.prompt ≡ Some p → p.waiting ≡ NoKey → p.first ≡ [] → IsFed p p byte Answered → is_answered p.question ≡ true
+    → state_turn v (unsearched y).state byte ≡ Do (idle (state_of (unsearched y).state)) (Run (answered p.question) (value_of (unsearched y).state.keyboard.argument) (meant p.question (unsearched y).state.pattern p.input))
 asked_at v y p byte is none first turn asked =
     step_turn v y p p Answered byte is refl refl turn
-    ∙ asked_turn p.question asked (own_of (prompting p (unsearched y)).own)
-    ∙ ap (λ (o : model.Own). Do o (Run (answered p.question) (value_of (unsearched y).own.keyboard.argument) (meant p.question (unsearched y).own.pattern p.input))) (plain_rests y p none first)
+    ∙ asked_turn p.question asked (state_of (prompting p (unsearched y)).state)
+    ∙ ap (λ (o : model.State). Do o (Run (answered p.question) (value_of (unsearched y).state.keyboard.argument) (meant p.question (unsearched y).state.pattern p.input))) (plain_rests y p none first)
 
 -- an answer to this question
-answered_at : (v : View) (y : Session) (p : PromptInput) (byte : ℕ) (c : Question) → (unsearched y).own.prompt ≡ Some p → IsFed p p byte Answered → p.question ≡ c → own_turn v (unsearched y).own byte ≡ answer_turn c (own_of (prompting p (unsearched y)).own)
-answered_at v y p byte c is turn of_c = step_turn v y p p Answered byte is refl refl turn ∙ ap (λ (k : Question). answer_turn k (own_of (prompting p (unsearched y)).own)) of_c
+answered_at : (v : View) (y : Session) (p : PromptInput) (byte : ℕ) (c : Question) → (unsearched y).state.prompt ≡ Some p → IsFed p p byte Answered → p.question ≡ c → state_turn v (unsearched y).state byte ≡ answer_turn c (state_of (prompting p (unsearched y)).state)
+answered_at v y p byte c is turn of_c = step_turn v y p p Answered byte is refl refl turn ∙ ap (λ (k : Question). answer_turn k (state_of (prompting p (unsearched y)).state)) of_c
 
-named_at : (v : View) (y : Session) (p : PromptInput) (o : Option Command) (byte : ℕ) → (unsearched y).own.prompt ≡ Some p → IsFed p p byte Answered → p.question ≡ RunWhich → find_command p.input ≡ o → own_turn v (unsearched y).own byte ≡ named_turn (plain_own (own_of (prompting p (unsearched y)).own)) (value_of (unsearched y).own.keyboard.argument) o
+named_at : (v : View) (y : Session) (p : PromptInput) (o : Option Command) (byte : ℕ) → (unsearched y).state.prompt ≡ Some p → IsFed p p byte Answered → p.question ≡ RunWhich → find_command p.input ≡ o → state_turn v (unsearched y).state byte ≡ named_turn (plain_state (state_of (prompting p (unsearched y)).state)) (value_of (unsearched y).state.keyboard.argument) o
 named_at v y p o byte is turn names found =
-    let own : model.Own = own_of (prompting p (unsearched y)).own in
+    let state : model.State = state_of (prompting p (unsearched y)).state in
     answered_at v y p byte RunWhich is turn names
-    ∙ ap (named_turn (plain_own own) (value_of (unsearched y).own.keyboard.argument)) found
+    ∙ ap (named_turn (plain_state state) (value_of (unsearched y).state.keyboard.argument)) found
 
 -- the session that is at its prompt again has what it had
-again_prompted : (y : Session) (p : PromptInput) → (unsearched y).own.prompt ≡ Some p → p.waiting ≡ NoKey → refused_again (befores.Prompt p) (unsearched y).own.kind (unsearched y).own.player.playing (own_of (resting (unsearched y)).own) ≡ refused_own (own_of (unsearched y).own)
+again_prompted : (y : Session) (p : PromptInput) → (unsearched y).state.prompt ≡ Some p → p.waiting ≡ NoKey → refused_again (befores.Prompt p) (unsearched y).state.kind (unsearched y).state.player.playing (state_of (resting (unsearched y)).state) ≡ refused_state (state_of (unsearched y).state)
 again_prompted y p is none =
-    let own : model.Own = own_of (resting (unsearched y)).own in
-    ap (λ (w : Waiting). record own { echo = NoMemory; keys = keys_of w; mode = Prompt p.question; input = p.input; old = p.first; todo = [] }) none
-    ∙ sym (ap (λ (r : Option PromptInput). refused_own (own_of (record (unsearched y).own { prompt = r }))) is)
+    let state : model.State = state_of (resting (unsearched y)).state in
+    ap (λ (w : Waiting). record state { echo = NoMemory; keys = keys_of w; mode = Prompt p.question; input = p.input; old = p.first; todo = [] }) none
+    ∙ sym (ap (λ (r : Option PromptInput). refused_state (state_of (record (unsearched y).state { prompt = r }))) is)
 
-module _ (d : Directory) (ks : List MarkedBuffer) (y taken new : Session) (p : PromptInput) (byte : ℕ) (b : Before) (alone : IsAlone (unsearched y).own.player) (is : (unsearched y).own.prompt ≡ Some p) (none : p.waiting ≡ NoKey) (turn : IsFed p p byte Answered) (took : taken ≡ unprompted (unsearched y)) where
+module _ (d : Directory) (ks : List MarkedBuffer) (y taken new : Session) (p : PromptInput) (byte : ℕ) (b : Before) (alone : IsAlone (unsearched y).state.player) (is : (unsearched y).state.prompt ≡ Some p) (none : p.waiting ≡ NoKey) (turn : IsFed p p byte Answered) (took : taken ≡ unprompted (unsearched y)) where
   -- its prompt was there before
   prompt_was : (step k : ByteStep) → step ≡ k → b ≡ befores.Prompt p → IsByteStep d ks (unsearched y) new byte (befores.Prompt p) k → IsByteStep d ks (unsearched y) new byte b step
   prompt_was step k same was s =
@@ -193,50 +196,50 @@ module _ (d : Directory) (ks : List MarkedBuffer) (y taken new : Session) (p : P
   named_step step None names first found did =
       let it : Session = failed NoSuchCommand (unsearched y) in
       subst (IsByteStep d ks (unsearched y) new byte b) (sym did.0)
-      (kept_none (SeesNames d ks (unsearched y).user) (λ v. own_turn v (unsearched y).own byte) (unsearched y) new it (did.1 ∙ ap (failed NoSuchCommand) took) refl (none_stays (unsearched y).own it.own refl)
-      (λ v sees. named_at v y p None byte is turn names found ∙ ap (λ (o : model.Own). Keep (failed_own NoSuchCommand o)) (plain_rests y p none first)) refl)
+      (kept_none (SeesNames d ks (unsearched y).user) (λ v. state_turn v (unsearched y).state byte) (unsearched y) new it (did.1 ∙ ap (failed NoSuchCommand) took) refl (none_stays (unsearched y).state it.state refl)
+      (λ v sees. named_at v y p None byte is turn names found ∙ ap (λ (o : model.State). Keep (failed_state NoSuchCommand o)) (plain_rests y p none first)) refl)
   named_step step (Some c) names first found did =
       prompt_was step step refl did.1
-      (command_step (SeesNames d ks (unsearched y).user) (λ v. own_turn v (unsearched y).own byte) (unsearched y) new c (value_of (unsearched y).own.keyboard.argument) (befores.Prompt p) step
-      (λ v sees. named_at v y p (Some c) byte is turn names found ∙ ap (λ (own : model.Own). command_turn own (value_of (unsearched y).own.keyboard.argument) c) (plain_rests y p none first))
+      (command_step (SeesNames d ks (unsearched y).user) (λ v. state_turn v (unsearched y).state byte) (unsearched y) new c (value_of (unsearched y).state.keyboard.argument) (befores.Prompt p) step
+      (λ v sees. named_at v y p (Some c) byte is turn names found ∙ ap (λ (state : model.State). command_turn state (value_of (unsearched y).state.keyboard.argument) c) (plain_rests y p none first))
       did.0 alone (again_prompted y p is none) (λ r. refl)
-      (subst (λ (s : Session). IsCommandStep (resting s) new c (value_of s.own.keyboard.argument) step) took did.2))
+      (subst (λ (s : Session). IsCommandStep (resting s) new c (value_of s.state.keyboard.argument) step) took did.2))
 
   -- where it is what the question is for
-  asked_step : is_answered p.question ≡ true → p.first ≡ [] → new ≡ resting (unsearched y) → IsByteStep d ks (unsearched y) new byte (befores.Prompt p) (Acts (deeds.Answer (value_of (unsearched y).own.keyboard.argument)))
+  asked_step : is_answered p.question ≡ true → p.first ≡ [] → new ≡ resting (unsearched y) → IsByteStep d ks (unsearched y) new byte (befores.Prompt p) (Acts (byte_acts.Answer (value_of (unsearched y).state.keyboard.argument)))
   asked_step answers first same =
-      acts_same (SeesNames d ks (unsearched y).user) (λ v. own_turn v (unsearched y).own byte) (unsearched y) new (resting (unsearched y)) same refl (none_stays (unsearched y).own (resting (unsearched y)).own refl) (befores.Prompt p) (deeds.Answer (value_of (unsearched y).own.keyboard.argument)) alone refl (refl, answers)
+      acts_same (SeesNames d ks (unsearched y).user) (λ v. state_turn v (unsearched y).state byte) (unsearched y) new (resting (unsearched y)) same refl (none_stays (unsearched y).state (resting (unsearched y)).state refl) (befores.Prompt p) (byte_acts.Answer (value_of (unsearched y).state.keyboard.argument)) alone refl (refl, answers)
       (λ v sees. asked_at v y p byte is none first turn answers) refl (λ wants. again_prompted y p is none) (λ wants. refl) (λ h. cc)
 
-  other_step : (step : ByteStep) → is_answered p.question ≡ true → p.first ≡ [] → IsAskedStep taken new p b (deeds.Answer (value_of taken.own.keyboard.argument)) step → IsByteStep d ks (unsearched y) new byte b step
+  other_step : (step : ByteStep) → is_answered p.question ≡ true → p.first ≡ [] → IsAskedStep taken new p b (byte_acts.Answer (value_of taken.state.keyboard.argument)) step → IsByteStep d ks (unsearched y) new byte b step
   other_step step answers first did =
-      prompt_was step (Acts (deeds.Answer (value_of (unsearched y).own.keyboard.argument))) (did.0 ∙ ap (λ (s : Session). Acts (deeds.Answer (value_of s.own.keyboard.argument))) took) did.1
+      prompt_was step (Acts (byte_acts.Answer (value_of (unsearched y).state.keyboard.argument))) (did.0 ∙ ap (λ (s : Session). Acts (byte_acts.Answer (value_of s.state.keyboard.argument))) took) did.1
       (asked_step answers first (did.2 ∙ ap resting took))
 
   -- where it is the first of two
   second_step : p.question ≡ ReplaceWhat → new ≡ prompting (second_input p.input) taken → IsByteStep d ks (unsearched y) new byte b Kept
   second_step of_c held =
       let it : Session = prompting (second_input p.input) (unsearched y) in
-      kept_same (SeesNames d ks (unsearched y).user) (λ v. own_turn v (unsearched y).own byte) (unsearched y) new it (held ∙ ap (prompting (second_input p.input)) took) refl (none_stays (unsearched y).own it.own refl) alone
-      (λ v sees. answered_at v y p byte ReplaceWhat is turn of_c ∙ ap (λ (w : Waiting). Keep (record (own_of it.own) { keys = keys_of w })) none) refl
+      kept_same (SeesNames d ks (unsearched y).user) (λ v. state_turn v (unsearched y).state byte) (unsearched y) new it (held ∙ ap (prompting (second_input p.input)) took) refl (none_stays (unsearched y).state it.state refl) alone
+      (λ v sees. answered_at v y p byte ReplaceWhat is turn of_c ∙ ap (λ (w : Waiting). Keep (record (state_of it.state) { keys = keys_of w })) none) refl
 
   -- and where it is the second
-  replacing_step : p.question ≡ ReplaceWith → new ≡ resting (unsearched y) → IsByteStep d ks (unsearched y) new byte (befores.Prompt p) (Acts deeds.StartReplacing)
+  replacing_step : p.question ≡ ReplaceWith → new ≡ resting (unsearched y) → IsByteStep d ks (unsearched y) new byte (befores.Prompt p) (Acts byte_acts.StartReplacing)
   replacing_step of_c same =
-      let deed : Deed = deeds.StartReplacing in
-      acts_same (SeesNames d ks (unsearched y).user) (λ v. own_turn v (unsearched y).own byte) (unsearched y) new (resting (unsearched y)) same refl (none_stays (unsearched y).own (resting (unsearched y)).own refl) (befores.Prompt p) deed alone refl refl
+      let byte_act : ByteAct = byte_acts.StartReplacing in
+      acts_same (SeesNames d ks (unsearched y).user) (λ v. state_turn v (unsearched y).state byte) (unsearched y) new (resting (unsearched y)) same refl (none_stays (unsearched y).state (resting (unsearched y)).state refl) (befores.Prompt p) byte_act alone refl refl
       (λ v sees.
       answered_at v y p byte ReplaceWith is turn of_c
-      ∙ ap (λ (w : Waiting). Do (record (deed_own (befores.Prompt p) deed (own_of (resting (unsearched y)).own)) { keys = keys_of w }) (deed_act (own_of (unsearched y).own) (befores.Prompt p) deed)) none)
+      ∙ ap (λ (w : Waiting). Do (record (deciding_state (befores.Prompt p) byte_act (state_of (resting (unsearched y)).state)) { keys = keys_of w }) (model_act (state_of (unsearched y).state) (befores.Prompt p) byte_act)) none)
       refl (λ wants. cc) (λ wants. cc) (λ h. refl)
 
   reply_step : (step : ByteStep) (c : Question) → p.question ≡ c → IsFirst c p.first → IsReplyStep c taken new p b step → IsByteStep d ks (unsearched y) new byte b step
   reply_step step RunWhich of_c first did = named_step step (find_command p.input) of_c first refl did
   reply_step step ReplaceWhat of_c first did = subst (IsByteStep d ks (unsearched y) new byte b) (sym did.0) (second_step of_c did.1)
-  reply_step step ReplaceWith of_c first did = prompt_was step (Acts deeds.StartReplacing) did.0 did.1 (replacing_step of_c (did.2 ∙ ap resting took))
+  reply_step step ReplaceWith of_c first did = prompt_was step (Acts byte_acts.StartReplacing) did.0 did.1 (replacing_step of_c (did.2 ∙ ap resting took))
   reply_step step _ of_c first did = other_step step (ap is_answered of_c) first did
 
-pub answers : (d : Directory) (ks : List MarkedBuffer) (y taken new : Session) (p q : PromptInput) (byte : ℕ) (b : Before) (step : ByteStep) → IsAlone (unsearched y).own.player → (unsearched y).own.prompt ≡ Some p → (q ≡ p) × (p.waiting ≡ NoKey) → IsFed p q byte Answered → taken ≡ unprompted (unsearched y) → IsFirst q.question q.first → IsAnswerStep taken new q b step → IsByteStep d ks (unsearched y) new byte b step
+pub answers : (d : Directory) (ks : List MarkedBuffer) (y taken new : Session) (p q : PromptInput) (byte : ℕ) (b : Before) (step : ByteStep) → IsAlone (unsearched y).state.player → (unsearched y).state.prompt ≡ Some p → (q ≡ p) × (p.waiting ≡ NoKey) → IsFed p q byte Answered → taken ≡ unprompted (unsearched y) → IsFirst q.question q.first → IsAnswerStep taken new q b step → IsByteStep d ks (unsearched y) new byte b step
 answers d ks y taken new p q byte b step alone is same turn took first did =
     reply_step d ks y taken new p byte b alone is same.1 (subst (λ (k : PromptInput). IsFed p k byte Answered) same.0 turn) took step p.question refl (subst (λ (k : PromptInput). IsFirst k.question k.first) same.0 first) (subst (λ (k : PromptInput). IsAnswerStep taken new k b step) same.0 did)
 
@@ -247,18 +250,18 @@ still_step d ks y new byte b step still s = subst (λ (z : Session). IsByteStep 
 
 -- WHAT AN ANSWER DOES
 
-answer_act : {X : Type 0} (f : Act → X) (own : model.Own) (b : Before) (deed : Deed) (p : PromptInput) (n : Option ℕ) (c : Question) (typed : List ℕ) → deed ≡ deeds.Answer n → p ≡ asked_of b → c ≡ p.question → typed ≡ p.input → f (Run (answered c) n (meant c own.pattern typed)) ≡ f (deed_act own b deed)
-answer_act f own b deed p n c typed is asked question input =
-    ap (λ (q : Question). f (Run (answered q) n (meant q own.pattern typed))) question
-    ∙ ap (λ (t : List ℕ). f (Run (answered p.question) n (meant p.question own.pattern t))) input
-    ∙ ap (λ (q : PromptInput). f (Run (answered q.question) n (meant q.question own.pattern q.input))) asked
-    ∙ sym (ap (λ (d : Deed). f (deed_act own b d)) is)
+answer_act : {X : Type 0} (f : Act → X) (state : model.State) (b : Before) (byte_act : ByteAct) (p : PromptInput) (n : Option ℕ) (c : Question) (typed : List ℕ) → byte_act ≡ byte_acts.Answer n → p ≡ asked_of b → c ≡ p.question → typed ≡ p.input → f (Run (answered c) n (meant c state.pattern typed)) ≡ f (model_act state b byte_act)
+answer_act f state b byte_act p n c typed is asked question input =
+    ap (λ (q : Question). f (Run (answered q) n (meant q state.pattern typed))) question
+    ∙ ap (λ (t : List ℕ). f (Run (answered p.question) n (meant p.question state.pattern t))) input
+    ∙ ap (λ (q : PromptInput). f (Run (answered q.question) n (meant q.question state.pattern q.input))) asked
+    ∙ sym (ap (λ (d : ByteAct). f (model_act state b d)) is)
 
-pub answer_done : (touched : Touched) (old new : World) (before after : StoreTold) (id : ℕ) (own : model.Own) (b : Before) (deed : Deed) (p : PromptInput) (n : Option ℕ) (c : Question) (typed : List ℕ) → deed ≡ deeds.Answer n → p ≡ asked_of b → c ≡ p.question → typed ≡ p.input
-    → DoneBy touched old new before after id (Run (answered c) n (meant c own.pattern typed)) → DoneBy touched (deed_world b deed id old) new before after id (deed_act own b deed)
-answer_done touched old new before after id own b deed p n c typed is asked question input did =
-    subst (λ (e : Deed). DoneBy touched (deed_world b e id old) new before after id (deed_act own b e)) (sym is)
-    (subst (DoneBy touched old new before after id) (answer_act (λ (e : Act). e) own b (deeds.Answer n) p n c typed refl asked question input) did)
+pub answer_done : (touched : Touched) (old new : World) (before after : StoreTold) (id : ℕ) (state : model.State) (b : Before) (byte_act : ByteAct) (p : PromptInput) (n : Option ℕ) (c : Question) (typed : List ℕ) → byte_act ≡ byte_acts.Answer n → p ≡ asked_of b → c ≡ p.question → typed ≡ p.input
+    → DoneBy touched old new before after id (Run (answered c) n (meant c state.pattern typed)) → DoneBy touched (deciding_world b byte_act id old) new before after id (model_act state b byte_act)
+answer_done touched old new before after id state b byte_act p n c typed is asked question input did =
+    subst (λ (e : ByteAct). DoneBy touched (deciding_world b e id old) new before after id (model_act state b e)) (sym is)
+    (subst (DoneBy touched old new before after id) (answer_act (λ (e : Act). e) state b (byte_acts.Answer n) p n c typed refl asked question input) did)
 
-pub answer_may : (w : World) (id : ℕ) (own : model.Own) (b : Before) (deed : Deed) (p : PromptInput) (n : Option ℕ) (c : Question) (typed : List ℕ) → deed ≡ deeds.Answer n → p ≡ asked_of b → c ≡ p.question → typed ≡ p.input → may_be_refused (outcome_in w id (Run (answered c) n (meant c own.pattern typed)) true) ≡ true → may_be_refused (outcome_in w id (deed_act own b deed) true) ≡ true
-answer_may w id own b deed p n c typed is asked question input may = sym (answer_act (λ (a : Act). may_be_refused (outcome_in w id a true)) own b deed p n c typed is asked question input) ∙ may
+pub answer_may : (w : World) (id : ℕ) (state : model.State) (b : Before) (byte_act : ByteAct) (p : PromptInput) (n : Option ℕ) (c : Question) (typed : List ℕ) → byte_act ≡ byte_acts.Answer n → p ≡ asked_of b → c ≡ p.question → typed ≡ p.input → may_be_refused (outcome_in w id (Run (answered c) n (meant c state.pattern typed)) true) ≡ true → may_be_refused (outcome_in w id (model_act state b byte_act) true) ≡ true
+answer_may w id state b byte_act p n c typed is asked question input may = sym (answer_act (λ (a : Act). may_be_refused (outcome_in w id a true)) state b byte_act p n c typed is asked question input) ∙ may

@@ -5,43 +5,44 @@ use Rattle.std.specs.List.{flat_map}
 use Rattle.mgs_model.specs.World.{World, Session, find_session}
 use Rattle.mgs_model.specs.Outcome.{Act, Run}
 use Rattle.mgs_model.specs.Apply.{act, without_session}
-use Rattle.mgs_model.specs.Events.{Saved, act_effects, begun_own, rests, saved_by, settled, turn_in, with_own}
+use Rattle.mgs_model.specs.Events.{Saved, act_effects, begun_state, rests, saved_by, settled, turn_in, with_state}
 use Rattle.mgs_model.specs.declared.errors.Keyed.{Keyed}
 use Rattle.mgs_model.specs.declared.errors.Keyed.TheVariants as keyed
 use Rattle.mgs_model.specs.declared.session.Command.TheVariants.{Exit}
 use Rattle.mgs_laws.proofs.After.{find_without}
 use Rattle.mgs_laws.proofs.Ends.{act_ends}
 use Rattle.mgs_laws.proofs.Led.{Leads, leads_acted}
-use Rattle.mgs_laws.proofs.LeftToDo.{found_own, rests_found}
+use Rattle.mgs_laws.proofs.LeftToDo.{found_state, rests_found}
 use Rattle.mgs_laws.proofs.Saves.{act_saves_none}
 use Rattle.mgs_laws.proofs.Turned.{saves_done, step_done}
 use Rattle.mgs_store.specs.Stores.{StoreTold, told_more}
 use Rattle.mgs_store.proofs.Told.{told_none}
 use Rattle.mgs_world.specs.declared.size.Size.{Size}
 use Rattle.mgs_world.specs.Worlds.{IsUnique, sizes}
-use Rattle.mgs_core.specs.Steps.{KeyedBy, TypedBy, closed, sizes_keyed}
-use Rattle.mgs_core.specs.Turned.{EventBy, TurnEnds}
-use Rattle.mgs_core.proofs.Begun.{closed_own}
+use Rattle.mgs_core.specs.Calls.{KeyedBy, closed, sizes_keyed}
+use Rattle.mgs_core.specs.AtPlace.{TypedBy}
+use Rattle.mgs_core.specs.Turns.{EventBy, TurnEnds}
+use Rattle.mgs_core.proofs.Begun.{closed_state}
 use Rattle.mgs_core.proofs.Stays.{closed_rests, without_first}
 use Rattle.mgs_core.proofs.Turned.{within_most}
 use Rattle.mgs_core.proofs.Steps.{not_found}
 
 -- an event whose first turn is the session's end
-module _ (w start now : World) (before after : StoreTold) (id byte : ℕ) (begins : start ≡ with_own id (begun_own byte) w) (x : Session) (found : find_session id w.sessions ≡ Some x) (unique : IsUnique (sizes start)) (rest : settled w ≡ w) (t : TurnEnds false start now before after id) where
+module _ (w start now : World) (before after : StoreTold) (id byte : ℕ) (begins : start ≡ with_state id (begun_state byte) w) (x : Session) (found : find_session id w.sessions ≡ Some x) (unique : IsUnique (sizes start)) (rest : settled w ≡ w) (t : TurnEnds false start now before after id) where
   abbrev exits : Act
   exits = Run Exit t.argument []
 
   abbrev started : World
-  started = with_own id (begun_own byte) w
+  started = with_state id (begun_state byte) w
 
   abbrev ended : World
-  ended = act (with_own id (λ was. t.own) started) id exits true
+  ended = act (with_state id (λ was. t.state) started) id exits true
 
   -- only that session has the id
   ended_is : ended ≡ record started { sessions = without_session id started.sessions }
   ended_is =
-      let v : World = with_own id (begun_own byte) w in
-      act_ends v t.own id t.argument true _ (found_own w id (begun_own byte) x found) t.quiet
+      let v : World = with_state id (begun_state byte) w in
+      act_ends v t.state id t.argument true _ (found_state w id (begun_state byte) x found) t.quiet
 
   ended_closed : ended ≡ closed w id
   ended_closed =
@@ -49,21 +50,21 @@ module _ (w start now : World) (before after : StoreTold) (id byte : ℕ) (begin
       ∙ ap (λ (v : World). record v { sessions = without_session id v.sessions }) (sym begins)
       ∙ ap (λ (ys : List Session). record start { sessions = ys }) (without_first id start.sessions unique)
       ∙ ap (λ (v : World). closed v id) begins
-      ∙ closed_own w id (begun_own byte)
+      ∙ closed_state w id (begun_state byte)
 
   gone : find_session id ended.sessions ≡ None
   gone = ap (λ (v : World). find_session id v.sessions) ended_is ∙ find_without id started.sessions
 
   abbrev saved : List Saved
-  saved = flat_map saved_by (act_effects (with_own id (λ was. t.own) started) id exits true)
+  saved = flat_map saved_by (act_effects (with_state id (λ was. t.state) started) id exits true)
 
   leads : Leads id true 1 saved started ended
   leads =
-      let v : World = with_own id (begun_own byte) w in
-      leads_acted id true v (act (with_own id (λ was. t.own) v) id (Run Exit t.argument []) true) t.own (Run Exit t.argument []) (ap (λ (u : World). turn_in u id) (sym begins) ∙ t.turn) refl
+      let v : World = with_state id (begun_state byte) w in
+      leads_acted id true v (act (with_state id (λ was. t.state) v) id (Run Exit t.argument []) true) t.state (Run Exit t.argument []) (ap (λ (u : World). turn_in u id) (sym begins) ∙ t.turn) refl
 
   saves_none : saved ≡ []
-  saves_none = act_saves_none (with_own id (λ was. t.own) started) id (Run Exit t.argument []) true refl
+  saves_none = act_saves_none (with_state id (λ was. t.state) started) id (Run Exit t.argument []) true refl
 
   over : rests (turn_in ended id) ≡ true
   over = rests_found ended id None gone (λ y e. cc)
@@ -91,7 +92,7 @@ module _ (w start now : World) (before after : StoreTold) (id byte : ℕ) (begin
       }
 
 -- an event that ends no session
-pub event_keyed : (id byte : ℕ) (w start now new : World) (before after : StoreTold) (k : Keyed) → (k ≡ keyed.Quit → ⊥) → EventBy id start now before after k → IsSome (find_session id w.sessions) → IsSome (find_session id new.sessions) → start ≡ with_own id (begun_own byte) w → new ≡ settled now → TypedBy w new before after id byte k
+pub event_keyed : (id byte : ℕ) (w start now new : World) (before after : StoreTold) (k : Keyed) → (k ≡ keyed.Quit → ⊥) → EventBy id start now before after k → IsSome (find_session id w.sessions) → IsSome (find_session id new.sessions) → start ≡ with_state id (begun_state byte) w → new ≡ settled now → TypedBy w new before after id byte k
 event_keyed id byte w start now new before after keyed.Quit other e here there begins settles = absurd (other refl)
 event_keyed id byte w start now new before after keyed.NoSession other e here there begins settles = absurd e
 event_keyed id byte w start now new before after keyed.Done other e here there begins settles =

@@ -3,7 +3,7 @@ use Rattle.std.proofs.Common.{◌≡◌, ℕ, ◌+◌, ◌<◌, length, Bool, tr
 use Rattle.std.specs.Prelude.{◌==◌, ◌||◌}
 use Rattle.mgs_model.specs.Access.{Directory}
 use Rattle.mgs_model.specs.Outcome.{Run}
-use Rattle.mgs_model.specs.Plans.{failed_own}
+use Rattle.mgs_model.specs.Plans.{failed_state}
 use Rattle.mgs_model.specs.World as model
 use Rattle.mgs_model.specs.World.{Todo, Replace_all}
 use Rattle.mgs_model.specs.View.{View}
@@ -20,32 +20,33 @@ use Rattle.mgs_session.specs.declared.Session.{Session}
 use Rattle.mgs_session.specs.Playing.{Playing, are_behind, replacing_all}
 use Rattle.mgs_session.specs.Seeking.{searching, unsearched}
 use Rattle.mgs_session.specs.Sessions.{failed, playing_as, told, unprompted}
-use Rattle.mgs_world.specs.Worlds.{own_of}
-use Rattle.mgs_core.specs.declared.deeds.Deed.TheVariants as deeds
-use Rattle.mgs_core.specs.declared.deeds.Before.{Before}
-use Rattle.mgs_core.specs.declared.deeds.Before.TheVariants as befores
+use Rattle.mgs_world.specs.Worlds.{state_of}
+use Rattle.mgs_core.specs.declared.byte_acts.ByteAct.TheVariants as byte_acts
+use Rattle.mgs_core.specs.declared.byte_acts.Before.{Before}
+use Rattle.mgs_core.specs.declared.byte_acts.Before.TheVariants as befores
 use Rattle.mgs_core.specs.declared.keying.ByteStep.TheVariants.{Kept, Acts}
 use Rattle.mgs_core.specs.declared.typing.ReplaceKey.{ReplaceKey}
 use Rattle.mgs_core.specs.declared.typing.ReplaceKey.TheVariants as keys
-use Rattle.mgs_core.specs.Prompted.{own_turn}
-use Rattle.mgs_core.specs.Stepped.{IsAlone, IsByteStep, IsLeft, deed_act, replace_key, replacing_at, SeesNames}
-use Rattle.mgs_core.specs.Turned.{IsWithin}
+use Rattle.mgs_core.specs.Prompted.{state_turn}
+use Rattle.mgs_core.specs.ByteActs.{model_act}
+use Rattle.mgs_core.specs.ByteSteps.{IsAlone, IsByteStep, IsLeft, replace_key, replacing_at, SeesNames}
+use Rattle.mgs_core.specs.Turns.{IsWithin}
 use Rattle.mgs_core.proofs.Stepped.{acts_same, kept_none, kept_same, none_stays}
 
 -- what each byte comes to, by what it asks
-abbrev pub keyed_turn : model.Own → ReplaceKey → Turn
-keyed_turn own keys.Replaces = replacing own ReplaceMatch
-keyed_turn own keys.ReplacesLast = replacing own ReplaceLast
-keyed_turn own keys.Skips = Do own (Run (Move SkipMatch) None own.input)
-keyed_turn own keys.ReplacesAll = Keep (record own { todo = Replace_all ∷ own.todo })
-keyed_turn own keys.Ends = Keep (record own { echo = Replaced own.count; mode = Plain; input = []; old = []; count = 0 })
-keyed_turn own keys.Quits = Keep (failed_own Quitting own)
-keyed_turn own keys.Other = Keep own
+abbrev pub keyed_turn : model.State → ReplaceKey → Turn
+keyed_turn state keys.Replaces = replacing state ReplaceMatch
+keyed_turn state keys.ReplacesLast = replacing state ReplaceLast
+keyed_turn state keys.Skips = Do state (Run (Move SkipMatch) None state.input)
+keyed_turn state keys.ReplacesAll = Keep (record state { todo = Replace_all ∷ state.todo })
+keyed_turn state keys.Ends = Keep (record state { echo = Replaced state.count; mode = Plain; input = []; old = []; count = 0 })
+keyed_turn state keys.Quits = Keep (failed_state Quitting state)
+keyed_turn state keys.Other = Keep state
 
-turn_keyed : (own : model.Own) (byte : ℕ) → replace_turn own byte ≡ keyed_turn own (replace_key byte)
-turn_keyed own byte = by ((byte == 121) || (byte == 32)) (byte == 46) ((byte == 110) || (byte == 127)) (byte == 33) ((byte == 113) || (byte == 13)) (byte == 7)
+turn_keyed : (state : model.State) (byte : ℕ) → replace_turn state byte ≡ keyed_turn state (replace_key byte)
+turn_keyed state byte = by ((byte == 121) || (byte == 32)) (byte == 46) ((byte == 110) || (byte == 127)) (byte == 33) ((byte == 113) || (byte == 13)) (byte == 7)
   where
-    by : (a b c e f g : Bool) → cond a (keyed_turn own keys.Replaces) (cond b (keyed_turn own keys.ReplacesLast) (cond c (keyed_turn own keys.Skips) (cond e (keyed_turn own keys.ReplacesAll) (cond f (keyed_turn own keys.Ends) (cond g (keyed_turn own keys.Quits) (keyed_turn own keys.Other)))))) ≡ keyed_turn own (cond a keys.Replaces (cond b keys.ReplacesLast (cond c keys.Skips (cond e keys.ReplacesAll (cond f keys.Ends (cond g keys.Quits keys.Other))))))
+    by : (a b c e f g : Bool) → cond a (keyed_turn state keys.Replaces) (cond b (keyed_turn state keys.ReplacesLast) (cond c (keyed_turn state keys.Skips) (cond e (keyed_turn state keys.ReplacesAll) (cond f (keyed_turn state keys.Ends) (cond g (keyed_turn state keys.Quits) (keyed_turn state keys.Other)))))) ≡ keyed_turn state (cond a keys.Replaces (cond b keys.ReplacesLast (cond c keys.Skips (cond e keys.ReplacesAll (cond f keys.Ends (cond g keys.Quits keys.Other))))))
     by true b c e f g = refl
     by false true c e f g = refl
     by false false true e f g = refl
@@ -62,7 +63,7 @@ left_all old todo alone is = record {
   behind = λ e. ap are_behind is ∙ alone.played;
 }
 
-module _ (d : Directory) (ks : List MarkedBuffer) (y new : Session) (name : List ℕ) (origin anchor : ℕ) (r : Replacing) (byte : ℕ) (alone : IsAlone y.own.player) where
+module _ (d : Directory) (ks : List MarkedBuffer) (y new : Session) (name : List ℕ) (origin anchor : ℕ) (r : Replacing) (byte : ℕ) (alone : IsAlone y.state.player) where
   abbrev pub s : Search
   s = replacing_at name origin anchor r
 
@@ -72,45 +73,45 @@ module _ (d : Directory) (ks : List MarkedBuffer) (y new : Session) (name : List
   abbrev x : Session
   x = searching s z
 
-  abbrev own : model.Own
-  own = record (own_of x.own) { echo = Silent }
+  abbrev state : model.State
+  state = record (state_of x.state) { echo = Silent }
 
-  comes : (v : View) (k e : ReplaceKey) → k ≡ replace_key byte → k ≡ e → own_turn v x.own byte ≡ keyed_turn own e
-  comes v k e of_byte is = turn_keyed own byte ∙ ap (keyed_turn own) (sym of_byte ∙ is)
+  comes : (v : View) (k e : ReplaceKey) → k ≡ replace_key byte → k ≡ e → state_turn v x.state byte ≡ keyed_turn state e
+  comes v k e of_byte is = turn_keyed state byte ∙ ap (keyed_turn state) (sym of_byte ∙ is)
 
   -- it goes on
   pub replace_other : (k : ReplaceKey) → k ≡ replace_key byte → k ≡ keys.Other → new ≡ searching s (told Silent (unsearched y)) → IsByteStep d ks (searching s (unsearched y)) new byte befores.Plain Kept
-  replace_other k of_byte e is = kept_same (SeesNames d ks x.user) (λ v. own_turn v x.own byte) x new (searching s (told Silent z)) is refl (λ bs. refl) alone (λ v sees. comes v k keys.Other of_byte e) refl
+  replace_other k of_byte e is = kept_same (SeesNames d ks x.user) (λ v. state_turn v x.state byte) x new (searching s (told Silent z)) is refl (λ bs. refl) alone (λ v sees. comes v k keys.Other of_byte e) refl
 
-  pub replace_every : (held : Session) (k : ReplaceKey) → k ≡ replace_key byte → k ≡ keys.ReplacesAll → 0 < length r.pattern → held ≡ searching s (told Silent (unsearched y)) → new ≡ playing_as (replacing_all held.own.player) held → IsByteStep d ks (searching s (unsearched y)) new byte befores.Plain Kept
+  pub replace_every : (held : Session) (k : ReplaceKey) → k ≡ replace_key byte → k ≡ keys.ReplacesAll → 0 < length r.pattern → held ≡ searching s (told Silent (unsearched y)) → new ≡ playing_as (replacing_all held.state.player) held → IsByteStep d ks (searching s (unsearched y)) new byte befores.Plain Kept
   replace_every held k of_byte e some is all =
-      let it : Session = playing_as (replacing_all y.own.player) (searching s (told Silent z)) in
-      subst (λ (w : Session). IsByteStep d ks x w byte befores.Plain Kept) (sym (all ∙ ap (λ (w : Session). playing_as (replacing_all w.own.player) w) is))
-      (record { own = refl; stays = λ bs. refl; turn = λ v sees. comes v k keys.ReplacesAll of_byte e; left = left_all x.own.player it.own.player.todo alone refl; fit = λ h. (refl, some) })
+      let it : Session = playing_as (replacing_all y.state.player) (searching s (told Silent z)) in
+      subst (λ (w : Session). IsByteStep d ks x w byte befores.Plain Kept) (sym (all ∙ ap (λ (w : Session). playing_as (replacing_all w.state.player) w) is))
+      (record { state = refl; stays = λ bs. refl; turn = λ v sees. comes v k keys.ReplacesAll of_byte e; left = left_all x.state.player it.state.player.todo alone refl; fit = λ h. (refl, some) })
 
   pub replace_ends : (k : ReplaceKey) → k ≡ replace_key byte → k ≡ keys.Ends → y ≡ unsearched y → new ≡ told (Replaced r.count) (unprompted y) → IsByteStep d ks (searching s (unsearched y)) new byte befores.Plain Kept
   replace_ends k of_byte e still is =
       let it : Session = told (Replaced r.count) (unprompted z) in
-      kept_same (SeesNames d ks x.user) (λ v. own_turn v x.own byte) x new it (is ∙ ap (λ (w : Session). told (Replaced r.count) (unprompted w)) still) refl (none_stays x.own it.own refl) alone (λ v sees. comes v k keys.Ends of_byte e) refl
+      kept_same (SeesNames d ks x.user) (λ v. state_turn v x.state byte) x new it (is ∙ ap (λ (w : Session). told (Replaced r.count) (unprompted w)) still) refl (none_stays x.state it.state refl) alone (λ v sees. comes v k keys.Ends of_byte e) refl
 
   pub replace_quits : (k : ReplaceKey) → k ≡ replace_key byte → k ≡ keys.Quits → y ≡ unsearched y → new ≡ failed Quitting y → IsByteStep d ks (searching s (unsearched y)) new byte befores.Plain Kept
   replace_quits k of_byte e still is =
-      kept_none (SeesNames d ks x.user) (λ v. own_turn v x.own byte) x new (failed Quitting z) (is ∙ ap (failed Quitting) still) refl (none_stays x.own (failed Quitting z).own refl) (λ v sees. comes v k keys.Quits of_byte e) refl
+      kept_none (SeesNames d ks x.user) (λ v. state_turn v x.state byte) x new (failed Quitting z) (is ∙ ap (failed Quitting) still) refl (none_stays x.state (failed Quitting z).state refl) (λ v sees. comes v k keys.Quits of_byte e) refl
 
-  pub replace_skips : (b : Before) (k : ReplaceKey) → k ≡ replace_key byte → k ≡ keys.Skips → new ≡ searching s (told Silent (unsearched y)) → IsByteStep d ks (searching s (unsearched y)) new byte b (Acts deeds.Skip)
+  pub replace_skips : (b : Before) (k : ReplaceKey) → k ≡ replace_key byte → k ≡ keys.Skips → new ≡ searching s (told Silent (unsearched y)) → IsByteStep d ks (searching s (unsearched y)) new byte b (Acts byte_acts.Skip)
   replace_skips b k of_byte e is =
-      acts_same (SeesNames d ks x.user) (λ v. own_turn v x.own byte) x new (searching s (told Silent z)) is refl (λ bs. refl) b deeds.Skip alone refl tt (λ v sees. comes v k keys.Skips of_byte e) refl (λ wants. cc) (λ wants. cc) (λ h. cc)
+      acts_same (SeesNames d ks x.user) (λ v. state_turn v x.state byte) x new (searching s (told Silent z)) is refl (λ bs. refl) b byte_acts.Skip alone refl tt (λ v sees. comes v k keys.Skips of_byte e) refl (λ wants. cc) (λ wants. cc) (λ h. cc)
 
   -- a match is replaced
   abbrev replaced_turn : (last : Bool) → Turn
-  replaced_turn last = Do own (deed_act own befores.Plain (deeds.Replace last))
+  replaced_turn last = Do state (model_act state befores.Plain (byte_acts.Replace last))
 
-  replaces_step : (b : Before) (last : Bool) → ((v : View) → own_turn v x.own byte ≡ replaced_turn last) → new ≡ searching s (told Silent z) → IsByteStep d ks x new byte b (Acts (deeds.Replace last))
+  replaces_step : (b : Before) (last : Bool) → ((v : View) → state_turn v x.state byte ≡ replaced_turn last) → new ≡ searching s (told Silent z) → IsByteStep d ks x new byte b (Acts (byte_acts.Replace last))
   replaces_step b last turn is =
-      acts_same (SeesNames d ks x.user) (λ v. own_turn v x.own byte) x new (searching s (told Silent z)) is refl (λ bs. refl) b (deeds.Replace last) alone refl tt (λ v sees. turn v) refl (λ wants. refl) (λ wants. refl) (λ h. cc)
+      acts_same (SeesNames d ks x.user) (λ v. state_turn v x.state byte) x new (searching s (told Silent z)) is refl (λ bs. refl) b (byte_acts.Replace last) alone refl tt (λ v sees. turn v) refl (λ wants. refl) (λ wants. refl) (λ h. cc)
 
-  pub replace_one : (b : Before) (k : ReplaceKey) → k ≡ replace_key byte → k ≡ keys.Replaces → new ≡ searching s (told Silent (unsearched y)) → IsByteStep d ks (searching s (unsearched y)) new byte b (Acts (deeds.Replace false))
+  pub replace_one : (b : Before) (k : ReplaceKey) → k ≡ replace_key byte → k ≡ keys.Replaces → new ≡ searching s (told Silent (unsearched y)) → IsByteStep d ks (searching s (unsearched y)) new byte b (Acts (byte_acts.Replace false))
   replace_one b k of_byte e is = replaces_step b false (λ v. comes v k keys.Replaces of_byte e) is
 
-  pub replace_last : (b : Before) (k : ReplaceKey) → k ≡ replace_key byte → k ≡ keys.ReplacesLast → new ≡ searching s (told Silent (unsearched y)) → IsByteStep d ks (searching s (unsearched y)) new byte b (Acts (deeds.Replace true))
+  pub replace_last : (b : Before) (k : ReplaceKey) → k ≡ replace_key byte → k ≡ keys.ReplacesLast → new ≡ searching s (told Silent (unsearched y)) → IsByteStep d ks (searching s (unsearched y)) new byte b (Acts (byte_acts.Replace true))
   replace_last b k of_byte e is = replaces_step b true (λ v. comes v k keys.ReplacesLast of_byte e) is

@@ -9,7 +9,7 @@ use Rattle.mgs_model.specs.View.{View}
 use Rattle.mgs_model.specs.Outcome.{Run}
 use Rattle.mgs_model.specs.Searching.{Sought, directed, dropped, lengthened, read_byte, shortened}
 use Rattle.mgs_model.specs.Turns.{Do, pattern_turn, sought_byte, sought_turn, used}
-use Rattle.mgs_model.specs.Events.{refused_own}
+use Rattle.mgs_model.specs.Events.{refused_state}
 use Rattle.mgs_model.specs.declared.message.Message.TheVariants.{Silent}
 use Rattle.mgs_model.specs.declared.search.Direction.{Direction}
 use Rattle.mgs_model.specs.declared.search.Direction.TheVariants.{Forward, Backward}
@@ -23,19 +23,19 @@ use Rattle.mgs_model.specs.declared.sequence.Sequence.TheVariants.{Whole, Begun,
 use Rattle.mgs_buffers.specs.MarkedBuffer.{MarkedBuffer}
 use Rattle.mgs_maps.specs.Held.{Held, held_character, nothing_held}
 use Rattle.mgs_mini.specs.Typing.{PromptInput}
-use Rattle.mgs_session.specs.declared.Own.{Own}
+use Rattle.mgs_session.specs.declared.State.{State}
 use Rattle.mgs_session.specs.declared.search.Search.{Search}
 use Rattle.mgs_session.specs.declared.Session.{Session}
 use Rattle.mgs_session.specs.Seeking.{search_left, searching, unsearched}
 use Rattle.mgs_session.specs.Sessions.{reading, told, unbound}
-use Rattle.mgs_world.specs.Worlds.{aim_mode, mode_in, own_of, search_of}
-use Rattle.mgs_core.specs.declared.deeds.Before.{Before}
-use Rattle.mgs_core.specs.declared.deeds.Before.TheVariants as befores
-use Rattle.mgs_core.specs.declared.deeds.Deed.TheVariants as deeds
+use Rattle.mgs_world.specs.Worlds.{aim_mode, mode_in, state_of, search_of}
+use Rattle.mgs_core.specs.declared.byte_acts.Before.{Before}
+use Rattle.mgs_core.specs.declared.byte_acts.Before.TheVariants as befores
+use Rattle.mgs_core.specs.declared.byte_acts.ByteAct.TheVariants as byte_acts
 use Rattle.mgs_core.specs.declared.keying.ByteStep.{ByteStep}
 use Rattle.mgs_core.specs.declared.keying.ByteStep.TheVariants.{Kept, Failed, Ends, Acts}
-use Rattle.mgs_core.specs.Prompted.{own_turn}
-use Rattle.mgs_core.specs.Stepped.{IsAlone, IsByteStep, SearchStays, finding, is_keyed, SeesNames}
+use Rattle.mgs_core.specs.Prompted.{state_turn}
+use Rattle.mgs_core.specs.ByteSteps.{IsAlone, IsByteStep, SearchStays, finding, is_keyed, SeesNames}
 use Rattle.mgs_session.specs.declared.search.Aim.{Aim}
 use Rattle.mgs_session.specs.declared.search.Aim.TheVariants.{Find, Replace}
 use Rattle.mgs_core.proofs.Stepped.{acts_same, kept_none, kept_same, none_stays}
@@ -81,41 +81,41 @@ sought_over last s q byte k e over = by (is_graphic byte) (byte == 19) (byte == 
     by false false false false false false e = sym (same_sought s q step.Leaves k e)
 
 -- a search that was taken out is put back
-pub searched_step : (d : Directory) (ks : List MarkedBuffer) (y taken new : Session) (s : Search) (byte : ℕ) (b : Before) (k : ByteStep) → y.own.search ≡ Some s → taken ≡ unsearched y → IsByteStep d ks (searching s taken) new byte b k → IsByteStep d ks y new byte b k
+pub searched_step : (d : Directory) (ks : List MarkedBuffer) (y taken new : Session) (s : Search) (byte : ℕ) (b : Before) (k : ByteStep) → y.state.search ≡ Some s → taken ≡ unsearched y → IsByteStep d ks (searching s taken) new byte b k → IsByteStep d ks y new byte b k
 searched_step d ks y taken new s byte b k is took t =
     subst (λ (z : Session). IsByteStep d ks z new byte b k)
-    (ap (searching s) took ∙ sym (ap (λ (o : Option Search). record y { own = record y.own { search = o } }) is)) t
+    (ap (searching s) took ∙ sym (ap (λ (o : Option Search). record y { state = record y.state { search = o } }) is)) t
 
 -- one that does not search
-pub unsearched_same : (y : Session) → y.own.search ≡ None → y ≡ unsearched y
-unsearched_same y none = ap (λ (o : Option Search). record y { own = record y.own { search = o } }) none
+pub unsearched_same : (y : Session) → y.state.search ≡ None → y ≡ unsearched y
+unsearched_same y none = ap (λ (o : Option Search). record y { state = record y.state { search = o } }) none
 
 -- WHAT COMES NEXT
 
 -- in a session that is searching
 module _ (y : Session) (name : List ℕ) (origin anchor : ℕ) (f : Sought) (byte : ℕ) where
-  abbrev it : Own
-  it = (searching (finding name origin anchor f) (unsearched y)).own
+  abbrev it : State
+  it = (searching (finding name origin anchor f) (unsearched y)).state
 
-  abbrev then_own : model.Own
-  then_own = record (own_of it) { echo = Silent }
+  abbrev then_state : model.State
+  then_state = record (state_of it) { echo = Silent }
 
   abbrev is_past : Bool
-  is_past = is_character_byte y.own.keyboard.keys byte
+  is_past = is_character_byte y.state.keyboard.keys byte
 
-  by_character : (v : View) (a : Bool) → is_past ≡ a → own_turn v it byte ≡ cond a (pattern_turn then_own f byte (character_read then_own.keys byte)) (sought_byte then_own f byte)
-  by_character v a is = ap (λ (b : Bool). cond b (pattern_turn then_own f byte (character_read then_own.keys byte)) (sought_byte then_own f byte)) is
+  by_character : (v : View) (a : Bool) → is_past ≡ a → state_turn v it byte ≡ cond a (pattern_turn then_state f byte (character_read then_state.keys byte)) (sought_byte then_state f byte)
+  by_character v a is = ap (λ (b : Bool). cond b (pattern_turn then_state f byte (character_read then_state.keys byte)) (sought_byte then_state f byte)) is
 
   -- a byte of ASCII
-  comes : (v : View) (g : Sought) (k : SearchStep) → is_past ≡ false → read_byte y.own.pattern f byte ≡ (g, k) → own_turn v it byte ≡ sought_turn then_own byte g k
-  comes v g k ascii read = by_character v false ascii ∙ ap (λ (p : Sought × SearchStep). sought_turn then_own byte p.0 p.1) read
+  comes : (v : View) (g : Sought) (k : SearchStep) → is_past ≡ false → read_byte y.state.pattern f byte ≡ (g, k) → state_turn v it byte ≡ sought_turn then_state byte g k
+  comes v g k ascii read = by_character v false ascii ∙ ap (λ (p : Sought × SearchStep). sought_turn then_state byte p.0 p.1) read
 
   -- a byte of a character
-  comes_past : (v : View) (q : Sequence) → is_past ≡ true → character_read y.own.keyboard.keys byte ≡ q → own_turn v it byte ≡ pattern_turn then_own f byte q
-  comes_past v q is read = by_character v true is ∙ ap (pattern_turn then_own f byte) read
+  comes_past : (v : View) (q : Sequence) → is_past ≡ true → character_read y.state.keyboard.keys byte ≡ q → state_turn v it byte ≡ pattern_turn then_state f byte q
+  comes_past v q is read = by_character v true is ∙ ap (pattern_turn then_state f byte) read
 
 -- the session that was searching
-module _ (d : Directory) (ks : List MarkedBuffer) (y new : Session) (name : List ℕ) (origin anchor : ℕ) (f g : Sought) (byte : ℕ) (b : Before) (alone : IsAlone y.own.player) where
+module _ (d : Directory) (ks : List MarkedBuffer) (y new : Session) (name : List ℕ) (origin anchor : ℕ) (f g : Sought) (byte : ℕ) (b : Before) (alone : IsAlone y.state.player) where
   abbrev pub s : Search
   s = finding name origin anchor f
 
@@ -128,73 +128,73 @@ module _ (d : Directory) (ks : List MarkedBuffer) (y new : Session) (name : List
   abbrev x : Session
   x = searching s z
 
-  abbrev own : model.Own
-  own = record (own_of x.own) { echo = Silent }
+  abbrev state : model.State
+  state = record (state_of x.state) { echo = Silent }
 
   -- it is over
-  pub search_ends : is_character_byte y.own.keyboard.keys byte ≡ false → read_byte y.own.pattern f byte ≡ (g, step.Ends) → new ≡ search_left g.pattern (unsearched y) → IsByteStep d ks (searching s (unsearched y)) new byte b Kept
+  pub search_ends : is_character_byte y.state.keyboard.keys byte ≡ false → read_byte y.state.pattern f byte ≡ (g, step.Ends) → new ≡ search_left g.pattern (unsearched y) → IsByteStep d ks (searching s (unsearched y)) new byte b Kept
   search_ends ascii read is =
-      let same : g ≡ f = sought_over z.own.pattern f g byte step.Ends read tt in
+      let same : g ≡ f = sought_over z.state.pattern f g byte step.Ends read tt in
       let it : Session = search_left f.pattern z in
-      kept_same (SeesNames d ks x.user) (λ v. own_turn v x.own byte) x new it (is ∙ ap (λ (p : Sought). search_left p.pattern z) same) refl (none_stays x.own it.own refl) alone
-      (λ v sees. comes y name origin anchor f byte v g step.Ends ascii read ∙ ap (λ (q : Sought). sought_turn own byte q step.Ends) same) refl
+      kept_same (SeesNames d ks x.user) (λ v. state_turn v x.state byte) x new it (is ∙ ap (λ (p : Sought). search_left p.pattern z) same) refl (none_stays x.state it.state refl) alone
+      (λ v sees. comes y name origin anchor f byte v g step.Ends ascii read ∙ ap (λ (q : Sought). sought_turn state byte q step.Ends) same) refl
 
   -- or is given up
-  pub search_quits : is_character_byte y.own.keyboard.keys byte ≡ false → read_byte y.own.pattern f byte ≡ (g, step.Quits) → new ≡ searching r (told Silent (unsearched y)) → IsByteStep d ks (searching s (unsearched y)) new byte b (Acts deeds.QuitSearch)
+  pub search_quits : is_character_byte y.state.keyboard.keys byte ≡ false → read_byte y.state.pattern f byte ≡ (g, step.Quits) → new ≡ searching r (told Silent (unsearched y)) → IsByteStep d ks (searching s (unsearched y)) new byte b (Acts byte_acts.QuitSearch)
   search_quits ascii read is =
-      let same : g ≡ f = sought_over z.own.pattern f g byte step.Quits read tt in
-      acts_same (SeesNames d ks x.user) (λ v. own_turn v x.own byte) x new (searching s (told Silent z)) (is ∙ ap (λ (h : Sought). searching (finding name origin anchor h) (told Silent z)) same) refl (λ bs. refl) b deeds.QuitSearch alone tt tt
+      let same : g ≡ f = sought_over z.state.pattern f g byte step.Quits read tt in
+      acts_same (SeesNames d ks x.user) (λ v. state_turn v x.state byte) x new (searching s (told Silent z)) (is ∙ ap (λ (h : Sought). searching (finding name origin anchor h) (told Silent z)) same) refl (λ bs. refl) b byte_acts.QuitSearch alone tt tt
       (λ v sees. comes y name origin anchor f byte v g step.Quits ascii read) refl (λ wants. cc) (λ wants. cc) (λ h. cc)
 
   -- or does a step, with this half read
-  abbrev own_read : Held → model.Own
-  own_read h = record (own_of (reading h x).own) { echo = Silent }
+  abbrev state_read : Held → model.State
+  state_read h = record (state_of (reading h x).state) { echo = Silent }
 
-  steps_on : (h : Held) (k : SearchStep) → ((v : View) → own_turn v x.own byte ≡ Do (record (own_read h) { mode = Searching g.direction g.failing; input = g.pattern }) (Run (Move (SearchOn g.direction k)) None g.pattern)) → new ≡ searching r (told Silent (reading h (unsearched y)))
-      → IsByteStep d ks (searching s (unsearched y)) new byte b (Acts (deeds.Seek k))
+  steps_on : (h : Held) (k : SearchStep) → ((v : View) → state_turn v x.state byte ≡ Do (record (state_read h) { mode = Searching g.direction g.failing; input = g.pattern }) (Run (Move (SearchOn g.direction k)) None g.pattern)) → new ≡ searching r (told Silent (reading h (unsearched y)))
+      → IsByteStep d ks (searching s (unsearched y)) new byte b (Acts (byte_acts.Seek k))
   steps_on h k turn is =
-      acts_same (SeesNames d ks x.user) (λ v. own_turn v x.own byte) x new (searching r (told Silent (reading h z))) is refl (λ bs. refl) b (deeds.Seek k) alone refl tt (λ v sees. turn v) refl (λ wants. cc) (λ wants. cc) (λ h. cc)
+      acts_same (SeesNames d ks x.user) (λ v. state_turn v x.state byte) x new (searching r (told Silent (reading h z))) is refl (λ bs. refl) b (byte_acts.Seek k) alone refl tt (λ v sees. turn v) refl (λ wants. cc) (λ wants. cc) (λ h. cc)
 
-  sought_on : (k : SearchStep) → (k ≡ step.Ends → ⊥) → (k ≡ step.Quits → ⊥) → (k ≡ step.Leaves → ⊥) → sought_turn own byte g k ≡ Do (record own { mode = Searching g.direction g.failing; input = g.pattern }) (Run (Move (SearchOn g.direction k)) None g.pattern)
+  sought_on : (k : SearchStep) → (k ≡ step.Ends → ⊥) → (k ≡ step.Quits → ⊥) → (k ≡ step.Leaves → ⊥) → sought_turn state byte g k ≡ Do (record state { mode = Searching g.direction g.failing; input = g.pattern }) (Run (Move (SearchOn g.direction k)) None g.pattern)
   sought_on step.Ends ends quits leaves = absurd (ends refl)
   sought_on step.Quits ends quits leaves = absurd (quits refl)
   sought_on step.Leaves ends quits leaves = absurd (leaves refl)
   sought_on _ ends quits leaves = refl
 
   -- as a byte of ASCII asks
-  pub search_on : (k : SearchStep) → is_character_byte y.own.keyboard.keys byte ≡ false → (k ≡ step.Ends → ⊥) → (k ≡ step.Quits → ⊥) → (k ≡ step.Leaves → ⊥) → read_byte y.own.pattern f byte ≡ (g, k) → new ≡ searching r (told Silent (unsearched y)) → IsByteStep d ks (searching s (unsearched y)) new byte b (Acts (deeds.Seek k))
-  search_on k ascii ends quits leaves read is = steps_on y.own.keyboard k (λ v. comes y name origin anchor f byte v g k ascii read ∙ sought_on k ends quits leaves) is
+  pub search_on : (k : SearchStep) → is_character_byte y.state.keyboard.keys byte ≡ false → (k ≡ step.Ends → ⊥) → (k ≡ step.Quits → ⊥) → (k ≡ step.Leaves → ⊥) → read_byte y.state.pattern f byte ≡ (g, k) → new ≡ searching r (told Silent (unsearched y)) → IsByteStep d ks (searching s (unsearched y)) new byte b (Acts (byte_acts.Seek k))
+  search_on k ascii ends quits leaves read is = steps_on y.state.keyboard k (λ v. comes y name origin anchor f byte v g k ascii read ∙ sought_on k ends quits leaves) is
 
   -- or a character with its last byte
-  pub search_puts : (c : ℕ) (k : SearchStep) → is_character_byte y.own.keyboard.keys byte ≡ true → character_read y.own.keyboard.keys byte ≡ Whole c → k ≡ step.FromAnchor → g ≡ record f { pattern = lengthened f.pattern c } → new ≡ searching r (told Silent (reading nothing_held (unsearched y)))
-      → IsByteStep d ks (searching s (unsearched y)) new byte b (Acts (deeds.Seek k))
+  pub search_puts : (c : ℕ) (k : SearchStep) → is_character_byte y.state.keyboard.keys byte ≡ true → character_read y.state.keyboard.keys byte ≡ Whole c → k ≡ step.FromAnchor → g ≡ record f { pattern = lengthened f.pattern c } → new ≡ searching r (told Silent (reading nothing_held (unsearched y)))
+      → IsByteStep d ks (searching s (unsearched y)) new byte b (Acts (byte_acts.Seek k))
   search_puts c k is read seeks put held =
-      subst (λ (e : SearchStep). IsByteStep d ks (searching s (unsearched y)) new byte b (Acts (deeds.Seek e))) (sym seeks)
-      (steps_on nothing_held step.FromAnchor (λ v. comes_past y name origin anchor f byte v (Whole c) is read ∙ sym (ap (λ (q : Sought). sought_turn (used own) byte q step.FromAnchor) put)) held)
+      subst (λ (e : SearchStep). IsByteStep d ks (searching s (unsearched y)) new byte b (Acts (byte_acts.Seek e))) (sym seeks)
+      (steps_on nothing_held step.FromAnchor (λ v. comes_past y name origin anchor f byte v (Whole c) is read ∙ sym (ap (λ (q : Sought). sought_turn (used state) byte q step.FromAnchor) put)) held)
 
   -- more of its bytes are to come
-  pub search_reads : is_character_byte y.own.keyboard.keys byte ≡ true → character_read y.own.keyboard.keys byte ≡ Begun → new ≡ searching s (told Silent (reading (held_character y.own.keyboard byte Begun) (unsearched y))) → IsByteStep d ks (searching s (unsearched y)) new byte b Kept
+  pub search_reads : is_character_byte y.state.keyboard.keys byte ≡ true → character_read y.state.keyboard.keys byte ≡ Begun → new ≡ searching s (told Silent (reading (held_character y.state.keyboard byte Begun) (unsearched y))) → IsByteStep d ks (searching s (unsearched y)) new byte b Kept
   search_reads is read held =
-      kept_same (SeesNames d ks x.user) (λ v. own_turn v x.own byte) x new (searching s (told Silent (reading (held_character y.own.keyboard byte Begun) z))) held refl (λ bs. refl) alone (λ v sees. comes_past y name origin anchor f byte v Begun is read) refl
+      kept_same (SeesNames d ks x.user) (λ v. state_turn v x.state byte) x new (searching s (told Silent (reading (held_character y.state.keyboard byte Begun) z))) held refl (λ bs. refl) alone (λ v sees. comes_past y name origin anchor f byte v Begun is read) refl
 
   -- or there is none, which is told
-  pub search_breaks : is_character_byte y.own.keyboard.keys byte ≡ true → character_read y.own.keyboard.keys byte ≡ Broken → new ≡ unbound (searching s (reading nothing_held (unsearched y))) → IsByteStep d ks (searching s (unsearched y)) new byte b Kept
+  pub search_breaks : is_character_byte y.state.keyboard.keys byte ≡ true → character_read y.state.keyboard.keys byte ≡ Broken → new ≡ unbound (searching s (reading nothing_held (unsearched y))) → IsByteStep d ks (searching s (unsearched y)) new byte b Kept
   search_breaks is read held =
-      kept_none (SeesNames d ks x.user) (λ v. own_turn v x.own byte) x new (unbound (searching s (reading nothing_held z))) held refl (λ bs. refl) (λ v sees. comes_past y name origin anchor f byte v Broken is read) refl
+      kept_none (SeesNames d ks x.user) (λ v. state_turn v x.state byte) x new (unbound (searching s (reading nothing_held z))) held refl (λ bs. refl) (λ v sees. comes_past y name origin anchor f byte v Broken is read) refl
 
 -- what the session has read of it, which does not search
-pub character_held : (y k : Session) (h : Held) (q e : Sequence) (byte : ℕ) → y ≡ unsearched y → k ≡ reading h y → h ≡ held_character y.own.keyboard byte q → q ≡ e → k ≡ reading (held_character y.own.keyboard byte e) (unsearched y)
+pub character_held : (y k : Session) (h : Held) (q e : Sequence) (byte : ℕ) → y ≡ unsearched y → k ≡ reading h y → h ≡ held_character y.state.keyboard byte q → q ≡ e → k ≡ reading (held_character y.state.keyboard byte e) (unsearched y)
 character_held y k h q e byte still is held read =
     is
-    ∙ ap (λ (g : Held). reading g y) (held ∙ ap (held_character y.own.keyboard byte) read)
-    ∙ ap (reading (held_character y.own.keyboard byte e)) still
+    ∙ ap (λ (g : Held). reading g y) (held ∙ ap (held_character y.state.keyboard byte) read)
+    ∙ ap (reading (held_character y.state.keyboard byte e)) still
 
 -- A BYTE THAT IS NONE OF ITS OWN: the search is left, and the byte is a key
 
 -- a step of a session that does not search leaves none
-stays_none : (old new : Own) → old.search ≡ None → SearchStays old new → new.search ≡ None
+stays_none : (old new : State) → old.search ≡ None → SearchStays old new → new.search ≡ None
 stays_none old new none stays =
-    by new.search new.prompt (stays [] ∙ ap (λ (o : Option Search). cond (searches (own_of new).mode) (search_of [] o) None) none)
+    by new.search new.prompt (stays [] ∙ ap (λ (o : Option Search). cond (searches (state_of new).mode) (search_of [] o) None) none)
   where
     aims : (g : Search) (a : Aim) → search_of [] (Some g) ≡ cond (searches (aim_mode a)) None None → Path (Option Search) (Some g) None
     aims g (Find f) e = cc
@@ -204,7 +204,7 @@ stays_none old new none stays =
     by None p e = refl
     by (Some g) p e = aims g g.aim e
 
-module _ (d : Directory) (ks : List MarkedBuffer) (y new : Session) (name : List ℕ) (origin anchor : ℕ) (f : Sought) (last : List ℕ) (byte : ℕ) (same : last ≡ y.own.pattern) (ascii : is_character_byte y.own.keyboard.keys byte ≡ false) (read : read_byte y.own.pattern f byte ≡ (f, step.Leaves)) where
+module _ (d : Directory) (ks : List MarkedBuffer) (y new : Session) (name : List ℕ) (origin anchor : ℕ) (f : Sought) (last : List ℕ) (byte : ℕ) (same : last ≡ y.state.pattern) (ascii : is_character_byte y.state.keyboard.keys byte ≡ false) (read : read_byte y.state.pattern f byte ≡ (f, step.Leaves)) where
   abbrev pub was : Search
   was = finding name origin anchor f
 
@@ -214,16 +214,16 @@ module _ (d : Directory) (ks : List MarkedBuffer) (y new : Session) (name : List
   abbrev left_one : Session
   left_one = search_left f.pattern (unsearched y)
 
-  key_comes : (v : View) → own_turn v w.own byte ≡ own_turn v left_one.own byte
+  key_comes : (v : View) → state_turn v w.state byte ≡ state_turn v left_one.state byte
   key_comes v = comes y name origin anchor f byte v f step.Leaves ascii read
 
-  left_stays : SearchStays left_one.own new.own → SearchStays w.own new.own
-  left_stays stays = none_stays w.own new.own (stays_none left_one.own new.own refl stays)
+  left_stays : SearchStays left_one.state new.state → SearchStays w.state new.state
+  left_stays stays = none_stays w.state new.state (stays_none left_one.state new.state refl stays)
 
   key_left : (k : ByteStep) → is_keyed k ≡ true → IsByteStep d ks left_one new byte befores.Plain k → IsByteStep d ks w new byte (befores.Search was last) k
-  key_left Kept keyed t = record { own = t.own; stays = left_stays t.stays; turn = λ v sees. key_comes v ∙ t.turn v sees; left = t.left; fit = t.fit }
+  key_left Kept keyed t = record { state = t.state; stays = left_stays t.stays; turn = λ v sees. key_comes v ∙ t.turn v sees; left = t.left; fit = t.fit }
   key_left Failed keyed t = record {
-    own = t.own;
+    state = t.state;
     stays = left_stays t.stays;
     before = t.before;
     act = t.act;
@@ -236,7 +236,7 @@ module _ (d : Directory) (ks : List MarkedBuffer) (y new : Session) (name : List
     told = t.told;
   }
   key_left Ends keyed t = record {
-    own = t.own;
+    state = t.state;
     stays = left_stays t.stays;
     before = t.before;
     argument = t.argument;
@@ -244,8 +244,8 @@ module _ (d : Directory) (ks : List MarkedBuffer) (y new : Session) (name : List
     quiet = t.quiet;
     typed = t.typed;
   }
-  key_left (Acts (deeds.Act a)) keyed t = record {
-    own = t.own;
+  key_left (Acts (byte_acts.Act a)) keyed t = record {
+    state = t.state;
     stays = left_stays t.stays;
     ready = t.ready;
     here = t.here;
@@ -254,8 +254,8 @@ module _ (d : Directory) (ks : List MarkedBuffer) (y new : Session) (name : List
     typed = t.typed;
     left = t.left;
     again = λ wants.
-        ap (λ (o : model.Own). record o { mode = Searching f.direction f.failing; input = f.pattern; old = []; count = 0; pattern = last; keys = [] }) (t.again wants)
-        ∙ ap (λ (p : List ℕ). record (refused_own (own_of w.own)) { pattern = p }) same;
+        ap (λ (o : model.State). record o { mode = Searching f.direction f.failing; input = f.pattern; old = []; count = 0; pattern = last; keys = [] }) (t.again wants)
+        ∙ ap (λ (p : List ℕ). record (refused_state (state_of w.state)) { pattern = p }) same;
     search = λ wants. refl;
     fit = t.fit;
     further = t.further;
@@ -263,7 +263,7 @@ module _ (d : Directory) (ks : List MarkedBuffer) (y new : Session) (name : List
   }
   key_left (Acts _) keyed t = cc
 
-pub search_leaves : (d : Directory) (ks : List MarkedBuffer) (y left new : Session) (name : List ℕ) (origin anchor : ℕ) (f : Sought) (last : List ℕ) (byte : ℕ) (k : ByteStep) → last ≡ y.own.pattern → is_character_byte y.own.keyboard.keys byte ≡ false → read_byte y.own.pattern f byte ≡ (f, step.Leaves) → left ≡ search_left f.pattern (unsearched y) → is_keyed k ≡ true → IsByteStep d ks left new byte befores.Plain k → IsByteStep d ks (searching (finding name origin anchor f) (unsearched y)) new byte (befores.Search (finding name origin anchor f) last) k
+pub search_leaves : (d : Directory) (ks : List MarkedBuffer) (y left new : Session) (name : List ℕ) (origin anchor : ℕ) (f : Sought) (last : List ℕ) (byte : ℕ) (k : ByteStep) → last ≡ y.state.pattern → is_character_byte y.state.keyboard.keys byte ≡ false → read_byte y.state.pattern f byte ≡ (f, step.Leaves) → left ≡ search_left f.pattern (unsearched y) → is_keyed k ≡ true → IsByteStep d ks left new byte befores.Plain k → IsByteStep d ks (searching (finding name origin anchor f) (unsearched y)) new byte (befores.Search (finding name origin anchor f) last) k
 search_leaves d ks y left new name origin anchor f last byte k same ascii read is keyed t = key_left d ks y new name origin anchor f last byte same ascii read k keyed (subst (λ (g : Session). IsByteStep d ks g new byte befores.Plain k) is t)
 
 -- what was read with the search string, as the session has it
@@ -277,9 +277,9 @@ read_again pattern s r byte read =
     ap (λ (q : Sought). read_byte pattern q byte) same ∙ read
 
 -- such a byte leaves the search as it was
-pub foreign_step : (d : Directory) (ks : List MarkedBuffer) (y new : Session) (name : List ℕ) (origin anchor : ℕ) (f g : Sought) (byte : ℕ) (b : Before) (k : ByteStep) → read_byte y.own.pattern f byte ≡ (g, step.Leaves) → IsByteStep d ks (searching (finding name origin anchor g) y) new byte b k → IsByteStep d ks (searching (finding name origin anchor f) y) new byte b k
+pub foreign_step : (d : Directory) (ks : List MarkedBuffer) (y new : Session) (name : List ℕ) (origin anchor : ℕ) (f g : Sought) (byte : ℕ) (b : Before) (k : ByteStep) → read_byte y.state.pattern f byte ≡ (g, step.Leaves) → IsByteStep d ks (searching (finding name origin anchor g) y) new byte b k → IsByteStep d ks (searching (finding name origin anchor f) y) new byte b k
 foreign_step d ks y new name origin anchor f g byte b k read t =
-    subst (λ (h : Sought). IsByteStep d ks (searching (finding name origin anchor h) y) new byte b k) (sought_over y.own.pattern f g byte step.Leaves read tt) t
+    subst (λ (h : Sought). IsByteStep d ks (searching (finding name origin anchor h) y) new byte b k) (sought_over y.state.pattern f g byte step.Leaves read tt) t
 
 -- a session that does not search
 pub still_search : (d : Directory) (ks : List MarkedBuffer) (y new : Session) (s : Search) (byte : ℕ) (b : Before) (k : ByteStep) → y ≡ unsearched y → IsByteStep d ks (searching s (unsearched y)) new byte b k → IsByteStep d ks (searching s y) new byte b k

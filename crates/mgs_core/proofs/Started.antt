@@ -2,13 +2,13 @@
 use Rattle.std.proofs.Common.{◌≡◌, ℕ, Bool, cond, List, [], ◌∷◌, map, map-id, Option, Some, None, refl, sym, ap, ◌∙◌}
 use Rattle.std.specs.List.{flat_map}
 use Rattle.std.specs.Option.{option_map}
-use Rattle.mgs_model.specs.World.{World, Own, Search, Session, find_session, has_id}
+use Rattle.mgs_model.specs.World.{World, State, Search, Session, find_session, has_id}
 use Rattle.mgs_model.specs.View.{View, view, text_in, size_told}
 use Rattle.mgs_model.specs.Outcome.{Act, Run, Outcome, KillPlan, Keep_kill, Arrange, Adjust, Stay, Keep, Keep_mark, Begin, Effect, No_effect}
-use Rattle.mgs_model.specs.Plans.{Finish, failed_own, motion, stays}
-use Rattle.mgs_model.specs.Acts.{Request, Target, acts_at, allowed, around, finished_own, judged, moves, needs, or_else, outcome, permitted, request_judged, target}
+use Rattle.mgs_model.specs.Plans.{Finish, failed_state, motion, stays}
+use Rattle.mgs_model.specs.Acts.{Request, Target, acts_at, allowed, around, finished_state, judged, moves, needs, or_else, outcome, permitted, request_judged, target}
 use Rattle.mgs_model.specs.Apply.{act, applied, apply, change_first, outcome_in, searches, session_after, session_arranged}
-use Rattle.mgs_model.specs.Events.{act_effects, effect_in, own_set, saved_by, with_own}
+use Rattle.mgs_model.specs.Events.{act_effects, effect_in, state_set, saved_by, with_state}
 use Rattle.mgs_model.specs.declared.entry.Decision.{Decision}
 use Rattle.mgs_model.specs.declared.entry.Decision.TheVariants.{Granted, DeniedBy, NotGranted}
 use Rattle.mgs_model.specs.declared.message.Message.TheVariants.{Denied, NoBuffer}
@@ -21,21 +21,21 @@ use Rattle.mgs_store.specs.Stores.{StoreTold, told_more}
 use Rattle.mgs_plan.specs.declared.key_act.KeyAct.{KeyAct}
 use Rattle.mgs_plan.specs.declared.key_act.KeyAct.TheVariants as acts
 use Rattle.mgs_plan.specs.Actions.{act_of}
-use Rattle.mgs_plan.specs.Beginning.{searching_own}
+use Rattle.mgs_plan.specs.Beginning.{searching_state}
 use Rattle.mgs_act.specs.Doing.{ActedBy}
-use Rattle.mgs_core.specs.Steps.{started_by, started_own, started_world}
+use Rattle.mgs_core.specs.KeyActs.{started_by, started_state, started_world}
 
 -- THE ACT, by a session that holds this and has these positions of a search
-module _ (w : World) (id : ℕ) (o : Own) (d : Direction) (n : Option ℕ) (x : Session) (found : find_session id w.sessions ≡ Some x) (stored : Bool) where
+module _ (w : World) (id : ℕ) (o : State) (d : Direction) (n : Option ℕ) (x : Session) (found : find_session id w.sessions ≡ Some x) (stored : Bool) where
   abbrev c : Act
   c = Run (Move (StartSearch d)) n []
 
   -- with this record it is decided
-  abbrev own : Own
-  own = searching_own d o
+  abbrev state : State
+  state = searching_state d o
 
   abbrev put : Option Search → Session → Session
-  put s y = record y { search = s; own = own }
+  put s y = record y { search = s; state = state }
 
   abbrev world : Option Search → World
   world s = record w { sessions = change_first (has_id id) (put s) w.sessions }
@@ -49,7 +49,7 @@ module _ (w : World) (id : ℕ) (o : Own) (d : Direction) (n : Option ℕ) (x : 
 
   outcome_same : (s : Option Search) → outcome (seen s) c stored ≡ outcome (seen None) c stored
   unfolding outcome
-  outcome_same s = ap (λ (e : Decision). permitted own e (allowed (seen None) c stored)) (judged_same s (needs (seen None) c))
+  outcome_same s = ap (λ (e : Decision). permitted state e (allowed (seen None) c stored)) (judged_same s (needs (seen None) c))
 
   outcome_there : (s : Option Search) → outcome_in (world s) id c stored ≡ Some (outcome (seen None) c stored)
   outcome_there s =
@@ -60,26 +60,26 @@ module _ (w : World) (id : ℕ) (o : Own) (d : Direction) (n : Option ℕ) (x : 
   abbrev IsBlind : Outcome → Type 0
   IsBlind o = (s : Option Search) → apply (world s) id o ≡ apply (world None) id o
 
-  blind : (after : Own) (kill : KillPlan) (arrange : Arrange) → (let o : Outcome = record { own = after; kill = kill; arrange = arrange; effect = No_effect } in (s : Option Search) (y : Session) → session_arranged o (put s y) ≡ session_arranged o (put None y)) → (let o : Outcome = record { own = after; kill = kill; arrange = arrange; effect = No_effect } in IsBlind o)
+  blind : (after : State) (kill : KillPlan) (arrange : Arrange) → (let o : Outcome = record { state = after; kill = kill; arrange = arrange; effect = No_effect } in (s : Option Search) (y : Session) → session_arranged o (put s y) ≡ session_arranged o (put None y)) → (let o : Outcome = record { state = after; kill = kill; arrange = arrange; effect = No_effect } in IsBlind o)
   blind after kill arrange same s =
-      let o : Outcome = record { own = after; kill = kill; arrange = arrange; effect = No_effect } in
+      let o : Outcome = record { state = after; kill = kill; arrange = arrange; effect = No_effect } in
       let once : (r : Option Search) → change_first (has_id id) (session_arranged o) (map (session_after No_effect) (world r).sessions) ≡ change_first (has_id id) (λ y. session_arranged o (put None y)) w.sessions =
       λ r.
       ap (change_first (has_id id) (session_arranged o)) (map-id (world r).sessions)
       ∙ change_twice (has_id id) (session_arranged o) (put r) (λ y. session_arranged o (put None y)) (λ y. refl) (same r) w.sessions
       in ap (λ (ys : List Session). record w { sessions = ys }) (once s ∙ sym (once None))
 
-  blind_moves : (t : Option Target) → IsBlind (moves own t (λ (t : Target). motion (StartSearch d) (text_in t.buffer.full) (around (seen None).session n [] t)))
-  blind_moves None = blind (failed_own NoBuffer own) Keep_kill Stay (λ s y. refl)
+  blind_moves : (t : Option Target) → IsBlind (moves state t (λ (t : Target). motion (StartSearch d) (text_in t.buffer.full) (around (seen None).session n [] t)))
+  blind_moves None = blind (failed_state NoBuffer state) Keep_kill Stay (λ s y. refl)
   blind_moves (Some t) =
       let place : ℕ = acts_at t.window.positions (size_told t.buffer.told) in
       let f : Finish = record stays { sought = Begin t.buffer.name place place } in
-      blind (finished_own f own) Keep_kill (Adjust Keep Keep_mark Keep None f.sought) (λ s y. refl)
+      blind (finished_state f state) Keep_kill (Adjust Keep Keep_mark Keep None f.sought) (λ s y. refl)
 
-  blind_permitted : (e : Decision) → IsBlind (permitted own e (allowed (seen None) c stored))
+  blind_permitted : (e : Decision) → IsBlind (permitted state e (allowed (seen None) c stored))
   blind_permitted Granted = blind_moves (target (seen None))
-  blind_permitted (DeniedBy m right) = blind (failed_own (Denied (DeniedBy m right)) own) Keep_kill Stay (λ s y. refl)
-  blind_permitted (NotGranted right) = blind (failed_own (Denied (NotGranted right)) own) Keep_kill Stay (λ s y. refl)
+  blind_permitted (DeniedBy m right) = blind (failed_state (Denied (DeniedBy m right)) state) Keep_kill Stay (λ s y. refl)
+  blind_permitted (NotGranted right) = blind (failed_state (Denied (NotGranted right)) state) Keep_kill Stay (λ s y. refl)
 
   blind_outcome : IsBlind (outcome (seen None) c stored)
   unfolding outcome
@@ -92,23 +92,23 @@ module _ (w : World) (id : ℕ) (o : Own) (d : Direction) (n : Option ℕ) (x : 
   effects_there s = ap effect_in (outcome_there s ∙ sym (outcome_there None))
 
   -- the two worlds in which it may be decided
-  at_once : with_own id (λ was. searching_own d o) w ≡ world x.search
-  at_once = ap (λ (ys : List Session). record w { sessions = ys }) (change_first_found (has_id id) (own_set (λ was. searching_own d o)) (put x.search) x w.sessions found refl)
+  at_once : with_state id (λ was. searching_state d o) w ≡ world x.search
+  at_once = ap (λ (ys : List Session). record w { sessions = ys }) (change_first_found (has_id id) (state_set (λ was. searching_state d o)) (put x.search) x w.sessions found refl)
 
-  then_put : with_own id (searching_own d) (with_own id (λ was. o) w) ≡ world (cond (searches o.mode) x.search None)
+  then_put : with_state id (searching_state d) (with_state id (λ was. o) w) ≡ world (cond (searches o.mode) x.search None)
   then_put =
       ap (λ (ys : List Session). record w { sessions = ys })
-      (change_twice (has_id id) (own_set (searching_own d)) (own_set (λ was. o)) (λ y. own_set (searching_own d) (own_set (λ was. o) y)) (λ y. refl) (λ y. refl) w.sessions
-      ∙ change_first_found (has_id id) (λ y. own_set (searching_own d) (own_set (λ was. o) y)) (put (cond (searches o.mode) x.search None)) x w.sessions found refl)
+      (change_twice (has_id id) (state_set (searching_state d)) (state_set (λ was. o)) (λ y. state_set (searching_state d) (state_set (λ was. o) y)) (λ y. refl) (λ y. refl) w.sessions
+      ∙ change_first_found (has_id id) (λ y. state_set (searching_state d) (state_set (λ was. o) y)) (put (cond (searches o.mode) x.search None)) x w.sessions found refl)
 
-  pub started_act : act (with_own id (searching_own d) (with_own id (λ was. o) w)) id (Run (Move (StartSearch d)) n []) stored ≡ act (with_own id (λ was. searching_own d o) w) id (Run (Move (StartSearch d)) n []) stored
+  pub started_act : act (with_state id (searching_state d) (with_state id (λ was. o) w)) id (Run (Move (StartSearch d)) n []) stored ≡ act (with_state id (λ was. searching_state d o) w) id (Run (Move (StartSearch d)) n []) stored
   started_act =
       ap (λ (v : World). act v id c stored) then_put
       ∙ act_there (cond (searches o.mode) x.search None)
       ∙ sym (act_there x.search)
       ∙ sym (ap (λ (v : World). act v id c stored) at_once)
 
-  pub started_effects : act_effects (with_own id (searching_own d) (with_own id (λ was. o) w)) id (Run (Move (StartSearch d)) n []) stored ≡ act_effects (with_own id (λ was. searching_own d o) w) id (Run (Move (StartSearch d)) n []) stored
+  pub started_effects : act_effects (with_state id (searching_state d) (with_state id (λ was. o) w)) id (Run (Move (StartSearch d)) n []) stored ≡ act_effects (with_state id (λ was. searching_state d o) w) id (Run (Move (StartSearch d)) n []) stored
   started_effects =
       ap (λ (v : World). act_effects v id c stored) then_put
       ∙ effects_there (cond (searches o.mode) x.search None)
@@ -116,10 +116,10 @@ module _ (w : World) (id : ℕ) (o : Own) (d : Direction) (n : Option ℕ) (x : 
       ∙ sym (ap (λ (v : World). act_effects v id c stored) at_once)
 
 -- AN ACT OF A KEY, which may start one: it is decided with the record that it begins from
-abbrev pub IsBegun : World → ℕ → Own → KeyAct → World → StoreTold → StoreTold → Type 0
-IsBegun w id o a new before after = ActedBy (started_world (started_by a) id (with_own id (λ was. o) w)) new before after id (act_of a) → ActedBy (with_own id (λ was. started_own (started_by a) o) w) new before after id (act_of a)
+abbrev pub IsBegun : World → ℕ → State → KeyAct → World → StoreTold → StoreTold → Type 0
+IsBegun w id o a new before after = ActedBy (started_world (started_by a) id (with_state id (λ was. o) w)) new before after id (act_of a) → ActedBy (with_state id (λ was. started_state (started_by a) o) w) new before after id (act_of a)
 
-begun_search : (w : World) (id : ℕ) (o : Own) (d : Direction) (n : Option ℕ) (x : Session) (new : World) (before after : StoreTold) → find_session id w.sessions ≡ Some x → IsBegun w id o (acts.Run (Move (StartSearch d)) n) new before after
+begun_search : (w : World) (id : ℕ) (o : State) (d : Direction) (n : Option ℕ) (x : Session) (new : World) (before after : StoreTold) → find_session id w.sessions ≡ Some x → IsBegun w id o (acts.Run (Move (StartSearch d)) n) new before after
 begun_search w id o d n x new before after found did = record {
   stored = did.stored;
   world = did.world ∙ started_act w id o d n x found did.stored;
@@ -127,11 +127,11 @@ begun_search w id o d n x new before after found did = record {
   saves = did.saves ∙ ap (λ (es : List Effect). told_more (flat_map saved_by es) before.accepted) (started_effects w id o d n x found did.stored);
 }
 
-begun_motion : (w : World) (id : ℕ) (o : Own) (c : Motion) (n : Option ℕ) (x : Session) (new : World) (before after : StoreTold) → find_session id w.sessions ≡ Some x → IsBegun w id o (acts.Run (Move c) n) new before after
+begun_motion : (w : World) (id : ℕ) (o : State) (c : Motion) (n : Option ℕ) (x : Session) (new : World) (before after : StoreTold) → find_session id w.sessions ≡ Some x → IsBegun w id o (acts.Run (Move c) n) new before after
 begun_motion w id o (StartSearch d) n x new before after found did = begun_search w id o d n x new before after found did
 begun_motion w id o _ n x new before after found did = did
 
-pub begun_act : (w : World) (id : ℕ) (o : Own) (a : KeyAct) (x : Session) (new : World) (before after : StoreTold) → find_session id w.sessions ≡ Some x → IsBegun w id o a new before after
+pub begun_act : (w : World) (id : ℕ) (o : State) (a : KeyAct) (x : Session) (new : World) (before after : StoreTold) → find_session id w.sessions ≡ Some x → IsBegun w id o a new before after
 begun_act w id o acts.Unbound x new before after found did = did
 begun_act w id o (acts.Run (Move c) n) x new before after found did = begun_motion w id o c n x new before after found did
 begun_act w id o (acts.Run _ n) x new before after found did = did

@@ -9,10 +9,10 @@ use Rattle.mgs_world.specs.declared.size.Size.{Size}
 use Rattle.mgs_world.specs.Worlds.{IsUnique, session_size, sizes}
 use Rattle.std.proofs.lemmas.List.Elements.{All-head, All-tail}
 use Rattle.mgs_model.specs.Lines.{line_of, start_of, settled_top}
-use Rattle.mgs_model.specs.World.{World, Buffer, Own, Session, Window, Shows, Nothing, Buffer_of, Listing, List_of, has_id, find_session, find_buffer, may}
-use Rattle.mgs_model.specs.Events.{Close, own_set, with_own, top_settled, window_top, session_settled, settled, new_window, new_session, opened, step}
+use Rattle.mgs_model.specs.World.{World, Buffer, State, Session, Window, Shows, Nothing, Buffer_of, Listing, List_of, has_id, find_session, find_buffer, may}
+use Rattle.mgs_model.specs.Events.{Close, state_set, with_state, top_settled, window_top, session_settled, settled, new_window, new_session, opened, step}
 use Rattle.mgs_model.specs.declared.right.Right.TheVariants.{ReadData}
-use Rattle.mgs_core.specs.Steps.{closed}
+use Rattle.mgs_core.specs.Calls.{closed}
 use Rattle.mgs_core.proofs.Ids.{differ, remove_none}
 use Rattle.mgs_model.proofs.Basics.{cons_head, cons_tail}
 
@@ -61,10 +61,10 @@ fixed_changed g f p alike (x ∷ xs) e =
       | false ↦ λ i. head i ∷ fixed_changed g f p alike xs tail i
     ]
 
-pub own_rests : (w : World) (id : ℕ) (f : Own → Own) → settled w ≡ w → settled (with_own id f w) ≡ with_own id f w
-own_rests w id f rests =
+pub state_rests : (w : World) (id : ℕ) (f : State → State) → settled w ≡ w → settled (with_state id f w) ≡ with_state id f w
+state_rests w id f rests =
     ap (λ (ss : List Session). let v : World = record w { sessions = ss } in v)
-    (fixed_changed (session_settled w.directory w.buffers) (own_set f) (has_id id) (λ x. refl) w.sessions (ap (λ (v : World). v.sessions) rests))
+    (fixed_changed (session_settled w.directory w.buffers) (state_set f) (has_id id) (λ x. refl) w.sessions (ap (λ (v : World). v.sessions) rests))
 
 -- A SESSION CLOSES
 

@@ -11,9 +11,9 @@ use Rattle.mgs_model.specs.View.{View}
 use Rattle.mgs_model.specs.Outcome.{Run}
 use Rattle.mgs_model.specs.Apply.{searches}
 use Rattle.mgs_model.specs.Keys.{key_read}
-use Rattle.mgs_model.specs.Plans.{acted_own, count_of, kind_failed, setting}
+use Rattle.mgs_model.specs.Plans.{acted_state, count_of, kind_failed, setting}
 use Rattle.mgs_model.specs.Turns.{Turn, Keep, Do, command_turn, plays}
-use Rattle.mgs_model.specs.Events.{refused_own}
+use Rattle.mgs_model.specs.Events.{refused_state}
 use Rattle.mgs_model.specs.declared.message.Message.{Message}
 use Rattle.mgs_model.specs.declared.message.Message.TheVariants.{InMacro, NoMacro, TooMany}
 use Rattle.mgs_model.specs.declared.session.Command.{Command}
@@ -30,22 +30,23 @@ use Rattle.mgs_plan.specs.declared.key_act.KeyAct.TheVariants.{Unbound as unboun
 use Rattle.mgs_maps.specs.Held.{Held, FedBy, is_bound}
 use Rattle.mgs_maps.specs.declared.maps.Fed.TheVariants as fed
 use Rattle.mgs_mini.specs.Typing.{PromptInput}
-use Rattle.mgs_session.specs.declared.Own.{Own}
+use Rattle.mgs_session.specs.declared.State.{State}
 use Rattle.mgs_session.specs.declared.Session.{Session}
 use Rattle.mgs_session.specs.declared.search.Search.{Search}
 use Rattle.mgs_session.specs.Playing.{Playing, are_behind, are_played, rounds}
 use Rattle.mgs_session.specs.Sessions.{failed, holding, resting}
-use Rattle.mgs_world.specs.Worlds.{mode_in, own_of, search_of}
-use Rattle.mgs_core.specs.declared.deeds.Deed.{Deed}
-use Rattle.mgs_core.specs.declared.deeds.Deed.TheVariants as deeds
-use Rattle.mgs_core.specs.declared.deeds.Before.{Before}
-use Rattle.mgs_core.specs.declared.deeds.Before.TheVariants as befores
+use Rattle.mgs_world.specs.Worlds.{mode_in, state_of, search_of}
+use Rattle.mgs_core.specs.declared.byte_acts.ByteAct.{ByteAct}
+use Rattle.mgs_core.specs.declared.byte_acts.ByteAct.TheVariants as byte_acts
+use Rattle.mgs_core.specs.declared.byte_acts.Before.{Before}
+use Rattle.mgs_core.specs.declared.byte_acts.Before.TheVariants as befores
 use Rattle.mgs_core.specs.declared.keying.ByteStep.{ByteStep}
 use Rattle.mgs_core.specs.declared.keying.ByteStep.TheVariants.{Kept, Failed, Ends, Acts}
-use Rattle.mgs_core.specs.Prompted.{own_turn}
-use Rattle.mgs_core.specs.Steps.{command_act}
-use Rattle.mgs_core.specs.Stepped.{IsAlone, IsByteStep, IsCommandStep, IsLeft, IsStep, MacroPlayed, SearchStays, SeesNames, StepActs, StepEnds, StepFailed, StepKept, call_fault, fault_of, is_call, is_exit, refused_again, search_before, CanDo, IsReady, before_of, deed_act, deed_own, may_want_memory, starts_replacing}
-use Rattle.mgs_core.specs.Turned.{IsFit, IsWithin, has_all, is_played, is_quiet, weight}
+use Rattle.mgs_core.specs.Prompted.{state_turn}
+use Rattle.mgs_core.specs.KeyActs.{command_act}
+use Rattle.mgs_core.specs.ByteActs.{refused_again, search_before, CanDo, IsReady, before_of, model_act, deciding_state, may_want_memory, starts_replacing}
+use Rattle.mgs_core.specs.ByteSteps.{IsAlone, IsByteStep, IsCommandStep, IsLeft, IsStep, MacroPlayed, SearchStays, SeesNames, StepActs, StepEnds, StepFailed, StepKept, call_fault, fault_of, is_call, is_exit}
+use Rattle.mgs_core.specs.Turns.{IsFit, IsWithin, has_all, is_played, is_quiet, weight}
 use Rattle.mgs_core.proofs.Keyed.{command_done, command_here, turn_command, turn_kept, turn_unbound}
 use Rattle.mgs_world.proofs.Marks.{not_both}
 
@@ -80,17 +81,17 @@ left_none old todo none = record {
 }
 
 -- no further replacements are left
-pub fit_none : (o : model.Own) → has_all o.todo ≡ false → IsFit o
+pub fit_none : (o : model.State) → has_all o.todo ≡ false → IsFit o
 fit_none o none all = not_both (has_all o.todo) all none
 
-pub fit_same : (old : Playing) (o : model.Own) → IsAlone old → o.todo ≡ old.todo → IsFit o
+pub fit_same : (old : Playing) (o : model.State) → IsAlone old → o.todo ≡ old.todo → IsFit o
 fit_same old o alone same = fit_none o (ap has_all same ∙ none_all old.todo alone.played)
 
 -- a step of a byte keeps none of them to be done
-pub further_same : {X : Type 0} (old : Playing) (o : model.Own) → IsAlone old → o.todo ≡ old.todo → has_all o.todo ≡ true → X
+pub further_same : {X : Type 0} (old : Playing) (o : model.State) → IsAlone old → o.todo ≡ old.todo → has_all o.todo ≡ true → X
 further_same old o alone same all = not_both (has_all o.todo) all (ap has_all same ∙ none_all old.todo alone.played)
 
-pub fit_empty : (o : model.Own) → o.todo ≡ [] → IsFit o
+pub fit_empty : (o : model.State) → o.todo ≡ [] → IsFit o
 fit_empty o none = fit_none o (ap has_all none)
 
 played_weight : (bytes : List ℕ) → weight 1048576 (map Played bytes) ≡ length bytes * 1048579
@@ -129,7 +130,7 @@ rounds_are (suc n) bytes = ap (λ (todo : List Todo). map Played bytes ++ todo) 
 
 -- THE POSITIONS OF A SEARCH
 
-pub none_stays : (old new : Own) → new.search ≡ None → SearchStays old new
+pub none_stays : (old new : State) → new.search ≡ None → SearchStays old new
 none_stays old new none bs =
     ap (search_of bs) none
     ∙ sym (ap (λ (s : Option Search). cond (searches (mode_in s new.prompt)) (search_of bs old.search) None) none ∙ by new.prompt)
@@ -141,16 +142,16 @@ none_stays old new none bs =
 -- WHERE A MACRO IS CALLED
 
 -- it cannot be played
-refused_of : (ok : model.Own) (message : Message) (a b c : Bool) → cond a (Some InMacro) (cond b (Some NoMacro) (cond c (Some TooMany) None)) ≡ Some message
-    → (let r : Result model.Own Message = cond a (Err InMacro) (cond b (Err NoMacro) (cond c (Err TooMany) (Ok ok))) in r ≡ Err message)
-refused_of ok message true b c e = let same : InMacro ≡ message = cc in ap (λ (m : Message). let r : Result model.Own Message = Err m in r) same
-refused_of ok message false true c e = let same : NoMacro ≡ message = cc in ap (λ (m : Message). let r : Result model.Own Message = Err m in r) same
-refused_of ok message false false true e = let same : TooMany ≡ message = cc in ap (λ (m : Message). let r : Result model.Own Message = Err m in r) same
+refused_of : (ok : model.State) (message : Message) (a b c : Bool) → cond a (Some InMacro) (cond b (Some NoMacro) (cond c (Some TooMany) None)) ≡ Some message
+    → (let r : Result model.State Message = cond a (Err InMacro) (cond b (Err NoMacro) (cond c (Err TooMany) (Ok ok))) in r ≡ Err message)
+refused_of ok message true b c e = let same : InMacro ≡ message = cc in ap (λ (m : Message). let r : Result model.State Message = Err m in r) same
+refused_of ok message false true c e = let same : NoMacro ≡ message = cc in ap (λ (m : Message). let r : Result model.State Message = Err m in r) same
+refused_of ok message false false true e = let same : TooMany ≡ message = cc in ap (λ (m : Message). let r : Result model.State Message = Err m in r) same
 refused_of ok message false false false e = cc
 
 -- or it can
-allowed_of : (ok : model.Own) (a b c : Bool) → (let f : Option Message = cond a (Some InMacro) (cond b (Some NoMacro) (cond c (Some TooMany) None)) in f ≡ None)
-    → (c ≡ false) × (let r : Result model.Own Message = cond a (Err InMacro) (cond b (Err NoMacro) (cond c (Err TooMany) (Ok ok))) in r ≡ Ok ok)
+allowed_of : (ok : model.State) (a b c : Bool) → (let f : Option Message = cond a (Some InMacro) (cond b (Some NoMacro) (cond c (Some TooMany) None)) in f ≡ None)
+    → (c ≡ false) × (let r : Result model.State Message = cond a (Err InMacro) (cond b (Err NoMacro) (cond c (Err TooMany) (Ok ok))) in r ≡ Ok ok)
 allowed_of ok true b c e = cc
 allowed_of ok false true c e = cc
 allowed_of ok false false true e = cc
@@ -162,119 +163,119 @@ breaks_of message false true c e k = let same : NoMacro ≡ message = cc in ap (
 breaks_of message false false true e k = let same : TooMany ≡ message = cc in ap (λ (m : Message). kind_failed m k) (sym same)
 breaks_of message false false false e k = cc
 
-call_refused : (o : Own) (n : Option ℕ) (message : Message) → call_fault o n ≡ Some message → setting CallMacro (acted_own (own_of o)) n ≡ Err message
+call_refused : (o : State) (n : Option ℕ) (message : Message) → call_fault o n ≡ Some message → setting CallMacro (acted_state (state_of o)) n ≡ Err message
 call_refused o n message e =
-    let own : model.Own = acted_own (own_of o) in
-    let more : List Todo = flat_map (λ (bytes : List ℕ). map Played bytes) (replicate (count_of n) own.macro) in
-    refused_of (record own { todo = Play ∷ more ++ own.todo }) message (o.recorder.recording || o.player.playing) (length o.recorder.macro == 0) (nat_lt REPETITION_LIMIT (count_of n)) e
+    let state : model.State = acted_state (state_of o) in
+    let more : List Todo = flat_map (λ (bytes : List ℕ). map Played bytes) (replicate (count_of n) state.macro) in
+    refused_of (record state { todo = Play ∷ more ++ state.todo }) message (o.recorder.recording || o.player.playing) (length o.recorder.macro == 0) (nat_lt REPETITION_LIMIT (count_of n)) e
 
 -- A STEP, by the session that it leaves
 
-module _ (Sees : View → Type 0) (comes : View → Turn) (x new it : Session) (is : new ≡ it) (own : it ≡ record x { own = it.own }) (stays : SearchStays x.own it.own) where
+module _ (Sees : View → Type 0) (comes : View → Turn) (x new it : Session) (is : new ≡ it) (state : it ≡ record x { state = it.state }) (stays : SearchStays x.state it.state) where
   -- nothing else is left to do, or nothing at all
-  pub kept_same : IsAlone x.own.player → ((v : View) → Sees v → comes v ≡ Keep (own_of it.own)) → it.own.player.todo ≡ x.own.player.todo → StepKept Sees comes (IsLeft x.own.player) x new
+  pub kept_same : IsAlone x.state.player → ((v : View) → Sees v → comes v ≡ Keep (state_of it.state)) → it.state.player.todo ≡ x.state.player.todo → StepKept Sees comes (IsLeft x.state.player) x new
   kept_same alone turn todo =
-      subst (StepKept Sees comes (IsLeft x.own.player) x) (sym is)
-      (record { own = own; stays = stays; turn = turn; left = left_same x.own.player it.own.player.todo alone todo; fit = fit_same x.own.player (own_of it.own) alone todo })
+      subst (StepKept Sees comes (IsLeft x.state.player) x) (sym is)
+      (record { state = state; stays = stays; turn = turn; left = left_same x.state.player it.state.player.todo alone todo; fit = fit_same x.state.player (state_of it.state) alone todo })
 
-  pub kept_none : ((v : View) → Sees v → comes v ≡ Keep (own_of it.own)) → it.own.player.todo ≡ [] → StepKept Sees comes (IsLeft x.own.player) x new
+  pub kept_none : ((v : View) → Sees v → comes v ≡ Keep (state_of it.state)) → it.state.player.todo ≡ [] → StepKept Sees comes (IsLeft x.state.player) x new
   kept_none turn none =
-      subst (StepKept Sees comes (IsLeft x.own.player) x) (sym is)
-      (record { own = own; stays = stays; turn = turn; left = left_none x.own.player it.own.player.todo none; fit = fit_empty (own_of it.own) none })
+      subst (StepKept Sees comes (IsLeft x.state.player) x) (sym is)
+      (record { state = state; stays = stays; turn = turn; left = left_none x.state.player it.state.player.todo none; fit = fit_empty (state_of it.state) none })
 
   -- an act of a session that has the same to do, no macro plays that did not
-  pub acts_same : (b : Before) (deed : Deed) → IsAlone x.own.player → IsReady deed it.own.search (own_of it.own) → CanDo b deed
-      → ((v : View) → Sees v → comes v ≡ Do (deed_own b deed (own_of it.own)) (deed_act (own_of it.own) b deed)) → it.own.player ≡ x.own.player
-      → (may_want_memory deed ≡ true → refused_again (before_of b deed) x.own.kind x.own.player.playing (own_of it.own) ≡ refused_own (own_of x.own))
-      → (may_want_memory deed ≡ true → search_before (before_of b deed) it.own.search ≡ x.own.search) → (starts_replacing deed ≡ true → x.own.search ≡ None)
-      → StepActs Sees comes x.own.player.playing (IsLeft x.own.player) x new b deed
-  acts_same b deed alone ready here turn same again search begins =
-      let todo : it.own.player.todo ≡ x.own.player.todo = ap (λ (p : Playing). p.todo) same in
-      subst (λ (w : Session). StepActs Sees comes x.own.player.playing (IsLeft x.own.player) x w b deed) (sym is)
+  pub acts_same : (b : Before) (byte_act : ByteAct) → IsAlone x.state.player → IsReady byte_act it.state.search (state_of it.state) → CanDo b byte_act
+      → ((v : View) → Sees v → comes v ≡ Do (deciding_state b byte_act (state_of it.state)) (model_act (state_of it.state) b byte_act)) → it.state.player ≡ x.state.player
+      → (may_want_memory byte_act ≡ true → refused_again (before_of b byte_act) x.state.kind x.state.player.playing (state_of it.state) ≡ refused_state (state_of x.state))
+      → (may_want_memory byte_act ≡ true → search_before (before_of b byte_act) it.state.search ≡ x.state.search) → (starts_replacing byte_act ≡ true → x.state.search ≡ None)
+      → StepActs Sees comes x.state.player.playing (IsLeft x.state.player) x new b byte_act
+  acts_same b byte_act alone ready here turn same again search begins =
+      let todo : it.state.player.todo ≡ x.state.player.todo = ap (λ (p : Playing). p.todo) same in
+      subst (λ (w : Session). StepActs Sees comes x.state.player.playing (IsLeft x.state.player) x w b byte_act) (sym is)
       (record {
-        own = own;
+        state = state;
         stays = stays;
         ready = ready;
         here = here;
         turn = turn;
-        playing = λ e. ap (λ (p : Bool). is_quiet p (deed_act (own_of it.own) b deed)) (ap (λ (p : Playing). p.playing) same ∙ e);
+        playing = λ e. ap (λ (p : Bool). is_quiet p (model_act (state_of it.state) b byte_act)) (ap (λ (p : Playing). p.playing) same ∙ e);
         typed = λ e. todo ∙ alone.typed e;
-        left = left_same x.own.player it.own.player.todo alone todo;
+        left = left_same x.state.player it.state.player.todo alone todo;
         again = again;
         search = search;
-        fit = fit_same x.own.player (own_of it.own) alone todo;
-        further = further_same x.own.player (own_of it.own) alone todo;
+        fit = fit_same x.state.player (state_of it.state) alone todo;
+        further = further_same x.state.player (state_of it.state) alone todo;
         begins = begins;
       })
 
 -- WHAT A COMMAND COMES TO in a session at rest
 
 -- it fails
-module _ (Sees : View → Type 0) (comes : View → Turn) (x new : Session) (c : Command) (n : Option ℕ) (turn : (v : View) → Sees v → comes v ≡ command_turn (own_of (resting x).own) n c) where
-  own_changed : (message : Message) → new ≡ failed message (resting x) → new ≡ record x { own = new.own }
-  own_changed message told = told ∙ sym (ap (λ (s : Session). record x { own = s.own }) told)
+module _ (Sees : View → Type 0) (comes : View → Turn) (x new : Session) (c : Command) (n : Option ℕ) (turn : (v : View) → Sees v → comes v ≡ command_turn (state_of (resting x).state) n c) where
+  state_changed : (message : Message) → new ≡ failed message (resting x) → new ≡ record x { state = new.state }
+  state_changed message told = told ∙ sym (ap (λ (s : Session). record x { state = s.state }) told)
 
-  exit_failed : c ≡ Exit → x.own.player.playing ≡ true → new ≡ failed InMacro (resting x) → StepFailed Sees comes x.own.player.playing x new
+  exit_failed : c ≡ Exit → x.state.player.playing ≡ true → new ≡ failed InMacro (resting x) → StepFailed Sees comes x.state.player.playing x new
   exit_failed is plays told =
-      let own : model.Own = own_of (resting x).own in
+      let state : model.State = state_of (resting x).state in
       record {
-        own = own_changed InMacro told;
-        stays = none_stays x.own new.own (ap (λ (s : Session). s.own.search) told);
-        before = own;
+        state = state_changed InMacro told;
+        stays = none_stays x.state new.state (ap (λ (s : Session). s.state.search) told);
+        before = state;
         act = Run Exit n [];
         message = InMacro;
-        turn = λ v sees. turn v sees ∙ ap (command_turn own n) is;
+        turn = λ v sees. turn v sees ∙ ap (command_turn state n) is;
         playing = refl;
-        fails = λ v k seen. exit_fails v n true (ap (λ (o : model.Own). o.playing) seen ∙ plays);
+        fails = λ v k seen. exit_fails v n true (ap (λ (o : model.State). o.playing) seen ∙ plays);
         breaks = λ k. refl;
         quiet = λ w id. act_saves_none w id (Run Exit n []) true refl;
-        told = ap (λ (s : Session). own_of s.own) told;
+        told = ap (λ (s : Session). state_of s.state) told;
       }
 
-  call_failed : (message : Message) → c ≡ Set CallMacro → call_fault (resting x).own n ≡ Some message → new ≡ failed message (resting x) → StepFailed Sees comes x.own.player.playing x new
+  call_failed : (message : Message) → c ≡ Set CallMacro → call_fault (resting x).state n ≡ Some message → new ≡ failed message (resting x) → StepFailed Sees comes x.state.player.playing x new
   call_failed message is fault told =
-      let own : model.Own = own_of (resting x).own in
-      let r = call_refused (resting x).own n message fault in
+      let state : model.State = state_of (resting x).state in
+      let r = call_refused (resting x).state n message fault in
       record {
-        own = own_changed message told;
-        stays = none_stays x.own new.own (ap (λ (s : Session). s.own.search) told);
-        before = own;
+        state = state_changed message told;
+        stays = none_stays x.state new.state (ap (λ (s : Session). s.state.search) told);
+        before = state;
         act = Run (Set CallMacro) n [];
         message = message;
-        turn = λ v sees. turn v sees ∙ ap (command_turn own n) is ∙ ap (plays own n) r;
+        turn = λ v sees. turn v sees ∙ ap (command_turn state n) is ∙ ap (plays state n) r;
         playing = refl;
-        fails = λ v k seen. call_fails v n message true (ap (λ (o : model.Own). setting CallMacro (acted_own o) n) seen ∙ r);
-        breaks = breaks_of message (x.own.recorder.recording || x.own.player.playing) (length x.own.recorder.macro == 0) (nat_lt REPETITION_LIMIT (count_of n)) fault;
+        fails = λ v k seen. call_fails v n message true (ap (λ (o : model.State). setting CallMacro (acted_state o) n) seen ∙ r);
+        breaks = breaks_of message (x.state.recorder.recording || x.state.player.playing) (length x.state.recorder.macro == 0) (nat_lt REPETITION_LIMIT (count_of n)) fault;
         quiet = λ w id. act_saves_none w id (Run (Set CallMacro) n []) true refl;
-        told = ap (λ (s : Session). own_of s.own) told;
+        told = ap (λ (s : Session). state_of s.state) told;
       }
 
   -- a macro is played
-  call_kept : c ≡ Set CallMacro → IsAlone x.own.player → MacroPlayed (resting x) new n → StepKept Sees comes (IsLeft x.own.player) x new
+  call_kept : c ≡ Set CallMacro → IsAlone x.state.player → MacroPlayed (resting x) new n → StepKept Sees comes (IsLeft x.state.player) x new
   call_kept is alone p =
-      let o : Own = (resting x).own in
-      let own : model.Own = own_of o in
+      let o : State = (resting x).state in
+      let state : model.State = state_of o in
       let more : List Todo = flat_map (λ (bytes : List ℕ). map Played bytes) (replicate (count_of n) o.recorder.macro) in
-      let ok : model.Own = record (acted_own own) { todo = Play ∷ more ++ own.todo } in
+      let ok : model.State = record (acted_state state) { todo = Play ∷ more ++ state.todo } in
       let allowed = allowed_of ok (o.recorder.recording || o.player.playing) (length o.recorder.macro == 0) (nat_lt REPETITION_LIMIT (count_of n)) p.fault in
       let typed : o.player.playing ≡ false = never_played o.recorder.recording o.player.playing (length o.recorder.macro == 0) (nat_lt REPETITION_LIMIT (count_of n)) p.fault in
       let few : count_of n ≤ 100 = ltb-false REPETITION_LIMIT (count_of n) allowed.0 in
-      let left : new.own.player.todo ≡ Play ∷ map Played (rounds (count_of n) o.recorder.macro) = ap (λ (s : Session). s.own.player.todo) p.called in
+      let left : new.state.player.todo ≡ Play ∷ map Played (rounds (count_of n) o.recorder.macro) = ap (λ (s : Session). s.state.player.todo) p.called in
       record {
-        own = p.called ∙ sym (ap (λ (s : Session). record x { own = s.own }) p.called);
-        stays = none_stays x.own new.own (ap (λ (s : Session). s.own.search) p.called);
+        state = p.called ∙ sym (ap (λ (s : Session). record x { state = s.state }) p.called);
+        stays = none_stays x.state new.state (ap (λ (s : Session). s.state.search) p.called);
         turn = λ v sees.
             turn v sees
-            ∙ ap (command_turn own n) is
-            ∙ ap (plays own n) allowed.1
-            ∙ ap (λ (todo : List Todo). Keep (record own { todo = Play ∷ todo })) (ap (λ (todo : List Todo). more ++ todo) (alone.typed typed) ∙ append-nil more ∙ rounds_are (count_of n) o.recorder.macro)
-            ∙ sym (ap (λ (s : Session). Keep (own_of s.own)) p.called);
+            ∙ ap (command_turn state n) is
+            ∙ ap (plays state n) allowed.1
+            ∙ ap (λ (todo : List Todo). Keep (record state { todo = Play ∷ todo })) (ap (λ (todo : List Todo). more ++ todo) (alone.typed typed) ∙ append-nil more ∙ rounds_are (count_of n) o.recorder.macro)
+            ∙ sym (ap (λ (s : Session). Keep (state_of s.state)) p.called);
         left = record {
-          played = λ e k h. not_both x.own.player.playing e typed;
+          played = λ e k h. not_both x.state.player.playing e typed;
           typed = λ e. subst (IsWithin 53689341957) (sym left) (called_within (count_of n) o.recorder.macro few p.within);
-          behind = λ e. not_both x.own.player.playing e typed;
+          behind = λ e. not_both x.state.player.playing e typed;
         };
-        fit = fit_none (own_of new.own) (ap has_all left ∙ played_none (rounds (count_of n) o.recorder.macro));
+        fit = fit_none (state_of new.state) (ap has_all left ∙ played_none (rounds (count_of n) o.recorder.macro));
       }
     where
       never_played : (r b e f : Bool) → (let m : Option Message = cond (r || b) (Some InMacro) (cond e (Some NoMacro) (cond f (Some TooMany) None)) in m ≡ None) → b ≡ false
@@ -282,28 +283,28 @@ module _ (Sees : View → Type 0) (comes : View → Turn) (x new : Session) (c :
       never_played false true e f h = cc
       never_played false false e f h = refl
 
-  ended_step : c ≡ Exit → x.own.player.playing ≡ false → new ≡ resting x → StepEnds Sees comes x.own.player.playing x new
+  ended_step : c ≡ Exit → x.state.player.playing ≡ false → new ≡ resting x → StepEnds Sees comes x.state.player.playing x new
   ended_step is typed same =
-      let own : model.Own = own_of (resting x).own in
+      let state : model.State = state_of (resting x).state in
       record {
-        own = same ∙ sym (ap (λ (s : Session). record x { own = s.own }) same);
-        stays = none_stays x.own new.own (ap (λ (s : Session). s.own.search) same);
-        before = own;
+        state = same ∙ sym (ap (λ (s : Session). record x { state = s.state }) same);
+        stays = none_stays x.state new.state (ap (λ (s : Session). s.state.search) same);
+        before = state;
         argument = n;
-        turn = λ v sees. turn v sees ∙ ap (command_turn own n) is;
+        turn = λ v sees. turn v sees ∙ ap (command_turn state n) is;
         quiet = typed;
         typed = typed;
       }
 
   -- or it is an act
-  acts_step : (b : Before) → is_bound c ≡ true → is_exit c ≡ false → is_call c ≡ false → IsAlone x.own.player → new ≡ resting x
-      → refused_again b x.own.kind x.own.player.playing (own_of (resting x).own) ≡ refused_own (own_of x.own)
-      → ((s : Option Search) → search_before b s ≡ x.own.search)
-      → StepActs Sees comes x.own.player.playing (IsLeft x.own.player) x new b (deeds.Act (command_act c n))
+  acts_step : (b : Before) → is_bound c ≡ true → is_exit c ≡ false → is_call c ≡ false → IsAlone x.state.player → new ≡ resting x
+      → refused_again b x.state.kind x.state.player.playing (state_of (resting x).state) ≡ refused_state (state_of x.state)
+      → ((s : Option Search) → search_before b s ≡ x.state.search)
+      → StepActs Sees comes x.state.player.playing (IsLeft x.state.player) x new b (byte_acts.Act (command_act c n))
   acts_step b bound goes_on calls alone same again search =
       let a = command_act c n in
-      acts_same Sees comes x new (resting x) same refl (none_stays x.own (resting x).own refl) b (deeds.Act a) alone refl (command_here n c bound goes_on calls)
-      (λ v sees. turn v sees ∙ command_done (own_of (resting x).own) n c bound calls) refl (λ wants. again) (λ wants. search None) (λ h. cc)
+      acts_same Sees comes x new (resting x) same refl (none_stays x.state (resting x).state refl) b (byte_acts.Act a) alone refl (command_here n c bound goes_on calls)
+      (λ v sees. turn v sees ∙ command_done (state_of (resting x).state) n c bound calls) refl (λ wants. again) (λ wants. search None) (λ h. cc)
 
 is_exit_of : (c : Command) → is_exit c ≡ true → c ≡ Exit
 is_exit_of Exit h = refl
@@ -314,11 +315,11 @@ is_call_of (Set CallMacro) h = refl
 is_call_of (Set _) h = cc
 is_call_of _ h = cc
 
-pub command_step : (Sees : View → Type 0) (comes : View → Turn) (x new : Session) (c : Command) (n : Option ℕ) (b : Before) (step : ByteStep) → ((v : View) → Sees v → comes v ≡ command_turn (own_of (resting x).own) n c) → is_bound c ≡ true → IsAlone x.own.player
-    → refused_again b x.own.kind x.own.player.playing (own_of (resting x).own) ≡ refused_own (own_of x.own)
-    → ((s : Option Search) → search_before b s ≡ x.own.search)
+pub command_step : (Sees : View → Type 0) (comes : View → Turn) (x new : Session) (c : Command) (n : Option ℕ) (b : Before) (step : ByteStep) → ((v : View) → Sees v → comes v ≡ command_turn (state_of (resting x).state) n c) → is_bound c ≡ true → IsAlone x.state.player
+    → refused_again b x.state.kind x.state.player.playing (state_of (resting x).state) ≡ refused_state (state_of x.state)
+    → ((s : Option Search) → search_before b s ≡ x.state.search)
     → IsCommandStep (resting x) new c n step
-    → IsStep Sees comes x.own.player.playing (IsLeft x.own.player) x new b step
+    → IsStep Sees comes x.state.player.playing (IsLeft x.state.player) x new b step
 command_step Sees comes x new c n b Kept turn bound alone again search s = call_kept Sees comes x new c n turn (is_call_of c s.0) alone s.1
 command_step Sees comes x new c n b Failed turn bound alone again search s = by c refl s.fault
   where
@@ -326,41 +327,41 @@ command_step Sees comes x new c n b Failed turn bound alone again search s = by 
     exit_told true message e = let same : InMacro ≡ message = cc in (refl, sym same)
     exit_told false message e = cc
 
-    call_told : (m : Option ℕ) → c ≡ Set CallMacro → call_fault (resting x).own n ≡ Some s.message → StepFailed Sees comes x.own.player.playing x new
+    call_told : (m : Option ℕ) → c ≡ Set CallMacro → call_fault (resting x).state n ≡ Some s.message → StepFailed Sees comes x.state.player.playing x new
     call_told m is fault = call_failed Sees comes x new c n turn s.message is fault s.told
 
-    by : (k : Command) → c ≡ k → fault_of (resting x).own k n ≡ Some s.message → StepFailed Sees comes x.own.player.playing x new
-    by Exit is fault = (let known = exit_told x.own.player.playing s.message fault in exit_failed Sees comes x new c n turn is known.0 (s.told ∙ ap (λ (m : Message). failed m (resting x)) known.1))
+    by : (k : Command) → c ≡ k → fault_of (resting x).state k n ≡ Some s.message → StepFailed Sees comes x.state.player.playing x new
+    by Exit is fault = (let known = exit_told x.state.player.playing s.message fault in exit_failed Sees comes x new c n turn is known.0 (s.told ∙ ap (λ (m : Message). failed m (resting x)) known.1))
     by (Set CallMacro) is fault = call_told n is fault
     by (Set _) is fault = cc
     by _ is fault = cc
 command_step Sees comes x new c n b Ends turn bound alone again search s = ended_step Sees comes x new c n turn (is_exit_of c s.0) s.1 s.2
-command_step Sees comes x new c n b (Acts (deeds.Act a)) turn bound alone again search s =
-    subst (λ (k : KeyAct). StepActs Sees comes x.own.player.playing (IsLeft x.own.player) x new b (deeds.Act k)) (sym s.2) (acts_step Sees comes x new c n turn b bound s.0 s.1 alone s.3 again search)
+command_step Sees comes x new c n b (Acts (byte_acts.Act a)) turn bound alone again search s =
+    subst (λ (k : KeyAct). StepActs Sees comes x.state.player.playing (IsLeft x.state.player) x new b (byte_acts.Act k)) (sym s.2) (acts_step Sees comes x new c n turn b bound s.0 s.1 alone s.3 again search)
 command_step Sees comes x new c n b (Acts _) turn bound alone again search s = absurd s
 
 -- A KEY
 
 -- of a session that neither searches nor is at a prompt
 abbrev plain : Session → Session
-plain x = record x { own = record x.own { search = None; prompt = None } }
+plain x = record x { state = record x.state { search = None; prompt = None } }
 
-plain_same : (x : Session) → x.own.search ≡ None → x.own.prompt ≡ None → x ≡ plain x
-plain_same x still none = λ i. record x { own = record x.own { search = still i; prompt = none i } }
+plain_same : (x : Session) → x.state.search ≡ None → x.state.prompt ≡ None → x ≡ plain x
+plain_same x still none = λ i. record x { state = record x.state { search = still i; prompt = none i } }
 
-again_plain : (x : Session) → x.own.search ≡ None → x.own.prompt ≡ None → refused_again befores.Plain x.own.kind x.own.player.playing (own_of (resting x).own) ≡ refused_own (own_of x.own)
-again_plain x still none = sym (ap (λ (y : Session). refused_own (own_of y.own)) (plain_same x still none))
+again_plain : (x : Session) → x.state.search ≡ None → x.state.prompt ≡ None → refused_again befores.Plain x.state.kind x.state.player.playing (state_of (resting x).state) ≡ refused_state (state_of x.state)
+again_plain x still none = sym (ap (λ (y : Session). refused_state (state_of y.state)) (plain_same x still none))
 
-pub key_kept : (d : Directory) (ks : List MarkedBuffer) (x new : Session) (byte : ℕ) (k : Held) → x.own.search ≡ None → x.own.prompt ≡ None → IsAlone x.own.player → FedBy fed.Pending (key_read x.own.keyboard.argument x.own.keyboard.keys byte) k → new ≡ holding k x → IsByteStep d ks x new byte befores.Plain Kept
+pub key_kept : (d : Directory) (ks : List MarkedBuffer) (x new : Session) (byte : ℕ) (k : Held) → x.state.search ≡ None → x.state.prompt ≡ None → IsAlone x.state.player → FedBy fed.Pending (key_read x.state.keyboard.argument x.state.keyboard.keys byte) k → new ≡ holding k x → IsByteStep d ks x new byte befores.Plain Kept
 key_kept d ks x new byte k still none alone read held =
-    kept_same (SeesNames d ks x.user) (λ v. own_turn v x.own byte) x new (holding k x) held refl (none_stays x.own (holding k x).own refl) alone (λ v sees. turn_kept v x.own byte k still none read) refl
+    kept_same (SeesNames d ks x.user) (λ v. state_turn v x.state byte) x new (holding k x) held refl (none_stays x.state (holding k x).state refl) alone (λ v sees. turn_kept v x.state byte k still none read) refl
 
-pub key_unbound : (d : Directory) (ks : List MarkedBuffer) (x new : Session) (byte : ℕ) (k : Held) → x.own.search ≡ None → x.own.prompt ≡ None → IsAlone x.own.player → FedBy fed.Unbound (key_read x.own.keyboard.argument x.own.keyboard.keys byte) k → new ≡ resting x → IsByteStep d ks x new byte befores.Plain (Acts (deeds.Act unbound))
+pub key_unbound : (d : Directory) (ks : List MarkedBuffer) (x new : Session) (byte : ℕ) (k : Held) → x.state.search ≡ None → x.state.prompt ≡ None → IsAlone x.state.player → FedBy fed.Unbound (key_read x.state.keyboard.argument x.state.keyboard.keys byte) k → new ≡ resting x → IsByteStep d ks x new byte befores.Plain (Acts (byte_acts.Act unbound))
 key_unbound d ks x new byte k still none alone read same =
-    acts_same (SeesNames d ks x.user) (λ v. own_turn v x.own byte) x new (resting x) same refl (none_stays x.own (resting x).own refl) befores.Plain (deeds.Act unbound) alone refl refl
-    (λ v sees. turn_unbound v x.own byte k still none read) refl (λ wants. again_plain x still none) (λ wants. sym still) (λ h. cc)
+    acts_same (SeesNames d ks x.user) (λ v. state_turn v x.state byte) x new (resting x) same refl (none_stays x.state (resting x).state refl) befores.Plain (byte_acts.Act unbound) alone refl refl
+    (λ v sees. turn_unbound v x.state byte k still none read) refl (λ wants. again_plain x still none) (λ wants. sym still) (λ h. cc)
 
-pub key_command : (d : Directory) (ks : List MarkedBuffer) (x y new : Session) (byte : ℕ) (k : Held) (c : Command) (n : Option ℕ) (step : ByteStep) → x.own.search ≡ None → x.own.prompt ≡ None → IsAlone x.own.player → FedBy (fed.Run c n) (key_read x.own.keyboard.argument x.own.keyboard.keys byte) k → is_bound c ≡ true → y ≡ resting x → IsCommandStep y new c n step → IsByteStep d ks x new byte befores.Plain step
+pub key_command : (d : Directory) (ks : List MarkedBuffer) (x y new : Session) (byte : ℕ) (k : Held) (c : Command) (n : Option ℕ) (step : ByteStep) → x.state.search ≡ None → x.state.prompt ≡ None → IsAlone x.state.player → FedBy (fed.Run c n) (key_read x.state.keyboard.argument x.state.keyboard.keys byte) k → is_bound c ≡ true → y ≡ resting x → IsCommandStep y new c n step → IsByteStep d ks x new byte befores.Plain step
 key_command d ks x y new byte k c n step still none alone read bound rests s =
-    command_step (SeesNames d ks x.user) (λ v. own_turn v x.own byte) x new c n befores.Plain step (λ v sees. turn_command v x.own byte k c n still none read) bound alone (again_plain x still none) (λ r. sym still)
+    command_step (SeesNames d ks x.user) (λ v. state_turn v x.state byte) x new c n befores.Plain step (λ v sees. turn_command v x.state byte k c n still none read) bound alone (again_plain x still none) (λ r. sym still)
     (subst (λ (z : Session). IsCommandStep z new c n step) rests s)

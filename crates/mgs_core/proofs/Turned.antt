@@ -3,7 +3,7 @@ use Rattle.std.proofs.Common.{◌≡◌, ℕ, zero, suc, ◌+◌, ◌≤◌, ◌
 use Rattle.std.specs.Prelude.{IsSome, not, ◌||◌}
 use Rattle.std.specs.Option.{option_map}
 use Rattle.std.specs.List.{flat_map}
-use Rattle.mgs_model.specs.World.{World, Session, Own, Todo, Typed, Played, Replace_all, Play, find_session}
+use Rattle.mgs_model.specs.World.{World, Session, State, Todo, Typed, Played, Replace_all, Play, find_session}
 use Rattle.mgs_model.specs.Outcome.{Act, Outcome, Run, Unbound}
 use Rattle.mgs_model.specs.Apply.{act, applied}
 use Rattle.mgs_model.specs.declared.session.Command.{Command}
@@ -12,7 +12,8 @@ use Rattle.mgs_laws.proofs.Saves.{act_saves_none, is_save}
 use Rattle.mgs_model.specs.Acts.{allowed, judged, needs, outcome, permitted, without_all}
 use Rattle.mgs_model.specs.Turns.{Keep, Do, todo_turn}
 use Rattle.mgs_model.specs.View.{View, view, view_of}
-use Rattle.mgs_model.specs.Events.{Saved, act_effects, begun_own, may_be_refused, most_turns, rests, saved_by, settled, turn_in, with_own}
+use Rattle.mgs_model.specs.Events.{Saved, act_effects, begun_state, most_turns, rests, saved_by, settled, turn_in, with_state}
+use Rattle.mgs_laws.specs.Refusals.{may_be_refused}
 use Rattle.mgs_model.specs.declared.errors.Keyed.{Keyed}
 use Rattle.mgs_model.specs.declared.errors.Keyed.TheVariants.{Done, Short}
 use Rattle.mgs_model.specs.declared.errors.Keyed.TheVariants as keyed
@@ -22,9 +23,9 @@ use Rattle.mgs_laws.proofs.Turned.{act_short, leads_played, saves_done, saves_sh
 use Rattle.mgs_store.specs.Stores.{StoreTold, IsCounted, told_more}
 use Rattle.mgs_store.proofs.Told.{told_none, told_twice}
 use Rattle.mgs_act.specs.Doing.{ActedBy}
-use Rattle.mgs_core.specs.Steps.{KeyedBy}
+use Rattle.mgs_core.specs.Calls.{KeyedBy}
 use Rattle.mgs_session.specs.Playing.{is_nothing}
-use Rattle.mgs_core.specs.Turned.{EventBy, IsLess, IsTurnDone, IsWithin, TurnDone, TurnEnds, TurnRefused, TurnedBy, asks, goes_on, has_all, is_played, is_quiet, left_to_do, turn_to, weight}
+use Rattle.mgs_core.specs.Turns.{EventBy, IsLess, IsTurnDone, IsWithin, TurnDone, TurnEnds, TurnRefused, TurnedBy, asks, goes_on, has_all, is_played, is_quiet, left_to_do, turn_to, weight}
 use Rattle.mgs_core.proofs.Steps.{not_found}
 use Rattle.mgs_world.proofs.Killed.{not_true, not_false}
 
@@ -98,20 +99,20 @@ some_act zero one none = cc
 some_act (suc n) one none = cc
 
 -- the first turn, whatever the store answered
-first_kept : (id : ℕ) (old new : World) (t : StoreTold) (own : Own) → turn_in old id ≡ Keep own → new ≡ with_own id (λ was. own) old → SoFar id 1 true old new t t
-first_kept id old new t own turn does = record {
+first_kept : (id : ℕ) (old new : World) (t : StoreTold) (state : State) → turn_in old id ≡ Keep state → new ≡ with_state id (λ was. state) old → SoFar id 1 true old new t t
+first_kept id old new t state turn does = record {
   saved = [];
-  leads = leads_kept id true old new own turn does;
+  leads = leads_kept id true old new state turn does;
   fault = λ e. cc;
   saves = told_none t.accepted [] refl;
   still = λ e. refl;
 }
 
-first_acted : (id : ℕ) (old new : World) (before after : StoreTold) (own : Own) (c : Act) → turn_in old id ≡ Do own c → (did : ActedBy (with_own id (λ was. own) old) new before after id c) → SoFar id 1 did.stored old new before after
-first_acted id old new before after own c turn did =
-    let once = leads_once id did.stored old new own c turn did.world in
+first_acted : (id : ℕ) (old new : World) (before after : StoreTold) (state : State) (c : Act) → turn_in old id ≡ Do state c → (did : ActedBy (with_state id (λ was. state) old) new before after id c) → SoFar id 1 did.stored old new before after
+first_acted id old new before after state c turn did =
+    let once = leads_once id did.stored old new state c turn did.world in
     record {
-      saved = flat_map saved_by (act_effects (with_own id (λ was. own) old) id c did.stored);
+      saved = flat_map saved_by (act_effects (with_state id (λ was. state) old) id c did.stored);
       leads = once.0;
       fault = did.fault;
       saves = did.saves;
@@ -151,7 +152,7 @@ unasked_alike v (Run c n typed) s t h = unasked_command v c n typed s t h
 
 unasked_outcome : (v : View) (c : Act) (s t : Bool) → asks c ≡ false → outcome v c s ≡ outcome v c t
 unfolding outcome
-unasked_outcome v c s t h = ap (permitted v.session.own (judged v (needs v c))) (unasked_alike v c s t h)
+unasked_outcome v c s t h = ap (permitted v.session.state (judged v (needs v c))) (unasked_alike v c s t h)
 
 unasked_act : (w : World) (id : ℕ) (c : Act) (s t : Bool) → asks c ≡ false → act w id c s ≡ act w id c t
 unasked_act w id c s t h = ap (applied w id) (by (view_of w id))
@@ -165,37 +166,37 @@ save_asks Unbound h = refl
 save_asks (Run SaveBuffer n typed) h = cc
 save_asks (Run _ n typed) h = refl
 
-quiet_saves : (w : World) (id : ℕ) (own : Own) (x : Session) → find_session id w.sessions ≡ Some x → (c : Act) → is_quiet own.playing c ≡ true → (stored : Bool) → flat_map saved_by (act_effects (with_own id (λ was. own) w) id c stored) ≡ []
-quiet_saves w id own x found c h stored = by own.playing (asks c) refl refl h
+quiet_saves : (w : World) (id : ℕ) (state : State) (x : Session) → find_session id w.sessions ≡ Some x → (c : Act) → is_quiet state.playing c ≡ true → (stored : Bool) → flat_map saved_by (act_effects (with_state id (λ was. state) w) id c stored) ≡ []
+quiet_saves w id state x found c h stored = by state.playing (asks c) refl refl h
   where
-    by : (p a : Bool) → own.playing ≡ p → asks c ≡ a → (p || not a) ≡ true → flat_map saved_by (act_effects (with_own id (λ was. own) w) id c stored) ≡ []
-    by true a e f q = act_saves_nothing w id own x found e c stored
+    by : (p a : Bool) → state.playing ≡ p → asks c ≡ a → (p || not a) ≡ true → flat_map saved_by (act_effects (with_state id (λ was. state) w) id c stored) ≡ []
+    by true a e f q = act_saves_nothing w id state x found e c stored
     by false true e f q = cc
-    by false false e f q = act_saves_none (with_own id (λ was. own) w) id c stored (save_asks c f)
+    by false false e f q = act_saves_none (with_state id (λ was. state) w) id c stored (save_asks c f)
 
-leads_quiet : (id : ℕ) (s t : Bool) (w v : World) (own : Own) (c : Act) (x : Session) → find_session id w.sessions ≡ Some x → is_quiet own.playing c ≡ true → turn_in w id ≡ Do own c → v ≡ act (with_own id (λ was. own) w) id c s → LeadsOnce id t [] w v
-leads_quiet id s t w v own c x found h is does = by own.playing (asks c) refl refl h
+leads_quiet : (id : ℕ) (s t : Bool) (w v : World) (state : State) (c : Act) (x : Session) → find_session id w.sessions ≡ Some x → is_quiet state.playing c ≡ true → turn_in w id ≡ Do state c → v ≡ act (with_state id (λ was. state) w) id c s → LeadsOnce id t [] w v
+leads_quiet id s t w v state c x found h is does = by state.playing (asks c) refl refl h
   where
-    by : (p a : Bool) → own.playing ≡ p → asks c ≡ a → (p || not a) ≡ true → LeadsOnce id t [] w v
-    by true a e f q = leads_played id s t w v own c x found e is does
+    by : (p a : Bool) → state.playing ≡ p → asks c ≡ a → (p || not a) ≡ true → LeadsOnce id t [] w v
+    by true a e f q = leads_played id s t w v state c x found e is does
     by false true e f q = cc
     by false false e f q =
-        subst (λ (saved : List Saved). LeadsOnce id t saved w v) (act_saves_none (with_own id (λ was. own) w) id c t (save_asks c f))
-        (leads_once id t w v own c is (does ∙ unasked_act (with_own id (λ was. own) w) id c s t f))
+        subst (λ (saved : List Saved). LeadsOnce id t saved w v) (act_saves_none (with_state id (λ was. state) w) id c t (save_asks c f))
+        (leads_once id t w v state c is (does ∙ unasked_act (with_state id (λ was. state) w) id c s t f))
 
-more_by : (id used : ℕ) (left : List Todo) (start now new : World) (before mid after : StoreTold) (x : Session) → SoFar id used true start now before mid → find_session id now.sessions ≡ Some x → (own : Own) (o : Option Act) → turn_in now id ≡ turn_to own o → IsTurnDone true left own o now new mid after id → SoFar id (used + 1) true start new before after
-more_by id used left start now new before mid after x s found own None turn done =
-    more id used start now new before mid after s (leads_kept id true now new own turn done.0) (ap (λ (t : StoreTold). t.accepted) done.1) (λ e. done.1)
-more_by id used left start now new before mid after x s found own (Some c) turn done =
+more_by : (id used : ℕ) (left : List Todo) (start now new : World) (before mid after : StoreTold) (x : Session) → SoFar id used true start now before mid → find_session id now.sessions ≡ Some x → (state : State) (o : Option Act) → turn_in now id ≡ turn_to state o → IsTurnDone true left state o now new mid after id → SoFar id (used + 1) true start new before after
+more_by id used left start now new before mid after x s found state None turn done =
+    more id used start now new before mid after s (leads_kept id true now new state turn done.0) (ap (λ (t : StoreTold). t.accepted) done.1) (λ e. done.1)
+more_by id used left start now new before mid after x s found state (Some c) turn done =
     let did = done.2 in
-    let once = leads_quiet id did.stored true now new own c x found (done.0 refl) turn did.world in
+    let once = leads_quiet id did.stored true now new state c x found (done.0 refl) turn did.world in
     more id used start now new before mid after s once.0
-    (did.saves ∙ sym (told_none mid.accepted (flat_map saved_by (act_effects (with_own id (λ was. own) now) id c did.stored)) (quiet_saves now id own x found c (done.0 refl) did.stored)))
+    (did.saves ∙ sym (told_none mid.accepted (flat_map saved_by (act_effects (with_state id (λ was. state) now) id c did.stored)) (quiet_saves now id state x found c (done.0 refl) did.stored)))
     (λ e. some_act once.0.acts once.1 e)
 
 -- a turn of what a macro plays
 pub next_turn : (id used : ℕ) (left : List Todo) (start now new : World) (before mid after : StoreTold) (x : Session) → SoFar id used true start now before mid → find_session id now.sessions ≡ Some x → TurnDone true left now new mid after id → SoFar id (used + 1) true start new before after
-next_turn id used left start now new before mid after x s found t = more_by id used left start now new before mid after x s found t.own t.act t.turn t.done
+next_turn id used left start now new before mid after x s found t = more_by id used left start now new before mid after x s found t.state t.act t.turn t.done
 
 -- THE EVENT
 
@@ -208,7 +209,7 @@ some_memory : (n : ℕ) → IsSome (memory_behind n (Some 0))
 some_memory n = refl
 
 -- nothing more is to be done
-pub event_done : (w u new : World) (before after : StoreTold) (id used byte : ℕ) → IsSome (find_session id w.sessions) → IsSome (find_session id new.sessions) → (stored : Bool) → (s : SoFar id used stored (with_own id (begun_own byte) w) u before after) → used ≤ most_turns → rests (turn_in u id) ≡ true → new ≡ settled u → KeyedBy w new before after id byte Done
+pub event_done : (w u new : World) (before after : StoreTold) (id used byte : ℕ) → IsSome (find_session id w.sessions) → IsSome (find_session id new.sessions) → (stored : Bool) → (s : SoFar id used stored (with_state id (begun_state byte) w) u before after) → used ≤ most_turns → rests (turn_in u id) ≡ true → new ≡ settled u → KeyedBy w new before after id byte Done
 event_done w u new before after id used byte here there stored s within stops settles = record {
   stored = stored;
   stop = None;
@@ -223,22 +224,22 @@ event_done w u new before after id used byte here there stored s within stops se
 }
 
 -- memory is refused to the next act
-pub event_short : (w u v new : World) (before mid after : StoreTold) (id used byte : ℕ) (x : Session) → IsSome (find_session id w.sessions) → IsSome (find_session id new.sessions) → (s : SoFar id used true (with_own id (begun_own byte) w) u before mid) → used < most_turns → find_session id u.sessions ≡ Some x → TurnRefused u v mid after id → new ≡ settled v → KeyedBy w new before after id byte Short
+pub event_short : (w u v new : World) (before mid after : StoreTold) (id used byte : ℕ) (x : Session) → IsSome (find_session id w.sessions) → IsSome (find_session id new.sessions) → (s : SoFar id used true (with_state id (begun_state byte) w) u before mid) → used < most_turns → find_session id u.sessions ≡ Some x → TurnRefused u v mid after id → new ≡ settled v → KeyedBy w new before after id byte Short
 event_short w u v new before mid after id used byte x here there s within found t settles = record {
   stored = true;
   stop = memory_behind s.leads.acts (Some 0);
-  step = settles ∙ ap settled t.told ∙ sym (step_short w u id byte true used s.saved here s.leads within t.own t.act x found t.turn);
+  step = settles ∙ ap settled t.told ∙ sym (step_short w u id byte true used s.saved here s.leads within t.state t.act x found t.turn);
   short = (λ e. some_memory s.leads.acts, λ e. refl);
   no_session = (λ e. cc, λ e. not_found (find_session id w.sessions) here e);
   quit = (λ e. cc, λ e. not_found (find_session id new.sessions) there e.1);
   may = λ e.
-      ap may_be_refused (act_short w u id byte true used s.saved here s.leads within t.own t.act x found t.turn)
+      ap may_be_refused (act_short w u id byte true used s.saved here s.leads within t.state t.act x found t.turn)
       ∙ t.may;
   fault = λ e. cc;
   saves =
       ap (λ (told : StoreTold). told.accepted) t.left
       ∙ s.saves
-      ∙ sym (ap (λ (xs : List Saved). told_more xs before.accepted) (saves_short w u id byte true used s.saved here s.leads within t.own t.act x found t.turn));
+      ∙ sym (ap (λ (xs : List Saved). told_more xs before.accepted) (saves_short w u id byte true used s.saved here s.leads within t.state t.act x found t.turn));
   unasked = λ e. t.left ∙ s.still (none_behind s.leads.acts e);
 }
 
@@ -292,19 +293,19 @@ not_played true e f = cc
 not_played false e f = cc
 
 -- the first turn of all
-began_by : (id : ℕ) (start new : World) (before after : StoreTold) (n : ℕ) (todo left : List Todo) → 1 + weight n left ≤ 53689341958 → is_played left ≡ true → (own : Own) (o : Option Act) → turn_in start id ≡ turn_to own o → IsTurnDone false left own o start new before after id → GoesOn id start new before after n left
-began_by id start new before after n todo left within played own None turn done = record {
+began_by : (id : ℕ) (start new : World) (before after : StoreTold) (n : ℕ) (todo left : List Todo) → 1 + weight n left ≤ 53689341958 → is_played left ≡ true → (state : State) (o : Option Act) → turn_in start id ≡ turn_to state o → IsTurnDone false left state o start new before after id → GoesOn id start new before after n left
+began_by id start new before after n todo left within played state None turn done = record {
   used = 1;
   stored = true;
-  so_far = subst (λ (t : StoreTold). SoFar id 1 true start new before t) (sym done.1) (first_kept id start new before own turn done.0);
+  so_far = subst (λ (t : StoreTold). SoFar id 1 true start new before t) (sym done.1) (first_kept id start new before state turn done.0);
   within = within;
   rest = λ h. refl;
   first = λ e. not_played (is_played left) played e;
 }
-began_by id start new before after n todo left within played own (Some c) turn done = record {
+began_by id start new before after n todo left within played state (Some c) turn done = record {
   used = 1;
   stored = done.2.stored;
-  so_far = first_acted id start new before after own c turn done.2;
+  so_far = first_acted id start new before after state c turn done.2;
   within = within;
   rest = λ h. absurd (h (done.1 refl));
   first = λ e. not_played (is_played left) played e;
@@ -327,7 +328,7 @@ module _ (id : ℕ) (start now new : World) (before mid after : StoreTold) (m n 
   went_on false e less t =
       let first = g.first e in
       let of_start : TurnDone false left start new before after id = subst (λ (w : World). TurnDone false left w new before after id) first.1 (subst (λ (s : StoreTold). TurnDone false left now new s after id) first.2 t) in
-      began_by id start new before after n todo left (omega (arith, g.within, less.0)) less.1 of_start.own of_start.act of_start.turn of_start.done
+      began_by id start new before after n todo left (omega (arith, g.within, less.0)) less.1 of_start.state of_start.act of_start.turn of_start.done
 
   broke_off : TurnRefused now new mid after id → BrokeOff id start new before after
   broke_off t = record {
@@ -362,10 +363,10 @@ below_most : (n : ℕ) → n < 53689341958 → n < most_turns
 unfolding most_turns
 below_most n h = omega (arith, h)
 
-none_rests : (w : World) (id : ℕ) (x : Session) → find_session id w.sessions ≡ Some x → x.own.todo ≡ [] → rests (turn_in w id) ≡ true
-none_rests w id x found none = ap rests (turn_todo w id x found) ∙ ap (λ (todo : List Todo). rests (todo_turn (view w x) x.own todo)) none
+none_rests : (w : World) (id : ℕ) (x : Session) → find_session id w.sessions ≡ Some x → x.state.todo ≡ [] → rests (turn_in w id) ≡ true
+none_rests w id x found none = ap rests (turn_todo w id x found) ∙ ap (λ (todo : List Todo). rests (todo_turn (view w x) x.state todo)) none
 
-pub event_over : (id : ℕ) (start now : World) (before after : StoreTold) (n : ℕ) (todo : List Todo) (x : Session) → find_session id now.sessions ≡ Some x → x.own.todo ≡ todo → (k : Keyed) → (k ≡ Done → todo ≡ []) → EventSoFar id start now before after n todo k → EventBy id start now before after k
+pub event_over : (id : ℕ) (start now : World) (before after : StoreTold) (n : ℕ) (todo : List Todo) (x : Session) → find_session id now.sessions ≡ Some x → x.state.todo ≡ todo → (k : Keyed) → (k ≡ Done → todo ≡ []) → EventSoFar id start now before after n todo k → EventBy id start now before after k
 event_over id start now before after n todo x found is keyed.Done none g = λ w byte here there begins.
     event_done w now (settled now) before after id g.used byte here there g.stored (subst (λ (v : World). SoFar id g.used g.stored v now before after) begins g.so_far)
     (within_most g.used (omega (arith, g.within))) (none_rests now id x found (is ∙ none refl)) refl

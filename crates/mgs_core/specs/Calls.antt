@@ -1,112 +1,75 @@
--- What a call on the session at a place leaves, whatever its id, and whichever id comes next.
-use Rattle.std.specs.Prelude.{◌≡◌, ◌<◌, ℕ, zero, suc, true, List, [], ◌∷◌, length, Option, None, Some, Result, IfOk}
-use Rattle.std.specs.List.{position_or_len}
+-- What a call of a server leaves, and what it answers: one call is one step of the model.
+use Rattle.std.specs.Prelude.{◌≡◌, ◌↔◌, ℕ, Bool, true, false, List, [], Option, Some, None, IsSome, slice_get, IfOk, OnErr, Result, Ok, Err}
 use Rattle.mgs_model.specs.Access.{Directory}
-use Rattle.mgs_model.specs.Apart.{Apart, settled_apart}
-use Rattle.mgs_model.specs.Events.{Saved}
-use Rattle.mgs_model.specs.declared.errors.Keyed.{Keyed}
-use Rattle.mgs_model.specs.declared.errors.Short.{Short}
-use Rattle.mgs_model.specs.declared.message.Message.TheVariants.{Silent}
+use Rattle.mgs_model.specs.World.{World, Buffer, Session, State, has_id, find_session}
+use Rattle.mgs_laws.specs.Apart.{may_differ}
+use Rattle.mgs_model.specs.Apply.{remove_first}
 use Rattle.mgs_model.specs.declared.touched.Touched.{Touched}
-use Rattle.mgs_buffers.specs.MarkedBuffer.{MarkedBuffer}
-use Rattle.mgs_plan.specs.Actions.{act_of}
-use Rattle.mgs_plan.specs.Beginning.{search_held}
-use Rattle.mgs_plan.specs.declared.key_act.KeyAct.{KeyAct}
-use Rattle.mgs_seek.specs.Replacing.{remaining_at}
-use Rattle.mgs_session.specs.declared.Own.{Own}
-use Rattle.mgs_session.specs.declared.Session.{Session}
-use Rattle.mgs_session.specs.declared.search.Search.{Search}
-use Rattle.mgs_store.specs.Stores.{store_told}
-use Rattle.mgs_world.specs.Worlds.{aim_old, own_at, session_id, world_of}
-use Rattle.mgs_core.specs.declared.deeds.Before.{Before}
-use Rattle.mgs_core.specs.declared.deeds.Deed.{Deed}
-use Rattle.mgs_core.specs.Held.{AreSettled}
-use Rattle.mgs_act.specs.Doing.{DoneBy}
-use Rattle.mgs_core.specs.Steps.{IsStill, KeyedBy, TypedBy, closed, started_by, started_world}
-use Rattle.mgs_core.specs.Turned.{EventBy, IsLess, TurnedBy, is_played}
-use Rattle.mgs_core.specs.Stepped.{deed_act, deed_world, is_replacement}
+use Rattle.mgs_model.specs.Events.{Open, Byte, step, can_open, open_fault, event_saves, with_state}
+use Rattle.mgs_laws.specs.Refusals.{refused_act, may_be_refused}
+use Rattle.mgs_model.specs.declared.errors.Keyed.{Keyed}
+use Rattle.mgs_model.specs.declared.errors.Keyed.TheVariants as keyed
+use Rattle.mgs_model.specs.declared.errors.OpenFault.{OpenFault}
+use Rattle.mgs_model.specs.declared.errors.OpenFault.TheVariants.{NoUser, Size, Full, Short}
+use Rattle.mgs_store.specs.Stores.{StoreTold, IsCounted, told_more}
+use Rattle.mgs_world.specs.declared.size.Size as world
+use Rattle.mgs_world.specs.Worlds.{is_size_of}
 
--- the world is as it was
-abbrev pub IsSameWorld : Directory → List MarkedBuffer → List MarkedBuffer → List Session → List Session → Type 0
-IsSameWorld directory ks ls xs ys = (next : Option ℕ) → world_of directory ls ys next ≡ world_of directory ks xs next
+-- A NEW SERVER: the world of these users and buffers, without a session
+abbrev pub new_world : Directory → List Buffer → World
+new_world directory buffers = record { directory = directory; buffers = buffers; sessions = []; next_id = 1 }
 
--- all that was not touched is as it was
-abbrev pub AreApart : Touched → ℕ → Directory → List MarkedBuffer → List MarkedBuffer → List Session → List Session → Type 0
-AreApart touched id directory ks ls xs ys = (next : Option ℕ) → Apart touched id (world_of directory ks xs next) (world_of directory ls ys next)
+-- A BYTE: the world after is the step of the world before, for some answer of the store, and some number of acts for
+-- which there is memory. `Short` is answered exactly where memory was refused, `NoSession` exactly where no session has
+-- the id, and `Quit` exactly where the byte took its session away. Memory is refused only to an act that may be refused.
+-- The store's answer is a refusal only where a fault was counted, and what the byte saves was accepted. Where memory was refused to the
+-- byte's first act, as to each save that is refused, the store was not asked, and is as it was.
+pub record KeyedBy (old new : World) (before after : StoreTold) (id byte : ℕ) (result : Keyed) : Type 0 where
+  pub stored : Bool
+  pub stop : Option ℕ
+  pub step : new ≡ step old (Byte id byte stored stop)
+  pub short : (result ≡ keyed.Short) ↔ IsSome stop
+  pub no_session : (result ≡ keyed.NoSession) ↔ (find_session id old.sessions ≡ None)
+  pub quit : (result ≡ keyed.Quit) ↔ (IsSome (find_session id old.sessions) × (find_session id new.sessions ≡ None))
+  pub may : IsSome stop → may_be_refused (refused_act old id byte stored stop) ≡ true
+  pub fault : stored ≡ false → IsCounted before.failed after.failed
+  pub saves : after.accepted ≡ told_more (event_saves old (Byte id byte stored stop)) before.accepted
+  pub unasked : stop ≡ Some 0 → after ≡ before
 
--- each window stands where it settles, if each did before
-abbrev pub StaySettled : Directory → List MarkedBuffer → List MarkedBuffer → List Session → List Session → Type 0
-StaySettled directory ks ls xs ys = AreSettled directory ks xs → AreSettled directory ls ys
+-- the world is as it was, but for what the session of an id holds, and of that what its screen shows is as it was
+pub record IsStill (id : ℕ) (w v : World) : Type 0 where
+  pub state : State
+  pub is : v ≡ with_state id (λ was. state) w
+  pub face : (x : Session) → find_session id w.sessions ≡ Some x → (state.mode ≡ x.state.mode) × (state.input ≡ x.state.input) × (state.echo ≡ x.state.echo)
 
--- the windows settle that may differ
-abbrev pub SettlesApart : Touched → ℕ → Directory → List MarkedBuffer → List MarkedBuffer → List Session → Type 0
-SettlesApart touched id directory ks ls xs = (next : Option ℕ) → world_of directory ls xs next ≡ settled_apart touched id (world_of directory ks xs next)
+-- the ids and sizes of the sessions after a byte of one of them: `Quit` takes its session away
+abbrev pub sizes_keyed : Keyed → ℕ → List world.Size → List world.Size
+sizes_keyed keyed.Quit id xs = remove_first (is_size_of id) xs
+sizes_keyed _ id xs = xs
 
--- the world is as it was but for the session of an id
-abbrev pub IsSameBut : ℕ → Directory → List MarkedBuffer → List MarkedBuffer → List Session → List Session → Type 0
-IsSameBut id directory ks ls xs ys = (next : Option ℕ) → closed (world_of directory ls ys next) id ≡ closed (world_of directory ks xs next) id
+-- what is answered: each fault exactly where it is due, and out of memory only where none is
+abbrev pub OpenAnswers : Result ℕ OpenFault → Option OpenFault → Type 0
+OpenAnswers (Ok id) due = due ≡ None
+OpenAnswers (Err Short) due = due ≡ None
+OpenAnswers (Err NoUser) due = due ≡ Some NoUser
+OpenAnswers (Err Size) due = due ≡ Some Size
+OpenAnswers (Err Full) due = due ≡ Some Full
 
--- the world is without the session of an id
-abbrev pub IsWithout : ℕ → Directory → List MarkedBuffer → List MarkedBuffer → List Session → List Session → Type 0
-IsWithout id directory ks ls xs ys = (next : Option ℕ) → world_of directory ls ys next ≡ closed (world_of directory ks xs next) id
+-- OPENING: the id is the next one, and the world after is the step of the world before
+pub record OpenedBy (old new : World) (user : List ℕ) (rows cols : ℕ) (result : Result ℕ OpenFault) : Type 0 where
+  pub ok : IfOk result (λ id. (id ≡ old.next_id) × (can_open old id user rows cols ≡ true) × (new ≡ step old (Open id user rows cols)))
+  pub err : OnErr result (new ≡ old)
+  pub answer : OpenAnswers result (open_fault old user rows cols)
 
--- what the session at a place holds is this now
-abbrev pub own_put : ℕ → Own → List Session → List Session
-own_put at o [] = []
-own_put zero o (x ∷ xs) = record x { own = o } ∷ xs
-own_put (suc at) o (x ∷ xs) = x ∷ own_put at o xs
+-- CLOSING: the world without the session of an id
+abbrev pub closed : World → ℕ → World
+closed w id = record w { sessions = remove_first (has_id id) w.sessions }
 
--- all is as it was but what the session at a place holds
-pub record OwnAlone (at : ℕ) (ks ls : List MarkedBuffer) (xs ys : List Session) : Type 0 where
-  pub buffers : ls ≡ ks
-  pub own : Own
-  pub is : ys ≡ own_put at own xs
+-- WHAT MAY DIFFER after an event of a session that touched this: the screen of the session at a place
 
--- a screen shows nothing of this: there is no prompt and no search, and nothing is told
-pub record IsBare (o : Own) : Type 0 where
-  pub search : o.search ≡ None
-  pub prompt : o.prompt ≡ None
-  pub echo : o.echo ≡ Silent
+abbrev pub found_differs : Touched → ℕ → Option Session → Bool
+found_differs touched id None = true
+found_differs touched id (Some x) = may_differ touched id x
 
--- what its screen shows of the session of an id is as it was, and so is all else but what it holds
-abbrev pub StaysStill : ℕ → Directory → List MarkedBuffer → List MarkedBuffer → List Session → List Session → Type 0
-StaysStill id directory ks ls xs ys = (next : Option ℕ) → IsStill id (world_of directory ks xs next) (world_of directory ls ys next)
-
--- less is left to do
-abbrev pub LeavesLess : ℕ → List MarkedBuffer → List MarkedBuffer → List Session → List Session → Type 0
-LeavesLess at ks ls xs ys = IsLess (remaining_at at ks xs) (remaining_at at ls ys) (own_at at xs).todo (own_at at ys).todo
-
--- an act of a key is done, in the world in which it is decided
-abbrev pub IsActDone : {S : Type 0} → (S → ℕ) → (S → Option (List Saved)) → Directory → ℕ → KeyAct → List MarkedBuffer → List Session → S → List MarkedBuffer → List Session → S → Touched → Type 0
-IsActDone failed accepted directory at done ks xs s ls ys t touched =
-    (id : ℕ) (next : Option ℕ) → at ≡ position_or_len (session_id id) xs
-    → DoneBy touched (started_world (started_by done) id (world_of directory ks xs next)) (world_of directory ls ys next) (store_told failed accepted s) (store_told failed accepted t) id (act_of done)
-
--- a deed, where this was there before
-abbrev pub IsDeedDone : {S : Type 0} → (S → ℕ) → (S → Option (List Saved)) → Directory → ℕ → Deed → Before → List MarkedBuffer → List Session → S → List MarkedBuffer → List Session → S → Result Touched Short → Type 0
-IsDeedDone failed accepted directory at deed b ks xs s ls ys t result =
-    IfOk result (λ touched. (id : ℕ) (next : Option ℕ) → at ≡ position_or_len (session_id id) xs
-    → DoneBy touched (deed_world b deed id (world_of directory ks xs next)) (world_of directory ls ys next) (store_told failed accepted s) (store_told failed accepted t) id (deed_act (own_at at xs) b deed))
-
--- a replacement leaves fewer characters of the text that is replaced in
-abbrev pub LeavesFewer : Deed → ℕ → List MarkedBuffer → List MarkedBuffer → List Session → List Session → Type 0
-LeavesFewer deed at ks ls xs ys =
-    (s t : Search) → is_replacement deed ≡ true → search_held at xs ≡ Some s → search_held at ys ≡ Some t → 0 < length (aim_old s.aim) → remaining_at at ls ys < remaining_at at ks xs
-
--- A TURN, an event before it settles, a byte before its session is taken out, and a byte: from this world and store to that
-abbrev pub IsTurned : {S : Type 0} → (S → ℕ) → (S → Option (List Saved)) → Directory → ℕ → ℕ → List MarkedBuffer → List Session → S → List MarkedBuffer → List Session → S → Keyed → Type 0
-IsTurned failed accepted directory at id ks xs s ls ys t result =
-    (next : Option ℕ)
-    → TurnedBy (is_played (own_at at xs).todo) (own_at at ys).todo (world_of directory ks xs next) (world_of directory ls ys next) (store_told failed accepted s) (store_told failed accepted t) id result
-
-abbrev pub IsEvent : {S : Type 0} → (S → ℕ) → (S → Option (List Saved)) → Directory → ℕ → List MarkedBuffer → List Session → S → List MarkedBuffer → List Session → S → Keyed → Type 0
-IsEvent failed accepted directory id ks xs s ls ys t result =
-    (next : Option ℕ) → EventBy id (world_of directory ks xs next) (world_of directory ls ys next) (store_told failed accepted s) (store_told failed accepted t) result
-
-abbrev pub IsTyped : {S : Type 0} → (S → ℕ) → (S → Option (List Saved)) → Directory → ℕ → ℕ → List MarkedBuffer → List Session → S → List MarkedBuffer → List Session → S → Keyed → Type 0
-IsTyped failed accepted directory id byte ks xs s ls ys t result =
-    (next : Option ℕ) → TypedBy (world_of directory ks xs next) (world_of directory ls ys next) (store_told failed accepted s) (store_told failed accepted t) id byte result
-
-abbrev pub IsByte : {S : Type 0} → (S → ℕ) → (S → Option (List Saved)) → Directory → ℕ → ℕ → List MarkedBuffer → List Session → S → List MarkedBuffer → List Session → S → Keyed → Type 0
-IsByte failed accepted directory id byte ks xs s ls ys t result =
-    (next : Option ℕ) → KeyedBy (world_of directory ks xs next) (world_of directory ls ys next) (store_told failed accepted s) (store_told failed accepted t) id byte result
+abbrev pub differs_at : Touched → ℕ → ℕ → World → Bool
+differs_at touched id at w = found_differs touched id (slice_get w.sessions at)

@@ -1,9 +1,11 @@
-pub mod Steps
+pub mod KeyActs
+pub mod Calls
 pub mod Held
 pub mod Counts
 pub mod Judged
 pub mod Kept
 pub mod Prompted
-pub mod Turned
-pub mod Stepped
-pub mod Calls
+pub mod Turns
+pub mod ByteActs
+pub mod ByteSteps
+pub mod AtPlace

@@ -3,11 +3,11 @@ ghost use Rattle.std.specs.Prelude.{◌≡◌, ◌≤◌, List, Option, None, le
 ghost use Rattle.mgs_model.specs.Access.{Directory};
 ghost use Rattle.mgs_buffers.specs.MarkedBuffer.{MarkedBuffer};
 ghost use Rattle.mgs_model.specs.Plans.{count_of};
-ghost use Rattle.mgs_core.specs.Steps.{command_act, line_act, motion_act};
-ghost use Rattle.mgs_core.specs.declared.deeds.Before.TheVariants.{Plain};
-ghost use Rattle.mgs_core.specs.Stepped.{IsAlone, IsByteStep, IsCommandStep, call_fault, is_call, is_exit, is_keyed};
+ghost use Rattle.mgs_core.specs.KeyActs.{command_act, line_act, motion_act};
+ghost use Rattle.mgs_core.specs.declared.byte_acts.Before.TheVariants.{Plain};
+ghost use Rattle.mgs_core.specs.ByteSteps.{IsAlone, IsByteStep, IsCommandStep, call_fault, is_call, is_exit, is_keyed};
 
-use crate::deeds::Deed;
+use crate::byte_acts::ByteAct;
 use mgs_maps::Fed;
 use mgs_model::{Command, Message, Motion, Question, REPETITION_LIMIT, Setting};
 use mgs_plan::KeyAct;
@@ -23,7 +23,7 @@ pub enum ByteStep {
     /// The end of the session.
     Ends,
     /// This is to be done by the session.
-    Acts(Deed),
+    Acts(ByteAct),
 }
 
 /// Going to a line: one that no argument tells is asked for.
@@ -85,11 +85,11 @@ fn times(argument: Option<usize>) -> usize
 /// Why the session's macro, of at most 512 bytes, cannot be played so often: one is played or recorded, there is none, or it is more than 100
 /// times.
 fn call_fault(session: &Session, argument: Option<usize>) -> Option<Message>
-    ensures value { result ≡ call_fault session.now.own argument }
-    ensures within { length session.now.own.recorder.macro ≤ 512 }
+    ensures value { result ≡ call_fault session.now.state argument }
+    ensures within { length session.now.state.recorder.macro ≤ 512 }
 {
-    let bytes = session.own.recorder.as_slice();
-    if session.own.recorder.is_recording() || session.own.player.is_playing() {
+    let bytes = session.state.recorder.as_slice();
+    if session.state.recorder.is_recording() || session.state.player.is_playing() {
         return Some(Message::InMacro);
     }
     if bytes.is_empty() {
@@ -124,24 +124,24 @@ pub fn step_command(session: &mut Session, command: Command, argument: Option<us
         return step_call(session, command, argument);
     }
     if !is_exit(command) {
-        return ByteStep::Acts(Deed::Act(command_act(command, argument)));
+        return ByteStep::Acts(ByteAct::Act(command_act(command, argument)));
     }
-    if session.own.player.is_playing() {
+    if session.state.player.is_playing() {
         fail(session, Message::InMacro);
         return ByteStep::Failed;
     }
     ByteStep::Ends
 }
 
-/// What a key comes to in a session that neither searches nor is at a prompt. It asks for no answer's deed, and for none of a search.
+/// What a key comes to in a session that neither searches nor is at a prompt. It asks for no answer's act, and for none of a search.
 pub fn step_key(session: &mut Session, byte: u8) -> ByteStep
-    requires still { session.old.own.search ≡ None }
-    requires plain { session.old.own.prompt ≡ None }
-    requires alone { IsAlone session.old.own.player }
+    requires still { session.old.state.search ≡ None }
+    requires plain { session.old.state.prompt ≡ None }
+    requires alone { IsAlone session.old.state.player }
     ensures step { (directory : Directory) (ks : List MarkedBuffer) → IsByteStep directory ks session.old session.new byte Plain result }
     ensures keyed { is_keyed result ≡ true }
 {
-    let mut keyboard = session.own.keyboard;
+    let mut keyboard = session.state.keyboard;
     match keyboard.feed(byte) {
         Fed::Pending => {
             hold(session, keyboard);
@@ -149,7 +149,7 @@ pub fn step_key(session: &mut Session, byte: u8) -> ByteStep
         }
         Fed::Unbound => {
             rest(session);
-            ByteStep::Acts(Deed::Act(KeyAct::Unbound))
+            ByteStep::Acts(ByteAct::Act(KeyAct::Unbound))
         }
         Fed::Run(command, argument) => {
             rest(session);

@@ -1,7 +1,7 @@
 //! The server's world: its directory, buffers and sessions. One call of `Core` is one event.
 #![tactic(auto)]
 
-mod deeds;
+mod byte_acts;
 mod keying;
 mod laws;
 mod secrecy;

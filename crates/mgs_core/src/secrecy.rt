@@ -1,6 +1,6 @@
 // The laws of secrecy. They are about the definitions that `Core` meets, so these calls take nothing and do nothing.
-ghost use Rattle.mgs_model.specs.Secrecy.{HiddenAct, HiddenText};
-ghost use Rattle.mgs_model.specs.Purging.{Purged};
+ghost use Rattle.mgs_laws.specs.Secrecy.{HiddenAct, HiddenText};
+ghost use Rattle.mgs_laws.specs.Purging.{Purged};
 
 /// A hidden text has no effect on one act. Where two worlds differ only in the characters of buffers that a set of
 /// users may not read, the same act of a session of one of them does the same: it has the same effect on the buffers, a

@@ -1,5 +1,5 @@
 // Of what a session has still to do in an event, one after another is done until nothing is left.
-ghost use Rattle.std.specs.Prelude.{◌≡◌, ◌<◌, ◌≤◌, ℕ, [], Option, Some, length, false, true};
+ghost use Rattle.std.specs.Prelude.{◌≡◌, ◌<◌, ◌≤◌, [], IfOk, OnOk, OnErr, length, false, true};
 ghost use Rattle.std.specs.List.{position_or_len};
 ghost use Rattle.mgs_model.specs.World as model;
 ghost use Rattle.mgs_model.specs.declared.errors.Keyed.TheVariants.{Done, Quit};
@@ -9,15 +9,17 @@ ghost use Rattle.mgs_store.specs.Stores.{store_told};
 ghost use Rattle.mgs_plan.specs.Beginning.{search_held};
 ghost use Rattle.mgs_session.specs.declared.search.Search.{Search};
 ghost use Rattle.mgs_world.specs.Sound.{IsSound};
-ghost use Rattle.mgs_world.specs.Worlds.{IsUnique, buffers_of, own_at, own_of, session_id, sizes_in, world_of};
-ghost use Rattle.mgs_core.specs.Calls.{AreApart, IsBare, IsEvent, IsSameBut, IsTurned, IsTyped, LeavesFewer, LeavesLess, OwnAlone, SettlesApart, StaySettled, StaysStill};
-ghost use Rattle.mgs_core.specs.declared.deeds.Before.TheVariants.{Plain};
+ghost use Rattle.mgs_world.specs.Worlds.{IsUnique, state_at, state_of, session_id, sizes_in};
+ghost use Rattle.mgs_core.specs.AtPlace.{AreApart, IsActDone, IsActRefused, IsBare, IsEvent, IsSameBut, IsTurned, IsTyped, LeavesFewer, LeavesLess, StateAlone, SettlesApart, StaySettled, StaysStill};
+ghost use Rattle.mgs_core.specs.declared.byte_acts.Before.TheVariants.{Plain};
 ghost use Rattle.mgs_core.specs.Held.{AreSettled};
 ghost use Rattle.mgs_core.specs.Judged.{judged_touched};
-ghost use Rattle.mgs_core.specs.Stepped.{CanDo, IsFirstStep, IsReady, IsTurnStep, before_of, deed_act, deed_world, may_want_memory, own_before, put_back, refused};
-ghost use Rattle.mgs_core.specs.Turned.{DeedBy, IsFit, goes_on, has_all, touched_both, weight};
+ghost use Rattle.mgs_core.specs.ByteActs.{CanDo, IsReady, state_before, refused};
+ghost use Rattle.mgs_core.specs.ByteSteps.{IsFirstStep, IsTurnStep};
+ghost use Rattle.mgs_model.specs.declared.touched.Touched.TheVariants.{Nowhere};
+ghost use Rattle.mgs_core.specs.Turns.{IsFit, goes_on, has_all, touched_both, weight};
 
-use crate::deeds::{Before, Deed, do_deed, take_before};
+use crate::byte_acts::{Before, ByteAct, do_byte_act, take_before};
 use crate::keying::ByteStep;
 use crate::typing::step_byte;
 use mgs_buffers::Buffers;
@@ -26,7 +28,7 @@ use mgs_maps::Keyboard;
 use mgs_marks::Marked;
 use mgs_model::{Keyed, Kind, Message, SessionId, Short, Touched};
 use mgs_policy::Directory;
-use mgs_session::{Session, Task, begin, break_off, next_task, rest, set_echo, set_kind};
+use mgs_session::{Pending, Session, begin, break_off, next_task, rest, set_echo, set_kind};
 use mgs_store::Store;
 use mgs_world::settle_apart;
 use std::alloc::Global;
@@ -63,27 +65,27 @@ fn step_first<T: Marked + Drop>(
     before: &mut Before,
 ) -> ByteStep
     requires judged { AreJudged directory.now (rules_kept buffers.now) judge.old }
-    requires plays { session.old.own.player.playing ≡ true }
-    requires all { are_played session.old.own.player.todo ≡ true }
+    requires plays { session.old.state.player.playing ≡ true }
+    requires all { are_played session.old.state.player.todo ≡ true }
     requires plain { before.old ≡ Plain }
-    ensures step { (own : model.Own) → IsFirstStep directory.now buffers.now own session.old session.new byte before.new result }
+    ensures step { (state : model.State) → IsFirstStep directory.now buffers.now state session.old session.new byte before.new result }
     ensures judged { AreJudged directory.now (rules_kept buffers.now) judge.new }
 {
     let step = step_byte(buffers, judge, directory, session, byte, before);
     match step {
         ByteStep::Kept => {
-            session.own.player.begin_again();
+            session.state.player.begin_again();
             ByteStep::Kept
         }
-        ByteStep::Acts(deed) => {
+        ByteStep::Acts(byte_act) => {
             set_kind(session, Kind::Other);
-            ByteStep::Acts(deed)
+            ByteStep::Acts(byte_act)
         }
         _ => step,
     }
 }
 
-/// Takes what the session has to do next. Where that is a deed, what was there before stands in its place then, where nothing was.
+/// Takes what the session has to do next. Where that is an act, what was there before stands in its place then, where nothing was.
 fn next_step<T: Marked + Drop>(
     buffers: &Buffers<T>,
     judge: &mut Judge,
@@ -92,47 +94,47 @@ fn next_step<T: Marked + Drop>(
     before: &mut Before,
 ) -> ByteStep
     requires judged { AreJudged directory.now (rules_kept buffers.now) judge.old }
-    requires some { session.old.own.player.todo ≡ [] → ⊥ }
-    requires fit { IsFit (own_of session.old.own) }
+    requires some { session.old.state.player.todo ≡ [] → ⊥ }
+    requires fit { IsFit (state_of session.old.state) }
     requires plain { before.old ≡ Plain }
     ensures step { IsTurnStep directory.now buffers.now session.old session.new before.new result }
     ensures judged { AreJudged directory.now (rules_kept buffers.now) judge.new }
 {
     match next_task(session) {
-        Task::Typed(byte) => step_byte(buffers, judge, directory, session, byte, before),
-        Task::Played(byte) => step_byte(buffers, judge, directory, session, byte, before),
-        Task::First(byte) => step_first(buffers, judge, directory, session, byte, before),
-        Task::End => {
+        Pending::Typed(byte) => step_byte(buffers, judge, directory, session, byte, before),
+        Pending::Played(byte) => step_byte(buffers, judge, directory, session, byte, before),
+        Pending::First(byte) => step_first(buffers, judge, directory, session, byte, before),
+        Pending::End => {
             set_kind(session, Kind::Other);
             ByteStep::Kept
         }
-        Task::Replacement => ByteStep::Acts(Deed::Replace(false)),
-        Task::FirstReplacement => {
+        Pending::Replacement => ByteStep::Acts(ByteAct::Replace(false)),
+        Pending::FirstReplacement => {
             set_kind(session, Kind::Other);
-            ByteStep::Acts(Deed::Replace(false))
+            ByteStep::Acts(ByteAct::Replace(false))
         }
-        Task::Nothing => ByteStep::Kept,
+        Pending::Nothing => ByteStep::Kept,
     }
 }
 
 /// What was there before an act is there again, with nothing half read.
 fn return_to(session: &mut Session, before: Before)
-    ensures { session.new ≡ record session.old { own = own_before before session.old.own } }
+    ensures { session.new ≡ record session.old { state = state_before before session.old.state } }
 {
     match before {
         Before::Plain => rest(session),
         Before::Prompt(prompt) => {
             rest(session);
-            session.own.prompt = Some(prompt);
+            session.state.prompt = Some(prompt);
         }
         Before::Search(search, last) => {
             rest(session);
-            session.own.search = Some(search);
-            session.own.pattern = last;
+            session.state.search = Some(search);
+            session.state.pattern = last;
         }
         Before::Held => {
             set_echo(session, Message::Silent);
-            session.own.keyboard = Keyboard::new();
+            session.state.keyboard = Keyboard::new();
         }
     }
 }
@@ -144,7 +146,7 @@ fn refuse(session: &mut Session, before: Before, kind: Kind, is_playing: bool)
 {
     return_to(session, before);
     set_kind(session, kind);
-    session.own.player.set_playing(is_playing);
+    session.state.player.set_playing(is_playing);
     break_off(session, Message::NoMemory);
 }
 
@@ -169,37 +171,36 @@ fn act_turn<T: Marked + Drop, S: Store>(
     at: usize,
     store: &mut S,
     id: SessionId,
-    deed: Deed,
+    act: ByteAct,
     before: &mut Before,
     kind: Kind,
     is_playing: bool,
-) -> (Keyed, Touched)
+) -> Result<Touched, Short>
     requires sound { IsSound buffers.old sessions.old }
     requires place { at ≡ position_or_len (session_id id) sessions.old }
     requires within { at < length sessions.old }
-    requires ready { IsReady deed (search_held at sessions.old) (own_at at sessions.old) }
-    requires here { CanDo before.old deed }
+    requires ready { IsReady act (search_held at sessions.old) (state_at at sessions.old) }
+    requires here { CanDo before.old act }
     requires judged { AreJudged directory.now (rules_kept buffers.old) judge.old }
     ensures judged { AreJudged directory.now (rules_kept buffers.new) judge.new }
     ensures sound { IsSound buffers.new sessions.new }
     ensures sizes { sizes_in sessions.new ≡ sizes_in sessions.old }
-    ensures acted { (next : Option ℕ) → DeedBy (world_of directory.now buffers.old sessions.old next) (deed_world before.old deed id (world_of directory.now buffers.old sessions.old next)) (world_of directory.now buffers.new sessions.new next) (store_told S.failed S.accepted store.old) (store_told S.failed S.accepted store.new) id (may_want_memory deed) (deed_act (own_at at sessions.old) before.old deed) (put_back (buffers_of buffers.old) (before_of before.old deed) kind is_playing) result.0 }
-    ensures further { result.0 ≡ Done → LeavesFewer deed at buffers.old buffers.new sessions.old sessions.new }
-    ensures touched { AreApart result.1 id directory.now buffers.old buffers.new sessions.old sessions.new }
+    ensures ok { IsActDone S.failed S.accepted directory.now at act before.old buffers.old sessions.old store.old buffers.new sessions.new store.new result }
+    ensures err { OnErr result (IsActRefused directory.now id at before.old act kind is_playing buffers.old buffers.new sessions.old sessions.new) }
+    ensures unasked { OnErr result (store.new ≡ store.old) }
+    ensures further { OnOk result (LeavesFewer act at buffers.old buffers.new sessions.old sessions.new) }
+    ensures touched { IfOk result (λ touched. AreApart touched id directory.now buffers.old buffers.new sessions.old sessions.new) }
+    ensures untouched { OnErr result (AreApart Nowhere id directory.now buffers.old buffers.new sessions.old sessions.new) }
 {
-    match do_deed(alloc, buffers, directory, sessions, at, store, deed, before) {
+    match do_byte_act(alloc, buffers, directory, sessions, at, store, act, before) {
         Ok(touched) => {
             forget_touched(judge, &touched);
-            (Keyed::Done, touched)
+            Ok(touched)
         }
         Err(Short) => {
-            refuse(
-                &mut sessions[at],
-                take_before(before, deed),
-                kind,
-                is_playing,
-            );
-            (Keyed::Short, Touched::Nowhere)
+            let before = take_before(before, act);
+            refuse(&mut sessions[at], before, kind, is_playing);
+            Err(Short)
         }
     }
 }
@@ -220,28 +221,28 @@ fn take_turn<T: Marked + Drop, S: Store>(
     requires place { at ≡ position_or_len (session_id id) sessions.old }
     requires within { at < length sessions.old }
     requires judged { AreJudged directory.now (rules_kept buffers.old) judge.old }
-    requires some { (own_at at sessions.old).todo ≡ [] → ⊥ }
-    requires fit { IsFit (own_at at sessions.old) }
+    requires some { (state_at at sessions.old).todo ≡ [] → ⊥ }
+    requires fit { IsFit (state_at at sessions.old) }
     ensures judged { AreJudged directory.now (rules_kept buffers.new) judge.new }
     ensures sound { IsSound buffers.new sessions.new }
     ensures sizes { sizes_in sessions.new ≡ sizes_in sessions.old }
     ensures less { result.0 ≡ Done → LeavesLess at buffers.old buffers.new sessions.old sessions.new }
-    ensures fit { result.0 ≡ Done → IsFit (own_at at sessions.new) }
+    ensures fit { result.0 ≡ Done → IsFit (state_at at sessions.new) }
     ensures turned { IsTurned S.failed S.accepted directory.now at id buffers.old sessions.old store.old buffers.new sessions.new store.new result.0 }
     ensures stands { result.2 ≡ true → StaySettled directory.now buffers.old buffers.new sessions.old sessions.new }
-    ensures alone { result.2 ≡ true → OwnAlone at buffers.old buffers.new sessions.old sessions.new }
+    ensures alone { result.2 ≡ true → StateAlone at buffers.old buffers.new sessions.old sessions.new }
     ensures touched { AreApart result.1 id directory.now buffers.old buffers.new sessions.old sessions.new }
 {
     // Tells the prover that each text is within the limit.
     let _count = buffers.len();
-    let kind = sessions[at].own.kind;
-    let is_playing = sessions[at].own.player.is_playing();
+    let kind = sessions[at].state.kind;
+    let is_playing = sessions[at].state.player.is_playing();
     let mut before = Before::Plain;
     match next_step(buffers, judge, directory, &mut sessions[at], &mut before) {
         ByteStep::Kept => (Keyed::Done, Touched::Nowhere, true),
         ByteStep::Failed => (Keyed::Done, Touched::Nowhere, true),
         ByteStep::Ends => (Keyed::Quit, Touched::Anywhere, true),
-        ByteStep::Acts(deed) => {
+        ByteStep::Acts(act) => {
             let done = act_turn(
                 alloc,
                 buffers,
@@ -251,13 +252,16 @@ fn take_turn<T: Marked + Drop, S: Store>(
                 at,
                 store,
                 id,
-                deed,
+                act,
                 &mut before,
                 kind,
                 is_playing,
             );
             let _later = buffers.len();
-            (done.0, done.1, false)
+            match done {
+                Ok(touched) => (Keyed::Done, touched, false),
+                Err(Short) => (Keyed::Short, Touched::Nowhere, false),
+            }
         }
     }
 }
@@ -265,10 +269,10 @@ fn take_turn<T: Marked + Drop, S: Store>(
 /// Whether more is to be done of an event.
 fn goes_on(keyed: Keyed, sessions: &[Session], at: usize) -> bool
     requires { at < length sessions.now }
-    ensures { result ≡ goes_on keyed (own_at at sessions.now).todo }
+    ensures { result ≡ goes_on keyed (state_at at sessions.now).todo }
 {
     match keyed {
-        Keyed::Done => !sessions[at].own.player.is_done(),
+        Keyed::Done => !sessions[at].state.player.is_done(),
         _ => false,
     }
 }
@@ -289,14 +293,14 @@ pub fn take_turns<T: Marked + Drop, S: Store>(
     requires place { at ≡ position_or_len (session_id id) sessions.old }
     requires within { at < length sessions.old }
     requires judged { AreJudged directory.now (rules_kept buffers.old) judge.old }
-    requires weight { weight 0 (own_at at sessions.old).todo ≤ 53689341958 }
-    requires none { has_all (own_at at sessions.old).todo ≡ false }
+    requires weight { weight 0 (state_at at sessions.old).todo ≤ 53689341958 }
+    requires none { has_all (state_at at sessions.old).todo ≡ false }
     ensures judged { AreJudged directory.now (rules_kept buffers.new) judge.new }
     ensures sound { IsSound buffers.new sessions.new }
     ensures sizes { sizes_in sessions.new ≡ sizes_in sessions.old }
     ensures event { IsEvent S.failed S.accepted directory.now id buffers.old sessions.old store.old buffers.new sessions.new store.new result.0 }
     ensures stands { result.2 ≡ true → StaySettled directory.now buffers.old buffers.new sessions.old sessions.new }
-    ensures alone { result.2 ≡ true → OwnAlone at buffers.old buffers.new sessions.old sessions.new }
+    ensures alone { result.2 ≡ true → StateAlone at buffers.old buffers.new sessions.old sessions.new }
     ensures touched { AreApart result.1 id directory.now buffers.old buffers.new sessions.old sessions.new }
 {
     let mut keyed = Keyed::Done;
@@ -336,12 +340,12 @@ fn settle_unless<T: Marked + Drop>(
 
 /// Whether a screen shows nothing of what its session holds: there is no prompt and no search, and the echo line is empty.
 fn is_bare(session: &Session) -> bool
-    ensures { result ≡ true → IsBare session.now.own }
+    ensures { result ≡ true → IsBare session.now.state }
 {
-    if session.own.search.is_some() || session.own.prompt.is_some() {
+    if session.state.search.is_some() || session.state.prompt.is_some() {
         return false;
     }
-    match session.own.echo {
+    match session.state.echo {
         Message::Silent => true,
         _ => false,
     }

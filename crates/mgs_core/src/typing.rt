@@ -15,13 +15,13 @@ ghost use Rattle.mgs_session.specs.Playing.{are_played, replacing_all};
 ghost use Rattle.mgs_model.specs.Commands.{find_command};
 ghost use Rattle.mgs_model.specs.declared.message.Message.TheVariants.{Replaced, Silent};
 ghost use Rattle.mgs_session.specs.Sessions.{playing_as, prompting, told, unbound, unprompted};
-ghost use Rattle.mgs_world.specs.Worlds.{own_of};
-ghost use Rattle.mgs_core.specs.Prompted.{names_for, own_completed};
-ghost use Rattle.mgs_core.specs.declared.deeds.Before.{Before};
-ghost use Rattle.mgs_core.specs.declared.deeds.Before.TheVariants.{Plain};
-ghost use Rattle.mgs_core.specs.Stepped.{IsAlone, IsAnswerStep, IsByteStep, IsNamedStep, IsSearchStep, finding, replace_key, replacing_at};
+ghost use Rattle.mgs_world.specs.Worlds.{state_of};
+ghost use Rattle.mgs_core.specs.Prompted.{names_for, state_completed};
+ghost use Rattle.mgs_core.specs.declared.byte_acts.Before.{Before};
+ghost use Rattle.mgs_core.specs.declared.byte_acts.Before.TheVariants.{Plain};
+ghost use Rattle.mgs_core.specs.ByteSteps.{IsAlone, IsAnswerStep, IsByteStep, IsNamedStep, IsSearchStep, finding, replace_key, replacing_at};
 
-use crate::deeds::{Before, Deed};
+use crate::byte_acts::{Before, ByteAct};
 use crate::keying::{ByteStep, step_command, step_key};
 use mgs_buffers::Buffers;
 use mgs_cache::Judge;
@@ -66,8 +66,8 @@ fn completion_for<'a, T: Marked + Drop>(
 
 /// Holds a prompt whose input was to be completed. Where it was not, since no name begins with it, this is told.
 fn hold_completed(session: &mut Session, prompt: Prompt, completes: bool)
-    ensures own { own_of session.new.own ≡ prompts.told completes (own_of (prompting prompt session.old).own) }
-    ensures rest { session.new ≡ record session.old { own = session.new.own } }
+    ensures state { state_of session.new.state ≡ prompts.told completes (state_of (prompting prompt session.old).state) }
+    ensures rest { session.new ≡ record session.old { state = session.new.state } }
 {
     hold_prompt(session, prompt);
     if !completes {
@@ -86,8 +86,8 @@ fn complete<T: Marked + Drop>(
     requires judged { AreJudged directory.now (rules_kept buffers.now) judge.old }
     requires still { session.old ≡ unsearched session.old }
     ensures judged { AreJudged directory.now (rules_kept buffers.now) judge.new }
-    ensures own { own_of session.new.own ≡ own_completed directory.now buffers.now prompt session.old }
-    ensures rest { session.new ≡ record session.old { own = session.new.own } }
+    ensures state { state_of session.new.state ≡ state_completed directory.now buffers.now prompt session.old }
+    ensures rest { session.new ≡ record session.old { state = session.new.state } }
 {
     let mut prompt = prompt;
     let completion = completion_for(buffers, judge, directory, &session.user, &prompt);
@@ -99,7 +99,7 @@ fn complete<T: Marked + Drop>(
 fn step_name(session: &mut Session, prompt: Prompt, before: &mut Before) -> ByteStep
     ensures { IsNamedStep session.old session.new prompt before.new (find_command prompt.input) result }
 {
-    let argument = session.own.keyboard.argument();
+    let argument = session.state.keyboard.argument();
     let Some(command) = command_named(prompt.input()) else {
         fail(session, Message::NoSuchCommand);
         return ByteStep::Kept;
@@ -125,13 +125,13 @@ fn step_answer(session: &mut Session, prompt: Prompt, before: &mut Before) -> By
         Question::ReplaceWith => {
             rest(session);
             *before = Before::Prompt(prompt);
-            ByteStep::Acts(Deed::StartReplacing)
+            ByteStep::Acts(ByteAct::StartReplacing)
         }
         _ => {
-            let argument = session.own.keyboard.argument();
+            let argument = session.state.keyboard.argument();
             rest(session);
             *before = Before::Prompt(prompt);
-            ByteStep::Acts(Deed::Answer(argument))
+            ByteStep::Acts(ByteAct::Answer(argument))
         }
     }
 }
@@ -147,8 +147,8 @@ fn step_prompt<T: Marked + Drop>(
 ) -> ByteStep
     requires judged { AreJudged directory.now (rules_kept buffers.now) judge.old }
     requires still { session.old ≡ unsearched session.old }
-    requires alone { IsAlone session.old.own.player }
-    requires asked { is_some session.old.own.prompt ≡ true }
+    requires alone { IsAlone session.old.state.player }
+    requires asked { is_some session.old.state.prompt ≡ true }
     ensures step { IsByteStep directory.now buffers.now session.old session.new byte before.new result }
     ensures judged { AreJudged directory.now (rules_kept buffers.now) judge.new }
 {
@@ -189,12 +189,12 @@ fn step_still<T: Marked + Drop>(
 ) -> ByteStep
     requires judged { AreJudged directory.now (rules_kept buffers.now) judge.old }
     requires still { session.old ≡ unsearched session.old }
-    requires alone { IsAlone session.old.own.player }
+    requires alone { IsAlone session.old.state.player }
     requires plain { before.old ≡ Plain }
     ensures step { IsByteStep directory.now buffers.now session.old session.new byte before.new result }
     ensures judged { AreJudged directory.now (rules_kept buffers.now) judge.new }
 {
-    match &session.own.prompt {
+    match &session.state.prompt {
         None => step_key(session, byte),
         Some(_) => step_prompt(buffers, judge, directory, session, byte, before),
     }
@@ -212,12 +212,12 @@ fn step_foreign(
     before: &mut Before,
 ) -> ByteStep
     requires still { session.old ≡ unsearched session.old }
-    requires alone { IsAlone session.old.own.player }
-    requires ascii { is_character_byte session.old.own.keyboard.keys byte ≡ false }
-    requires leaves { read_byte session.old.own.pattern sought byte ≡ (sought, Leaves) }
+    requires alone { IsAlone session.old.state.player }
+    requires ascii { is_character_byte session.old.state.keyboard.keys byte ≡ false }
+    requires leaves { read_byte session.old.state.pattern sought byte ≡ (sought, Leaves) }
     ensures { IsSearchStep (finding name origin anchor sought) session.old session.new byte before.new result }
 {
-    let last = SearchString::of(session.own.pattern.as_slice());
+    let last = SearchString::of(session.state.pattern.as_slice());
     leave_search(session, &sought);
     let search = Search {
         name,
@@ -248,11 +248,11 @@ fn step_character(
     byte: u8,
 ) -> ByteStep
     requires still { session.old ≡ unsearched session.old }
-    requires alone { IsAlone session.old.own.player }
-    requires past { is_character_byte session.old.own.keyboard.keys byte ≡ true }
+    requires alone { IsAlone session.old.state.player }
+    requires past { is_character_byte session.old.state.keyboard.keys byte ≡ true }
     ensures { (before : Before) → IsSearchStep (finding name origin anchor sought) session.old session.new byte before result }
 {
-    let mut keyboard = session.own.keyboard;
+    let mut keyboard = session.state.keyboard;
     let sequence = keyboard.feed_character(byte);
     hold_keyboard(session, keyboard);
     match sequence {
@@ -264,7 +264,7 @@ fn step_character(
             let mut sought = sought;
             let step = sought.put(c);
             hold_sought(session, name, origin, anchor, sought);
-            ByteStep::Acts(Deed::Seek(step))
+            ByteStep::Acts(ByteAct::Seek(step))
         }
         Sequence::Broken => {
             hold_unbound(
@@ -292,14 +292,14 @@ fn step_find(
     before: &mut Before,
 ) -> ByteStep
     requires still { session.old ≡ unsearched session.old }
-    requires alone { IsAlone session.old.own.player }
+    requires alone { IsAlone session.old.state.player }
     ensures { IsSearchStep (finding name origin anchor sought) session.old session.new byte before.new result }
 {
-    if session.own.keyboard.is_character_byte(byte) {
+    if session.state.keyboard.is_character_byte(byte) {
         return step_character(session, name, origin, anchor, sought, byte);
     }
     let mut sought = sought;
-    match sought.feed(session.own.pattern.as_slice(), byte) {
+    match sought.feed(session.state.pattern.as_slice(), byte) {
         SearchStep::Ends => {
             leave_search(session, &sought);
             ByteStep::Kept
@@ -307,11 +307,11 @@ fn step_find(
         SearchStep::Leaves => step_foreign(session, name, origin, anchor, sought, byte, before),
         SearchStep::Quits => {
             hold_sought(session, name, origin, anchor, sought);
-            ByteStep::Acts(Deed::QuitSearch)
+            ByteStep::Acts(ByteAct::QuitSearch)
         }
         step => {
             hold_sought(session, name, origin, anchor, sought);
-            ByteStep::Acts(Deed::Seek(step))
+            ByteStep::Acts(ByteAct::Seek(step))
         }
     }
 }
@@ -341,12 +341,19 @@ fn hold_sought(
 /// What a byte asks of a query-replace.
 #[derive(Clone, Copy)]
 pub enum ReplaceKey {
+    /// The match is replaced.
     Replaces,
+    /// The match is replaced, and is the last one.
     ReplacesLast,
+    /// The match stays as it is.
     Skips,
+    /// This match is replaced, and each further one.
     ReplacesAll,
+    /// The query-replace ends.
     Ends,
+    /// It is quit.
     Quits,
+    /// None of these: the match is asked for again.
     Other,
 }
 
@@ -406,10 +413,10 @@ fn hold_replacing(
 
 /// All further matches are to be replaced.
 fn replace_all(session: &mut Session)
-    requires { are_played session.old.own.player.todo ≡ true }
-    ensures { session.new ≡ playing_as (replacing_all session.old.own.player) session.old }
+    requires { are_played session.old.state.player.todo ≡ true }
+    ensures { session.new ≡ playing_as (replacing_all session.old.state.player) session.old }
 {
-    session.own.player.replace_all();
+    session.state.player.replace_all();
 }
 
 /// What a byte comes to in a query-replace, which was taken out of the session.
@@ -422,7 +429,7 @@ fn step_replace(
     byte: u8,
 ) -> ByteStep
     requires still { session.old ≡ unsearched session.old }
-    requires alone { IsAlone session.old.own.player }
+    requires alone { IsAlone session.old.state.player }
     ensures { (before : Before) → IsSearchStep (replacing_at name origin anchor replacing) session.old session.new byte before result }
 {
     // Tells the prover that something is replaced.
@@ -430,15 +437,15 @@ fn step_replace(
     match replace_key(byte) {
         ReplaceKey::Replaces => {
             hold_replacing(session, name, origin, anchor, replacing);
-            ByteStep::Acts(Deed::Replace(false))
+            ByteStep::Acts(ByteAct::Replace(false))
         }
         ReplaceKey::ReplacesLast => {
             hold_replacing(session, name, origin, anchor, replacing);
-            ByteStep::Acts(Deed::Replace(true))
+            ByteStep::Acts(ByteAct::Replace(true))
         }
         ReplaceKey::Skips => {
             hold_replacing(session, name, origin, anchor, replacing);
-            ByteStep::Acts(Deed::Skip)
+            ByteStep::Acts(ByteAct::Skip)
         }
         ReplaceKey::ReplacesAll => {
             hold_replacing(session, name, origin, anchor, replacing);
@@ -463,7 +470,7 @@ fn step_replace(
 /// What a byte comes to in a search, which was taken out of the session.
 fn step_taken(session: &mut Session, search: Search, byte: u8, before: &mut Before) -> ByteStep
     requires still { session.old ≡ unsearched session.old }
-    requires alone { IsAlone session.old.own.player }
+    requires alone { IsAlone session.old.state.player }
     ensures { IsSearchStep search session.old session.new byte before.new result }
 {
     let Search {
@@ -480,8 +487,8 @@ fn step_taken(session: &mut Session, search: Search, byte: u8, before: &mut Befo
 
 /// What a byte comes to in a session that searches.
 fn step_search(session: &mut Session, byte: u8, before: &mut Before) -> ByteStep
-    requires searches { is_some session.old.own.search ≡ true }
-    requires alone { IsAlone session.old.own.player }
+    requires searches { is_some session.old.state.search ≡ true }
+    requires alone { IsAlone session.old.state.player }
     ensures { (directory : Directory) (ks : List MarkedBuffer) → IsByteStep directory ks session.old session.new byte before.new result }
 {
     let Some(search) = take_search(session) else {
@@ -490,7 +497,7 @@ fn step_search(session: &mut Session, byte: u8, before: &mut Before) -> ByteStep
     step_taken(session, search, byte, before)
 }
 
-/// What a byte comes to in its session. In one that does not search nothing of a search's size is moved. A deed's `before` stands in its place
+/// What a byte comes to in its session. In one that does not search nothing of a search's size is moved. An act's `before` stands in its place
 /// then, where nothing was.
 pub fn step_byte<T: Marked + Drop>(
     buffers: &Buffers<T>,
@@ -501,12 +508,12 @@ pub fn step_byte<T: Marked + Drop>(
     before: &mut Before,
 ) -> ByteStep
     requires judged { AreJudged directory.now (rules_kept buffers.now) judge.old }
-    requires alone { IsAlone session.old.own.player }
+    requires alone { IsAlone session.old.state.player }
     requires plain { before.old ≡ Plain }
     ensures step { IsByteStep directory.now buffers.now session.old session.new byte before.new result }
     ensures judged { AreJudged directory.now (rules_kept buffers.now) judge.new }
 {
-    match &session.own.search {
+    match &session.state.search {
         None => step_still(buffers, judge, directory, session, byte, before),
         Some(_) => step_search(session, byte, before),
     }

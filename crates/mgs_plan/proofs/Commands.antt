@@ -11,7 +11,7 @@ use Rattle.mgs_model.specs.View.{view}
 use Rattle.mgs_model.specs.Outcome as outcomes
 use Rattle.mgs_model.specs.Acts.{asks, fails, outcome, owns, sets}
 use Rattle.mgs_model.specs.Apply.{apply, change_first, outcome_in, searches, session_arranged}
-use Rattle.mgs_model.specs.Plans.{acted_own, failed_own, setting}
+use Rattle.mgs_model.specs.Plans.{acted_state, failed_state, setting}
 use Rattle.mgs_model.specs.declared.session.Command.TheVariants.{Ask, Set}
 use Rattle.mgs_model.specs.declared.session.Question.{Question}
 use Rattle.mgs_model.specs.declared.session.Setting.{Setting}
@@ -22,15 +22,15 @@ use Rattle.mgs_model.specs.declared.session.Kind.TheVariants.{Other}
 use Rattle.mgs_model.proofs.Firsts.{position_or_len-map, written_first}
 use Rattle.mgs_buffers.specs.MarkedBuffer.{MarkedBuffer}
 use Rattle.mgs_session.specs.Sessions.{acted, asking, failed, filling, macro_ended, macro_given_up, macro_started}
-use Rattle.mgs_session.specs.declared.Own.{Own}
+use Rattle.mgs_session.specs.declared.State.{State}
 use Rattle.mgs_session.specs.declared.Session.{Session}
 use Rattle.mgs_plan.specs.Actions.{is_setting_done}
 use Rattle.mgs_plan.specs.Setting.{session_set}
-use Rattle.mgs_world.specs.Worlds.{id_after, idle, own_at, own_of, session_id, session_of, world_of}
+use Rattle.mgs_world.specs.Worlds.{id_after, idle, state_at, state_of, session_id, session_of, world_of}
 use Rattle.mgs_world.proofs.Sessions.{session_some}
-use Rattle.mgs_world.proofs.Owns.{at_rest, no_search_at_rest, own_asking, search_at_rest, search_kept}
+use Rattle.mgs_world.proofs.Owns.{at_rest, no_search_at_rest, state_asking, search_at_rest, search_kept}
 use Rattle.mgs_world.proofs.Worlds.{same_world}
-use Rattle.mgs_plan.proofs.Deeds.{failed_so, fresh_own}
+use Rattle.mgs_plan.proofs.Deeds.{failed_so, fresh_state}
 
 pub session_known : (directory : Directory) (ks : List MarkedBuffer) (xs : List Session) (next : Option ℕ) (id at : ℕ) (h : Session) → at ≡ position_or_len (session_id id) xs → at < length xs → slice_get xs at ≡ Some h → find_session id (world_of directory ks xs next).sessions ≡ Some (session_of ks h)
 session_known directory ks xs next id at h place within is =
@@ -48,20 +48,20 @@ outcome_known directory ks xs next id at h c place within is = outcome_answered 
 -- A SETTING
 
 -- what is set of a session at rest
-acted_as : (f : model.Own → model.Own) → ((own : model.Own) → f (record (idle own) { kind = Other }) ≡ f (acted_own (idle own))) → (o : Own) → own_of o ≡ idle (own_of o) → f (record (own_of o) { kind = Other }) ≡ f (acted_own (own_of o))
-acted_as f same o fresh = at_rest (λ own. f (record own { kind = Other })) (λ own. f (acted_own own)) same (own_of o) fresh
+acted_as : (f : model.State → model.State) → ((state : model.State) → f (record (idle state) { kind = Other }) ≡ f (acted_state (idle state))) → (o : State) → state_of o ≡ idle (state_of o) → f (record (state_of o) { kind = Other }) ≡ f (acted_state (state_of o))
+acted_as f same o fresh = at_rest (λ state. f (record state { kind = Other })) (λ state. f (acted_state state)) same (state_of o) fresh
 
-module _ (directory : Directory) (ks : List MarkedBuffer) (xs : List Session) (next : Option ℕ) (id at : ℕ) (h : Session) (place : at ≡ position_or_len (session_id id) xs) (within : at < length xs) (found : slice_get xs at ≡ Some h) (fresh : own_at at xs ≡ idle (own_at at xs)) where
-  rests : own_of h.own ≡ idle (own_of h.own)
-  rests = fresh_own xs at h found fresh
+module _ (directory : Directory) (ks : List MarkedBuffer) (xs : List Session) (next : Option ℕ) (id at : ℕ) (h : Session) (place : at ≡ position_or_len (session_id id) xs) (within : at < length xs) (found : slice_get xs at ≡ Some h) (fresh : state_at at xs ≡ idle (state_at at xs)) where
+  rests : state_of h.state ≡ idle (state_of h.state)
+  rests = fresh_state xs at h found fresh
 
-  kept : (session_of ks h).search ≡ cond (searches (own_of h.own).mode) (session_of ks h).search None
+  kept : (session_of ks h).search ≡ cond (searches (state_of h.state).mode) (session_of ks h).search None
   kept = search_kept ks h rests
 
-  failed_set : (message : Message) → world_of directory ks (slice_set xs at (failed message h)) next ≡ apply (world_of directory ks xs next) id (fails (own_of h.own) message)
+  failed_set : (message : Message) → world_of directory ks (slice_set xs at (failed message h)) next ≡ apply (world_of directory ks xs next) id (fails (state_of h.state) message)
   failed_set message = failed_so directory ks xs next id at h message place within found rests
 
-  owned_so : (y : Session) (after : model.Own) → session_of ks y ≡ session_arranged (owns after) (session_of ks h) → world_of directory ks (slice_set xs at y) next ≡ apply (world_of directory ks xs next) id (owns after)
+  owned_so : (y : Session) (after : model.State) → session_of ks y ≡ session_arranged (owns after) (session_of ks h) → world_of directory ks (slice_set xs at y) next ≡ apply (world_of directory ks xs next) id (owns after)
   owned_so y after does =
       let f = session_arranged (owns after) in
       same_world directory _ _ _ _ (id_after next) refl
@@ -69,50 +69,50 @@ module _ (directory : Directory) (ks : List MarkedBuffer) (xs : List Session) (n
       ∙ ap (change_first (has_id id) f) (sym (map-id (map (session_of ks) xs))))
 
   -- a command of no kind was done, which set this
-  acted_so : (y : Session) (f : model.Own → model.Own) → ((own : model.Own) → f (record (idle own) { kind = Other }) ≡ f (acted_own (idle own)))
-      → session_of ks y ≡ record (session_of ks h) { own = f (record (own_of h.own) { kind = Other }) }
-      → Path (Option model.Search) (session_of ks h).search (cond (searches (f (acted_own (own_of h.own))).mode) (session_of ks h).search None)
-      → world_of directory ks (slice_set xs at y) next ≡ apply (world_of directory ks xs next) id (owns (f (acted_own (own_of h.own))))
+  acted_so : (y : Session) (f : model.State → model.State) → ((state : model.State) → f (record (idle state) { kind = Other }) ≡ f (acted_state (idle state)))
+      → session_of ks y ≡ record (session_of ks h) { state = f (record (state_of h.state) { kind = Other }) }
+      → Path (Option model.Search) (session_of ks h).search (cond (searches (f (acted_state (state_of h.state))).mode) (session_of ks h).search None)
+      → world_of directory ks (slice_set xs at y) next ≡ apply (world_of directory ks xs next) id (owns (f (acted_state (state_of h.state))))
   acted_so y f same does still =
-      owned_so y (f (acted_own (own_of h.own)))
-      (does ∙ (λ i. record (session_of ks h) { own = acted_as f same h.own rests i; search = still i }))
+      owned_so y (f (acted_state (state_of h.state)))
+      (does ∙ (λ i. record (session_of ks h) { state = acted_as f same h.state rests i; search = still i }))
 
   -- a command that is done or fails, by what the session records
-  recorded_so : (y : Session) (f : model.Own → model.Own) (message : Message)
-      → world_of directory ks (slice_set xs at y) next ≡ apply (world_of directory ks xs next) id (owns (f (acted_own (own_of h.own))))
-      → (c : Bool) → world_of directory ks (slice_set xs at (cond c y (failed message h))) next ≡ apply (world_of directory ks xs next) id (sets (own_of h.own) (cond c (Ok (f (acted_own (own_of h.own)))) (Err message)))
+  recorded_so : (y : Session) (f : model.State → model.State) (message : Message)
+      → world_of directory ks (slice_set xs at y) next ≡ apply (world_of directory ks xs next) id (owns (f (acted_state (state_of h.state))))
+      → (c : Bool) → world_of directory ks (slice_set xs at (cond c y (failed message h))) next ≡ apply (world_of directory ks xs next) id (sets (state_of h.state) (cond c (Ok (f (acted_state (state_of h.state)))) (Err message)))
   recorded_so y f message done true = done
   recorded_so y f message done false = failed_set message
 
-  started_so : (c : Bool) → world_of directory ks (slice_set xs at (cond c (failed InMacro h) (macro_started h))) next ≡ apply (world_of directory ks xs next) id (sets (own_of h.own) (cond c (Err InMacro) (Ok (record (acted_own (own_of h.own)) { recording = true; macro = [] }))))
+  started_so : (c : Bool) → world_of directory ks (slice_set xs at (cond c (failed InMacro h) (macro_started h))) next ≡ apply (world_of directory ks xs next) id (sets (state_of h.state) (cond c (Err InMacro) (Ok (record (acted_state (state_of h.state)) { recording = true; macro = [] }))))
   started_so true = failed_set InMacro
-  started_so false = acted_so (macro_started h) (λ own. record own { recording = true; macro = [] }) (λ own. refl) refl kept
+  started_so false = acted_so (macro_started h) (λ state. record state { recording = true; macro = [] }) (λ state. refl) refl kept
 
   -- nothing ends while a macro plays
   ended_so : (c : Bool)
-      → (let ends : Result model.Own Message = cond c (Ok (record (acted_own (own_of h.own)) { recording = false; macro = take (length (own_of h.own).macro - 2) (own_of h.own).macro })) (Err NotInMacro) in world_of directory ks (slice_set xs at (cond c (macro_ended h) (failed NotInMacro h))) next ≡ apply (world_of directory ks xs next) id (sets (own_of h.own) ends))
+      → (let ends : Result model.State Message = cond c (Ok (record (acted_state (state_of h.state)) { recording = false; macro = take (length (state_of h.state).macro - 2) (state_of h.state).macro })) (Err NotInMacro) in world_of directory ks (slice_set xs at (cond c (macro_ended h) (failed NotInMacro h))) next ≡ apply (world_of directory ks xs next) id (sets (state_of h.state) ends))
       → (p : Bool)
-      → (let ends : Result model.Own Message = cond c (Ok (record (acted_own (own_of h.own)) { recording = false; macro = take (length (own_of h.own).macro - 2) (own_of h.own).macro })) (Err NotInMacro) in world_of directory ks (slice_set xs at (cond p (failed InMacro h) (cond c (macro_ended h) (failed NotInMacro h)))) next ≡ apply (world_of directory ks xs next) id (sets (own_of h.own) (cond p (Err InMacro) ends)))
+      → (let ends : Result model.State Message = cond c (Ok (record (acted_state (state_of h.state)) { recording = false; macro = take (length (state_of h.state).macro - 2) (state_of h.state).macro })) (Err NotInMacro) in world_of directory ks (slice_set xs at (cond p (failed InMacro h) (cond c (macro_ended h) (failed NotInMacro h)))) next ≡ apply (world_of directory ks xs next) id (sets (state_of h.state) (cond p (Err InMacro) ends)))
   ended_so c done true = failed_set InMacro
   ended_so c done false = done
 
-  set_so : (s : Setting) (n : Option ℕ) → is_setting_done s ≡ true → world_of directory ks (slice_set xs at (session_set s n h)) next ≡ apply (world_of directory ks xs next) id (sets (own_of h.own) (setting s (acted_own (own_of h.own)) n))
+  set_so : (s : Setting) (n : Option ℕ) → is_setting_done s ≡ true → world_of directory ks (slice_set xs at (session_set s n h)) next ≡ apply (world_of directory ks xs next) id (sets (state_of h.state) (setting s (acted_state (state_of h.state)) n))
   set_so SetFillColumn None here = failed_set NoArgument
   set_so SetFillColumn (Some n) here = by (n == 0)
     where
-      by : (b : Bool) → world_of directory ks (slice_set xs at (cond b (failed BadColumn h) (filling n (acted Other h)))) next ≡ apply (world_of directory ks xs next) id (sets (own_of h.own) (cond b (Err BadColumn) (Ok (record (acted_own (own_of h.own)) { fill = n }))))
+      by : (b : Bool) → world_of directory ks (slice_set xs at (cond b (failed BadColumn h) (filling n (acted Other h)))) next ≡ apply (world_of directory ks xs next) id (sets (state_of h.state) (cond b (Err BadColumn) (Ok (record (acted_state (state_of h.state)) { fill = n }))))
       by true = failed_set BadColumn
-      by false = acted_so (filling n (acted Other h)) (λ own. record own { fill = n }) (λ own. refl) refl kept
+      by false = acted_so (filling n (acted Other h)) (λ state. record state { fill = n }) (λ state. refl) refl kept
   set_so KeyboardQuit n here =
-      let after : model.Own = record (failed_own Quitting (own_of h.own)) { recording = false; macro = cond h.own.recorder.recording [] h.own.recorder.macro } in
+      let after : model.State = record (failed_state Quitting (state_of h.state)) { recording = false; macro = cond h.state.recorder.recording [] h.state.recorder.macro } in
       owned_so (macro_given_up (failed Quitting h)) after refl
-  set_so StartMacro n here = started_so (h.own.recorder.recording || h.own.player.playing)
+  set_so StartMacro n here = started_so (h.state.recorder.recording || h.state.player.playing)
   set_so EndMacro n here =
-      let ends : model.Own → model.Own = λ own. record own { recording = false; macro = take (length own.macro - 2) own.macro } in
-      ended_so h.own.recorder.recording (recorded_so (macro_ended h) ends NotInMacro (acted_so (macro_ended h) ends (λ own. refl) refl kept) h.own.recorder.recording) h.own.player.playing
+      let ends : model.State → model.State = λ state. record state { recording = false; macro = take (length state.macro - 2) state.macro } in
+      ended_so h.state.recorder.recording (recorded_so (macro_ended h) ends NotInMacro (acted_so (macro_ended h) ends (λ state. refl) refl kept) h.state.recorder.recording) h.state.player.playing
   set_so CallMacro n here = cc
 
-  set_known : (s : Setting) (n : Option ℕ) (stored : Bool) → outcome (view (world_of directory ks xs next) (session_of ks h)) (outcomes.Run (Set s) n []) stored ≡ sets (own_of h.own) (setting s (acted_own (own_of h.own)) n)
+  set_known : (s : Setting) (n : Option ℕ) (stored : Bool) → outcome (view (world_of directory ks xs next) (session_of ks h)) (outcomes.Run (Set s) n []) stored ≡ sets (state_of h.state) (setting s (acted_state (state_of h.state)) n)
   unfolding outcome
   set_known s n stored = refl
 
@@ -121,16 +121,16 @@ module _ (directory : Directory) (ks : List MarkedBuffer) (xs : List Session) (n
 
 -- A QUESTION
 
-module _ (directory : Directory) (ks : List MarkedBuffer) (xs : List Session) (next : Option ℕ) (id at : ℕ) (h : Session) (place : at ≡ position_or_len (session_id id) xs) (within : at < length xs) (found : slice_get xs at ≡ Some h) (fresh : own_at at xs ≡ idle (own_at at xs)) where
-  asked_so : (c : Question) (n : Option ℕ) → world_of directory ks (slice_set xs at (asking c n h)) next ≡ apply (world_of directory ks xs next) id (owns (asks c n (own_of h.own)))
+module _ (directory : Directory) (ks : List MarkedBuffer) (xs : List Session) (next : Option ℕ) (id at : ℕ) (h : Session) (place : at ≡ position_or_len (session_id id) xs) (within : at < length xs) (found : slice_get xs at ≡ Some h) (fresh : state_at at xs ≡ idle (state_at at xs)) where
+  asked_so : (c : Question) (n : Option ℕ) → world_of directory ks (slice_set xs at (asking c n h)) next ≡ apply (world_of directory ks xs next) id (owns (asks c n (state_of h.state)))
   asked_so c n =
-      let f = session_arranged (owns (asks c n (own_of h.own))) in
+      let f = session_arranged (owns (asks c n (state_of h.state))) in
       same_world directory _ _ _ _ (id_after next) refl
       (written_first (session_of ks) (has_id id) f xs at h (asking c n h) (place ∙ sym (position_or_len-map (session_of ks) (has_id id) xs)) within (sym (get_or_from_slice_get xs at h h found))
-      (λ i. record (session_of ks h) { own = own_asking c n h (search_at_rest h.own (fresh_own xs at h found fresh)) (fresh_own xs at h found fresh) i; search = no_search_at_rest ks h (fresh_own xs at h found fresh) i })
+      (λ i. record (session_of ks h) { state = state_asking c n h (search_at_rest h.state (fresh_state xs at h found fresh)) (fresh_state xs at h found fresh) i; search = no_search_at_rest ks h (fresh_state xs at h found fresh) i })
       ∙ ap (change_first (has_id id) f) (sym (map-id (map (session_of ks) xs))))
 
-  ask_known : (c : Question) (n : Option ℕ) (stored : Bool) → outcome (view (world_of directory ks xs next) (session_of ks h)) (outcomes.Run (Ask c) n []) stored ≡ owns (asks c n (own_of h.own))
+  ask_known : (c : Question) (n : Option ℕ) (stored : Bool) → outcome (view (world_of directory ks xs next) (session_of ks h)) (outcomes.Run (Ask c) n []) stored ≡ owns (asks c n (state_of h.state))
   unfolding outcome
   ask_known c n stored = refl
 

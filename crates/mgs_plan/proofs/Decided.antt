@@ -3,11 +3,12 @@ use Rattle.std.proofs.Common.{◌≡◌, ℕ, ◌<◌, Bool, true, false, List, 
 use Rattle.std.specs.Prelude.{slice_get}
 use Rattle.std.specs.List.{position_or_len}
 use Rattle.mgs_model.specs.Access.{Directory}
-use Rattle.mgs_model.specs.Apart.{touched_by}
+use Rattle.mgs_laws.specs.Apart.{touched_by}
 use Rattle.mgs_model.specs.Apply.{act, applied, apply, outcome_in}
-use Rattle.mgs_model.specs.Events.{may_be_refused}
-use Rattle.mgs_model.specs.Outcome.{Act, Run, takes_memory}
-use Rattle.mgs_model.specs.World.{Own, World}
+use Rattle.mgs_laws.specs.Refusals.{may_be_refused}
+use Rattle.mgs_model.specs.Outcome.{Act, Run}
+use Rattle.mgs_laws.specs.Refusals.{takes_memory}
+use Rattle.mgs_model.specs.World.{State, World}
 use Rattle.mgs_model.specs.declared.touched.Touched.{Touched}
 use Rattle.mgs_buffers.specs.MarkedBuffer.{MarkedBuffer}
 use Rattle.mgs_session.specs.declared.Session.{Session}
@@ -25,7 +26,7 @@ use Rattle.mgs_plan.proofs.Outcomes.{is_of_text, outcome_none, outcome_plan}
 use Rattle.mgs_plan.specs.Deciding.{IsOutcome, IsUnshown, outcome_read, view_at}
 use Rattle.mgs_plan.specs.Tells.{touched_in}
 use Rattle.mgs_plan.specs.declared.outcome.Outcome.{Outcome}
-use Rattle.mgs_world.specs.Worlds.{idle, own_of, session_id, world_of}
+use Rattle.mgs_world.specs.Worlds.{idle, state_of, session_id, world_of}
 use Rattle.mgs_plan.proofs.Commands.{outcome_answered}
 use Rattle.mgs_plan.proofs.Stored.{is_save, unstored}
 use Rattle.mgs_plan.proofs.Tells.{tells_known}
@@ -56,11 +57,11 @@ no_save NotModified n typed here = refl
 no_save _ n typed here = cc
 
 module _ (directory : Directory) (ks : List MarkedBuffer) (xs : List Session) (next : Option ℕ) (h : Session) (c : Command) (n : Option ℕ) (typed : List ℕ) (here : is_of_text c ≡ true) where
-  pub text_planned : (x : WindowMarks) (action : Action) → window_marks_of h ≡ Some x → AreMarks ks x → own_of h.own ≡ idle (own_of h.own) → IsActionOf directory ks h x c n typed action → IsOutcome directory ks xs next h (Run c n typed) (Acts x action)
+  pub text_planned : (x : WindowMarks) (action : Action) → window_marks_of h ≡ Some x → AreMarks ks x → state_of h.state ≡ idle (state_of h.state) → IsActionOf directory ks h x c n typed action → IsOutcome directory ks xs next h (Run c n typed) (Acts x action)
   text_planned x action sel marks fresh planned = λ stored.
       unstored (view_at directory ks xs next h) (Run c n typed) stored (no_save c n typed here)
       ∙ outcome_plan directory ks xs next h x c n typed here sel (mark_is_kept x.name x.point ks marks.point) (no_search_at_rest ks h fresh)
-      ∙ sym (subst (λ (own : Own). outcome_through own x ks h.kill action ≡ plan_in directory ks own h.user x (selected_height h) c n typed h.kill) (sym fresh) planned)
+      ∙ sym (subst (λ (state : State). outcome_through state x ks h.kill action ≡ plan_in directory ks state h.user x (selected_height h) c n typed h.kill) (sym fresh) planned)
 
   pub text_unshown : (o : Outcome) → window_marks_of h ≡ None → IsUnshown h (scroll_in c) o → IsOutcome directory ks xs next h (Run c n typed) o
   text_unshown o none unshown = λ stored.

@@ -10,8 +10,8 @@ use Rattle.mgs_model.specs.World.{Item, has_id}
 use Rattle.mgs_model.specs.World as model
 use Rattle.mgs_model.specs.Outcome.{Adjust, Effect, No_effect, Edit, Unmodified, Outcome, PointPlan, Keep, At, At_origin, Keep_mark}
 use Rattle.mgs_model.specs.Plans as plans
-use Rattle.mgs_model.specs.Plans.{acted_own}
-use Rattle.mgs_model.specs.Acts.{edit_of, effects, fails, finished, finished_own, is_too_large}
+use Rattle.mgs_model.specs.Plans.{acted_state}
+use Rattle.mgs_model.specs.Acts.{edit_of, effects, fails, finished, finished_state, is_too_large}
 use Rattle.mgs_model.specs.Apply.{after_quit, apply, buffers_after, change_at, change_first, kill_after, searches, session_after, session_arranged, window_adjusted}
 use Rattle.mgs_model.specs.Text.{is_edit}
 use Rattle.mgs_model.specs.declared.message.Message.{Message}
@@ -22,7 +22,7 @@ use Rattle.mgs_marks.specs.Marks.{mark_in}
 use Rattle.mgs_buffers.specs.MarkedBuffer.{IsMark, MarkedBuffer, marked_at, marked_edited, marked_named, marked_unmodified}
 use Rattle.mgs_windows.specs.declared.WindowMarks.{WindowMarks}
 use Rattle.mgs_session.specs.Sessions.{acted, failed, told, window_marks_of}
-use Rattle.mgs_session.specs.declared.Own.{Own}
+use Rattle.mgs_session.specs.declared.State.{State}
 use Rattle.mgs_session.specs.declared.Session.{Session}
 use Rattle.mgs_edit.specs.Reading.{change_read, finish_read, kill_read, mark_read, put_read, undone_read}
 use Rattle.mgs_edit.specs.declared.plan.Finish.{Finish}
@@ -31,7 +31,7 @@ use Rattle.mgs_plan.specs.declared.action.Action.TheVariants.{Fails, Edits, Undo
 use Rattle.mgs_plan.specs.Following.{edit_through, edit_told, followed}
 use Rattle.mgs_plan.specs.Actions.{AreMarks, CanBeDone, edited_by, kill_at, kill_or_none, mark_gone, mark_told, marked_after, marks_gone, outcome_through, removed_by, session_acted, session_finished}
 use Rattle.mgs_world.specs.Sound.{IsSound, session_uses, uses}
-use Rattle.mgs_world.specs.Worlds.{buffers_of, id_after, idle, own_at, own_of, own_or_first, session_id, session_of, world_of}
+use Rattle.mgs_world.specs.Worlds.{buffers_of, id_after, idle, state_at, state_of, state_or_first, session_id, session_of, world_of}
 use Rattle.mgs_world.proofs.Sessions.{session_found}
 use Rattle.mgs_world.proofs.Owns.{at_rest, no_search_at_rest, search_at_rest, search_kept}
 use Rattle.mgs_world.proofs.Soundness.{acting_mark, mark_is_kept, one_if_most, point_used, sound_edited, sound_placed, sound_set}
@@ -80,8 +80,8 @@ first_twice {A = A} p f g keeps (x ∷ xs) = go (p x) refl (first_twice p f g ke
 found_at : (xs : List Session) (id at : ℕ) (h : Session) → at ≡ position_or_len (session_id id) xs → at < length xs → slice_get xs at ≡ Some h → find (session_id id) xs ≡ Some h
 found_at xs id at h place within is = session_found xs id at h place within (sym (get_or_from_slice_get xs at h h is))
 
-pub fresh_own : (xs : List Session) (at : ℕ) (h : Session) → slice_get xs at ≡ Some h → own_at at xs ≡ idle (own_at at xs) → own_of h.own ≡ idle (own_of h.own)
-fresh_own xs at h is fresh = sym (ap own_or_first is) ∙ fresh ∙ ap (λ o. idle (own_or_first o)) is
+pub fresh_state : (xs : List Session) (at : ℕ) (h : Session) → slice_get xs at ≡ Some h → state_at at xs ≡ idle (state_at at xs) → state_of h.state ≡ idle (state_of h.state)
+fresh_state xs at h is fresh = sym (ap state_or_first is) ∙ fresh ∙ ap (λ o. idle (state_or_first o)) is
 
 -- WINDOWS
 
@@ -142,12 +142,12 @@ edited_buffers name c ks = go (is_edit c.a c.b c.put)
     go false = refl
 
 -- what the acting session holds in the end
-abbrev ends : plans.Finish → model.Own → model.Session → model.Session
-ends f own x = record x { kill = kill_after f.kill x.kill; own = finished_own f own }
+abbrev ends : plans.Finish → model.State → model.Session → model.Session
+ends f state x = record x { kill = kill_after f.kill x.kill; state = finished_state f state }
 
 -- the outcome of a finish that is not too large
-abbrev pub ended : plans.Finish → Effect → model.Own → Outcome
-ended f e own = record { own = finished_own f own; kill = f.kill; arrange = Adjust f.point f.mark f.top None f.sought; effect = e }
+abbrev pub ended : plans.Finish → Effect → model.State → Outcome
+ended f e state = record { state = finished_state f state; kill = f.kill; arrange = Adjust f.point f.mark f.top None f.sought; effect = e }
 
 windows_end : (point top : PointPlan) (x : model.Session) → change_at x.selected (top_by top) (change_at x.selected (point_by point) x.windows) ≡ change_at x.selected (window_adjusted None point Keep_mark top None) x.windows
 windows_end point top x = at_twice (point_by point) (top_by top) x.selected x.windows
@@ -157,20 +157,20 @@ abbrev pub unmarked : plans.Finish → plans.Finish
 unmarked f = record f { mark = Keep_mark }
 
 -- one session, with its marks placed
-one_ends : (behind : ℕ) (text kill : List ℕ) (f : Finish) (e : Effect) (ks : List MarkedBuffer) (h : Session) → own_of h.own ≡ idle (own_of h.own)
-    → (let left = finish_read text kill behind f in ends left (own_of h.own) (selected_at (top_by left.top) (selected_at (point_by left.point) (session_of ks h))) ≡ session_arranged (ended (unmarked left) e (own_of h.own)) (session_of ks h))
+one_ends : (behind : ℕ) (text kill : List ℕ) (f : Finish) (e : Effect) (ks : List MarkedBuffer) (h : Session) → state_of h.state ≡ idle (state_of h.state)
+    → (let left = finish_read text kill behind f in ends left (state_of h.state) (selected_at (top_by left.top) (selected_at (point_by left.point) (session_of ks h))) ≡ session_arranged (ended (unmarked left) e (state_of h.state)) (session_of ks h))
 one_ends behind text kill f e ks h fresh =
     let left = finish_read text kill behind f in
     let s = session_of ks h in
-    (λ i. record (ends left (own_of h.own) s) { windows = windows_end left.point left.top s i; search = search_kept ks h fresh i })
-    ∙ ap (λ (o : Option model.Search). let y : model.Session = record (ends left (own_of h.own) s) { windows = change_at s.selected (window_adjusted o left.point Keep_mark left.top None) s.windows; search = cond (searches (own_of h.own).mode) s.search None } in y) (sym (no_search_at_rest ks h fresh))
+    (λ i. record (ends left (state_of h.state) s) { windows = windows_end left.point left.top s i; search = search_kept ks h fresh i })
+    ∙ ap (λ (o : Option model.Search). let y : model.Session = record (ends left (state_of h.state) s) { windows = change_at s.selected (window_adjusted o left.point Keep_mark left.top None) s.windows; search = cond (searches (state_of h.state).mode) s.search None } in y) (sym (no_search_at_rest ks h fresh))
 
 -- the session's own record
-own_ends : (behind : ℕ) (text kill : List ℕ) (f : Finish) (ks : List MarkedBuffer) (h : Session) → own_of h.own ≡ idle (own_of h.own)
-    → (let left = finish_read text kill behind f in session_of ks (session_finished left h) ≡ ends left (own_of h.own) (session_of ks h))
-own_ends behind text kill f ks h fresh =
+state_ends : (behind : ℕ) (text kill : List ℕ) (f : Finish) (ks : List MarkedBuffer) (h : Session) → state_of h.state ≡ idle (state_of h.state)
+    → (let left = finish_read text kill behind f in session_of ks (session_finished left h) ≡ ends left (state_of h.state) (session_of ks h))
+state_ends behind text kill f ks h fresh =
     let left = finish_read text kill behind f in
-    λ i. record (session_of ks (session_finished left h)) { own = at_rest (λ (own : model.Own). record own { echo = f.told; kind = f.kind }) (finished_own left) (λ own. refl) (own_of h.own) fresh i }
+    λ i. record (session_of ks (session_finished left h)) { state = at_rest (λ (state : model.State). record state { echo = f.told; kind = f.kind }) (finished_state left) (λ state. refl) (state_of h.state) fresh i }
 
 pub no_quit : (name : List ℕ) (c : plans.Change) (id : ℕ) (xs : List model.Session) → after_quit (edit_of name c) id xs ≡ xs
 no_quit name c id xs = go (is_edit c.a c.b c.put)
@@ -180,11 +180,11 @@ no_quit name c id xs = go (is_edit c.a c.b c.put)
     go false = refl
 
 -- what is left, behind the edit
-pub finished_there : (ks : List MarkedBuffer) (xs : List Session) (id at : ℕ) (h : Session) (x : WindowMarks) (c : plans.Change) (behind : ℕ) (text : List ℕ) (f : Finish) → ((n : List ℕ) (i : ℕ) → uses n i xs ≤ 1) → at ≡ position_or_len (session_id id) xs → at < length xs → slice_get xs at ≡ Some h → window_marks_of h ≡ Some x → AreMarks ks x → own_of h.own ≡ idle (own_of h.own)
-    → (let left = finish_read text h.kill behind f in map (session_of (marks_gone x left (edited_by x.name c ks))) (slice_set xs at (session_finished left h)) ≡ change_first (has_id id) (session_arranged (ended (unmarked left) (edit_of x.name c) (own_of h.own))) (map (session_of (edited_by x.name c ks)) xs))
+pub finished_there : (ks : List MarkedBuffer) (xs : List Session) (id at : ℕ) (h : Session) (x : WindowMarks) (c : plans.Change) (behind : ℕ) (text : List ℕ) (f : Finish) → ((n : List ℕ) (i : ℕ) → uses n i xs ≤ 1) → at ≡ position_or_len (session_id id) xs → at < length xs → slice_get xs at ≡ Some h → window_marks_of h ≡ Some x → AreMarks ks x → state_of h.state ≡ idle (state_of h.state)
+    → (let left = finish_read text h.kill behind f in map (session_of (marks_gone x left (edited_by x.name c ks))) (slice_set xs at (session_finished left h)) ≡ change_first (has_id id) (session_arranged (ended (unmarked left) (edit_of x.name c) (state_of h.state))) (map (session_of (edited_by x.name c ks)) xs))
 finished_there ks xs id at h x c behind text f once place within is sel marks fresh =
     let left = finish_read text h.kill behind f in
-    let own = own_of h.own in
+    let state = state_of h.state in
     let ks1 = edited_by x.name c ks in
     let ks2 = mark_gone x.name x.point left.point ks1 in
     let ks3 = mark_gone x.name x.top left.top ks2 in
@@ -194,65 +194,65 @@ finished_there ks xs id at h x c behind text f once place within is sel marks fr
     let points : model.Session → model.Session = selected_at (point_by left.point) in
     let tops : model.Session → model.Session = selected_at (top_by left.top) in
     let zs = map (session_of ks1) xs in
-    written_first (session_of ks3) (has_id id) (ends left own) xs at h (session_finished left h) (place ∙ sym (position_or_len-map (session_of ks3) (has_id id) xs)) within (sym (get_or_from_slice_get xs at h h is)) (own_ends behind text h.kill f ks3 h fresh)
-    ∙ ap (change_first (has_id id) (ends left own)) (tops_gone left.top ks2 xs id h x found sel top (once x.name x.top))
-    ∙ ap (λ ys. change_first (has_id id) (ends left own) (change_first (has_id id) tops ys)) (points_gone left.point ks1 xs id h x found sel point (once x.name x.point))
-    ∙ ap (change_first (has_id id) (ends left own)) (first_twice (has_id id) points tops (λ z. refl) zs)
-    ∙ first_twice (has_id id) (λ z. tops (points z)) (ends left own) (λ z. refl) zs
-    ∙ change_first_found (has_id id) (λ z. ends left own (tops (points z))) (session_arranged (ended (unmarked left) (edit_of x.name c) own)) (session_of ks1 h) zs
+    written_first (session_of ks3) (has_id id) (ends left state) xs at h (session_finished left h) (place ∙ sym (position_or_len-map (session_of ks3) (has_id id) xs)) within (sym (get_or_from_slice_get xs at h h is)) (state_ends behind text h.kill f ks3 h fresh)
+    ∙ ap (change_first (has_id id) (ends left state)) (tops_gone left.top ks2 xs id h x found sel top (once x.name x.top))
+    ∙ ap (λ ys. change_first (has_id id) (ends left state) (change_first (has_id id) tops ys)) (points_gone left.point ks1 xs id h x found sel point (once x.name x.point))
+    ∙ ap (change_first (has_id id) (ends left state)) (first_twice (has_id id) points tops (λ z. refl) zs)
+    ∙ first_twice (has_id id) (λ z. tops (points z)) (ends left state) (λ z. refl) zs
+    ∙ change_first_found (has_id id) (λ z. ends left state (tops (points z))) (session_arranged (ended (unmarked left) (edit_of x.name c) state)) (session_of ks1 h) zs
     (find-map (session_of ks1) (session_id id) (has_id id) (λ z. refl) xs ∙ ap (option_map (session_of ks1)) found)
     (one_ends behind text h.kill f (edit_of x.name c) ks1 h fresh)
 
 -- and the searches of all sessions went by it
-finished_sessions : (ks : List MarkedBuffer) (xs : List Session) (id at : ℕ) (h : Session) (x : WindowMarks) (c : plans.Change) (behind : ℕ) (text : List ℕ) (f : Finish) → c.a ≤ c.b → c.b ≤ length (marked_at x.name ks).buffer.text → ((n : List ℕ) (i : ℕ) → uses n i xs ≤ 1) → at ≡ position_or_len (session_id id) xs → at < length xs → slice_get xs at ≡ Some h → window_marks_of h ≡ Some x → AreMarks ks x → own_of h.own ≡ idle (own_of h.own)
-    → (let left = finish_read text h.kill behind f in map (session_of (marks_gone x left (edited_by x.name c ks))) (followed x.name (edit_told (length (marked_at x.name ks).buffer.text) c) (slice_set xs at (session_finished left h))) ≡ change_first (has_id id) (session_arranged (ended (unmarked left) (edit_of x.name c) (own_of h.own))) (map (session_after (edit_of x.name c)) (map (session_of ks) xs)))
+finished_sessions : (ks : List MarkedBuffer) (xs : List Session) (id at : ℕ) (h : Session) (x : WindowMarks) (c : plans.Change) (behind : ℕ) (text : List ℕ) (f : Finish) → c.a ≤ c.b → c.b ≤ length (marked_at x.name ks).buffer.text → ((n : List ℕ) (i : ℕ) → uses n i xs ≤ 1) → at ≡ position_or_len (session_id id) xs → at < length xs → slice_get xs at ≡ Some h → window_marks_of h ≡ Some x → AreMarks ks x → state_of h.state ≡ idle (state_of h.state)
+    → (let left = finish_read text h.kill behind f in map (session_of (marks_gone x left (edited_by x.name c ks))) (followed x.name (edit_told (length (marked_at x.name ks).buffer.text) c) (slice_set xs at (session_finished left h))) ≡ change_first (has_id id) (session_arranged (ended (unmarked left) (edit_of x.name c) (state_of h.state))) (map (session_after (edit_of x.name c)) (map (session_of ks) xs)))
 finished_sessions ks xs id at h x c behind text f order room once place within is sel marks fresh =
     let left = finish_read text h.kill behind f in
     let o = edit_told (length (marked_at x.name ks).buffer.text) c in
-    let none = search_at_rest h.own fresh in
+    let none = search_at_rest h.state fresh in
     ap (map (session_of (marks_gone x left (edited_by x.name c ks)))) (set_followed x.name o xs at (session_finished left h) none)
     ∙ finished_there ks (followed x.name o xs) id at h x c behind text f (once_followed x.name o xs once) (place_followed x.name o xs id at place) (within_followed x.name o xs at within) (get_followed x.name o xs at h none is) sel marks fresh
-    ∙ ap (change_first (has_id id) (session_arranged (ended (unmarked left) (edit_of x.name c) (own_of h.own)))) (sessions_went x.name c ks xs order room (mark_is_kept x.name x.point ks marks.point))
+    ∙ ap (change_first (has_id id) (session_arranged (ended (unmarked left) (edit_of x.name c) (state_of h.state)))) (sessions_went x.name c ks xs order room (mark_is_kept x.name x.point ks marks.point))
 
-finished_so : (directory : Directory) (ks : List MarkedBuffer) (xs : List Session) (next : Option ℕ) (id at : ℕ) (h : Session) (x : WindowMarks) (c : plans.Change) (behind : ℕ) (text : List ℕ) (f : Finish) → c.a ≤ c.b → c.b ≤ length (marked_at x.name ks).buffer.text → IsSound ks xs → at ≡ position_or_len (session_id id) xs → at < length xs → slice_get xs at ≡ Some h → window_marks_of h ≡ Some x → AreMarks ks x → own_of h.own ≡ idle (own_of h.own) → f.mark ≡ None → is_too_large (kill_read text h.kill f.kill) ≡ false
-    → (let left = finish_read text h.kill behind f in world_of directory (marks_gone x left (edited_by x.name c ks)) (followed x.name (edit_told (length (marked_at x.name ks).buffer.text) c) (slice_set xs at (session_finished left h))) next ≡ apply (world_of directory ks xs next) id (finished (own_of h.own) left (edit_of x.name c)))
+finished_so : (directory : Directory) (ks : List MarkedBuffer) (xs : List Session) (next : Option ℕ) (id at : ℕ) (h : Session) (x : WindowMarks) (c : plans.Change) (behind : ℕ) (text : List ℕ) (f : Finish) → c.a ≤ c.b → c.b ≤ length (marked_at x.name ks).buffer.text → IsSound ks xs → at ≡ position_or_len (session_id id) xs → at < length xs → slice_get xs at ≡ Some h → window_marks_of h ≡ Some x → AreMarks ks x → state_of h.state ≡ idle (state_of h.state) → f.mark ≡ None → is_too_large (kill_read text h.kill f.kill) ≡ false
+    → (let left = finish_read text h.kill behind f in world_of directory (marks_gone x left (edited_by x.name c ks)) (followed x.name (edit_told (length (marked_at x.name ks).buffer.text) c) (slice_set xs at (session_finished left h))) next ≡ apply (world_of directory ks xs next) id (finished (state_of h.state) left (edit_of x.name c)))
 finished_so directory ks xs next id at h x c behind text f order room sound place within is sel marks fresh none small =
     let left = finish_read text h.kill behind f in
-    let own = own_of h.own in
+    let state = state_of h.state in
     let ks1 = edited_by x.name c ks in
     let ks2 = mark_gone x.name x.point left.point ks1 in
     same_world directory _ _ _ _ (id_after next)
     (gone_buffers x.name x.top left.top ks2 ∙ gone_buffers x.name x.point left.point ks1 ∙ edited_buffers x.name c ks)
     (finished_sessions ks xs id at h x c behind text f order room (λ n i. once_used ks xs n i sound) place within is sel marks fresh ∙ sym (no_quit x.name c id _))
-    ∙ ap (λ m. apply (world_of directory ks xs next) id (ended (record left { mark = mark_read m }) (edit_of x.name c) own)) (sym none)
-    ∙ ap (λ b. apply (world_of directory ks xs next) id (cond b (fails own KillTooLarge) (ended left (edit_of x.name c) own))) (sym small)
+    ∙ ap (λ m. apply (world_of directory ks xs next) id (ended (record left { mark = mark_read m }) (edit_of x.name c) state)) (sym none)
+    ∙ ap (λ b. apply (world_of directory ks xs next) id (cond b (fails state KillTooLarge) (ended left (edit_of x.name c) state))) (sym small)
 
 -- a failure ends any mode
-pub failed_so : (directory : Directory) (ks : List MarkedBuffer) (xs : List Session) (next : Option ℕ) (id at : ℕ) (h : Session) (message : Message) → at ≡ position_or_len (session_id id) xs → at < length xs → slice_get xs at ≡ Some h → own_of h.own ≡ idle (own_of h.own) → world_of directory ks (slice_set xs at (failed message h)) next ≡ apply (world_of directory ks xs next) id (fails (own_of h.own) message)
+pub failed_so : (directory : Directory) (ks : List MarkedBuffer) (xs : List Session) (next : Option ℕ) (id at : ℕ) (h : Session) (message : Message) → at ≡ position_or_len (session_id id) xs → at < length xs → slice_get xs at ≡ Some h → state_of h.state ≡ idle (state_of h.state) → world_of directory ks (slice_set xs at (failed message h)) next ≡ apply (world_of directory ks xs next) id (fails (state_of h.state) message)
 failed_so directory ks xs next id at h message place within is fresh =
-    let f = session_arranged (fails (own_of h.own) message) in
+    let f = session_arranged (fails (state_of h.state) message) in
     same_world directory _ _ _ _ (id_after next) refl
     (written_first (session_of ks) (has_id id) f xs at h (failed message h) (place ∙ sym (position_or_len-map (session_of ks) (has_id id) xs)) within (sym (get_or_from_slice_get xs at h h is))
     refl
     ∙ ap (change_first (has_id id) f) (sym (map-id (map (session_of ks) xs))))
 
 -- a flag is cleared
-fresh_cleared : (o : Own) → own_of o ≡ idle (own_of o) → own_of (record o { echo = Silent; kind = Other }) ≡ acted_own (own_of o)
-fresh_cleared o fresh = at_rest (λ (own : model.Own). record own { echo = Silent; kind = Other }) acted_own (λ own. refl) (own_of o) fresh
+fresh_cleared : (o : State) → state_of o ≡ idle (state_of o) → state_of (record o { echo = Silent; kind = Other }) ≡ acted_state (state_of o)
+fresh_cleared o fresh = at_rest (λ (state : model.State). record state { echo = Silent; kind = Other }) acted_state (λ state. refl) (state_of o) fresh
 
-cleared_so : (directory : Directory) (ks : List MarkedBuffer) (xs : List Session) (next : Option ℕ) (id at : ℕ) (h : Session) (name : List ℕ) → at ≡ position_or_len (session_id id) xs → at < length xs → slice_get xs at ≡ Some h → own_of h.own ≡ idle (own_of h.own) → world_of directory (change_first (marked_named name) marked_unmodified ks) (slice_set xs at (told Silent (acted Other h))) next ≡ apply (world_of directory ks xs next) id (effects (own_of h.own) (Ok (Unmodified name)))
+cleared_so : (directory : Directory) (ks : List MarkedBuffer) (xs : List Session) (next : Option ℕ) (id at : ℕ) (h : Session) (name : List ℕ) → at ≡ position_or_len (session_id id) xs → at < length xs → slice_get xs at ≡ Some h → state_of h.state ≡ idle (state_of h.state) → world_of directory (change_first (marked_named name) marked_unmodified ks) (slice_set xs at (told Silent (acted Other h))) next ≡ apply (world_of directory ks xs next) id (effects (state_of h.state) (Ok (Unmodified name)))
 cleared_so directory ks xs next id at h name place within is fresh =
-    let f = session_arranged (effects (own_of h.own) (Ok (Unmodified name))) in
+    let f = session_arranged (effects (state_of h.state) (Ok (Unmodified name))) in
     let ls = change_first (marked_named name) marked_unmodified ks in
     same_world directory _ _ _ _ (id_after next) (buffers_unmodified name ks)
     (written_first (session_of ls) (has_id id) f xs at h (told Silent (acted Other h)) (place ∙ sym (position_or_len-map (session_of ls) (has_id id) xs)) within (sym (get_or_from_slice_get xs at h h is))
-    (λ i. record (session_of ls h) { own = fresh_cleared h.own fresh i; search = search_kept ls h fresh i })
+    (λ i. record (session_of ls h) { state = fresh_cleared h.state fresh i; search = search_kept ls h fresh i })
     ∙ ap (change_first (has_id id) f) (sessions_unmodified name ks xs ∙ sym (map-id (map (session_of ks) xs))))
 
 -- ANY ACTION
 
-done_so : (directory : Directory) (ks : List MarkedBuffer) (xs : List Session) (next : Option ℕ) (id at : ℕ) (x : WindowMarks) (h : Session) (action : Action) → IsSound ks xs → at ≡ position_or_len (session_id id) xs → at < length xs → slice_get xs at ≡ Some h → window_marks_of h ≡ Some x → AreMarks ks x → own_of h.own ≡ idle (own_of h.own) → CanBeDone ks x h.kill action → mark_told action ≡ None
-    → (let text = (marked_at x.name ks).buffer.text in let items = (marked_at x.name ks).buffer.items in world_of directory (marked_after x text items h.kill action ks) (followed x.name (edit_through x ks h.kill action) (slice_set xs at (session_acted text action h))) next ≡ apply (world_of directory ks xs next) id (outcome_through (own_of h.own) x ks h.kill action))
+done_so : (directory : Directory) (ks : List MarkedBuffer) (xs : List Session) (next : Option ℕ) (id at : ℕ) (x : WindowMarks) (h : Session) (action : Action) → IsSound ks xs → at ≡ position_or_len (session_id id) xs → at < length xs → slice_get xs at ≡ Some h → window_marks_of h ≡ Some x → AreMarks ks x → state_of h.state ≡ idle (state_of h.state) → CanBeDone ks x h.kill action → mark_told action ≡ None
+    → (let text = (marked_at x.name ks).buffer.text in let items = (marked_at x.name ks).buffer.items in world_of directory (marked_after x text items h.kill action ks) (followed x.name (edit_through x ks h.kill action) (slice_set xs at (session_acted text action h))) next ≡ apply (world_of directory ks xs next) id (outcome_through (state_of h.state) x ks h.kill action))
 done_so directory ks xs next id at x h (Fails message) sound place within is sel marks fresh can none =
     failed_so directory ks xs next id at h message place within is fresh
 done_so directory ks xs next id at x h (Edits mask c) sound place within is sel marks fresh can none =
@@ -311,12 +311,12 @@ after_sound (Ok o) ks ls xs at x text items h y action is ok acts err same marks
 after_sound (Err e) ks ls xs at x text items h y action is ok acts err same marks sound =
     rw (err, same) (sound_set ks xs at h h (sym (get_or_from_slice_get xs at h h is)) (λ n i. refl) sound)
 
-pub after_ok : {T E : Type 0} (r : Result T E) (ks ls : List MarkedBuffer) (xs : List Session) (at : ℕ) (x : WindowMarks) (h y : Session) (action : Action) → slice_get xs at ≡ Some h → (let text = (marked_at x.name ks).buffer.text in OnOk r (ls ≡ marked_after x text (marked_at x.name ks).buffer.items h.kill action ks) → OnOk r (y ≡ session_acted text action h) → IsSound ks xs → at < length xs → option_and_then window_marks_of (slice_get xs at) ≡ Some x → own_at at xs ≡ idle (own_at at xs) → CanBeDone ks x (kill_at at xs) action → mark_told action ≡ None → OnOk r ((directory : Directory) (id : ℕ) (next : Option ℕ) → at ≡ position_or_len (session_id id) xs → world_of directory ls (followed x.name (edit_through x ks (kill_at at xs) action) (slice_set xs at y)) next ≡ apply (world_of directory ks xs next) id (outcome_through (own_at at xs) x ks (kill_at at xs) action)))
+pub after_ok : {T E : Type 0} (r : Result T E) (ks ls : List MarkedBuffer) (xs : List Session) (at : ℕ) (x : WindowMarks) (h y : Session) (action : Action) → slice_get xs at ≡ Some h → (let text = (marked_at x.name ks).buffer.text in OnOk r (ls ≡ marked_after x text (marked_at x.name ks).buffer.items h.kill action ks) → OnOk r (y ≡ session_acted text action h) → IsSound ks xs → at < length xs → option_and_then window_marks_of (slice_get xs at) ≡ Some x → state_at at xs ≡ idle (state_at at xs) → CanBeDone ks x (kill_at at xs) action → mark_told action ≡ None → OnOk r ((directory : Directory) (id : ℕ) (next : Option ℕ) → at ≡ position_or_len (session_id id) xs → world_of directory ls (followed x.name (edit_through x ks (kill_at at xs) action) (slice_set xs at y)) next ≡ apply (world_of directory ks xs next) id (outcome_through (state_at at xs) x ks (kill_at at xs) action)))
 after_ok (Ok o) ks ls xs at x h y action is ok acts sound within sel fresh can none = λ directory id next place.
     let sel_h : window_marks_of h ≡ Some x = sym (ap (option_and_then window_marks_of) is) ∙ sel in
     ap (λ (o : Option Session). world_of directory ls (followed x.name (edit_through x ks (kill_or_none o) action) (slice_set xs at y)) next) is
-    ∙ rw (ok, acts) (done_so directory ks xs next id at x h action sound place within is sel_h (acting_marks ks xs at x sound sel) (fresh_own xs at h is fresh) (subst (λ o. CanBeDone ks x (kill_or_none o) action) is can) none
-    ∙ ap (λ o. apply (world_of directory ks xs next) id (outcome_through (own_or_first o) x ks (kill_or_none o) action)) (sym is))
+    ∙ rw (ok, acts) (done_so directory ks xs next id at x h action sound place within is sel_h (acting_marks ks xs at x sound sel) (fresh_state xs at h is fresh) (subst (λ o. CanBeDone ks x (kill_or_none o) action) is can) none
+    ∙ ap (λ o. apply (world_of directory ks xs next) id (outcome_through (state_or_first o) x ks (kill_or_none o) action)) (sym is))
 after_ok (Err e) ks ls xs at x h y action is ok acts sound within sel fresh can none = tt
 
 pub after_err : {T E : Type 0} (r : Result T E) (ks ls : List MarkedBuffer) (xs : List Session) (at : ℕ) (h y : Session) → slice_get xs at ≡ Some h → OnErr r (ls ≡ ks) → OnErr r (y ≡ h) → OnErr r ((directory : Directory) (next : Option ℕ) → world_of directory ls (slice_set xs at y) next ≡ world_of directory ks xs next)

@@ -28,16 +28,16 @@ use Rattle.mgs_plan.proofs.Leaving.{has_room}
 
 -- A SESSION THAT SEARCHES NOTHING stays as it is
 
-unsearched_stays : (n : List ℕ) (e : Edited) (h : Session) → h.own.search ≡ None → session_edited n e h ≡ h
+unsearched_stays : (n : List ℕ) (e : Edited) (h : Session) → h.state.search ≡ None → session_edited n e h ≡ h
 unsearched_stays n e h none =
-    ap (λ (o : Option Search). let x : Session = record h { own = record h.own { search = option_map (search_edited n e) o } } in x) none
-    ∙ sym (ap (λ (o : Option Search). let x : Session = record h { own = record h.own { search = o } } in x) none)
+    ap (λ (o : Option Search). let x : Session = record h { state = record h.state { search = option_map (search_edited n e) o } } in x) none
+    ∙ sym (ap (λ (o : Option Search). let x : Session = record h { state = record h.state { search = o } } in x) none)
 
-pub set_followed : (n : List ℕ) (o : Option Edited) (xs : List Session) (at : ℕ) (y : Session) → y.own.search ≡ None → followed n o (slice_set xs at y) ≡ slice_set (followed n o xs) at y
+pub set_followed : (n : List ℕ) (o : Option Edited) (xs : List Session) (at : ℕ) (y : Session) → y.state.search ≡ None → followed n o (slice_set xs at y) ≡ slice_set (followed n o xs) at y
 set_followed n None xs at y none = refl
 set_followed n (Some e) xs at y none = followed_set n e xs at y ∙ ap (slice_set (map (session_edited n e) xs) at) (unsearched_stays n e y none)
 
-pub get_followed : (n : List ℕ) (o : Option Edited) (xs : List Session) (at : ℕ) (h : Session) → h.own.search ≡ None → slice_get xs at ≡ Some h → slice_get (followed n o xs) at ≡ Some h
+pub get_followed : (n : List ℕ) (o : Option Edited) (xs : List Session) (at : ℕ) (h : Session) → h.state.search ≡ None → slice_get xs at ≡ Some h → slice_get (followed n o xs) at ≡ Some h
 get_followed n None xs at h none is = is
 get_followed n (Some e) xs at h none is = followed_get n e xs at h is ∙ ap (λ (x : Session). Some x) (unsearched_stays n e h none)
 

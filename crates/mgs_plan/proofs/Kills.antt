@@ -6,10 +6,10 @@ use Rattle.std.proofs.lemmas.Option.{slice_get-map}
 use Rattle.mgs_model.specs.Access.{Directory, decision, decision_by}
 use Rattle.mgs_model.specs.Rights.{rights_in}
 use Rattle.mgs_model.specs.Names.{IsName, same_name}
-use Rattle.mgs_model.specs.World.{Own, is_named}
+use Rattle.mgs_model.specs.World.{State, is_named}
 use Rattle.mgs_model.specs.View.{BufferSeen, View, WindowSeen, buffer_seen, find_seen, reads, view, window_seen}
 use Rattle.mgs_model.specs.Outcome.{Kill, Run}
-use Rattle.mgs_model.specs.Acts.{Request, deciders_found, effects, fails, judged, killed, name_shown, or_else, outcome, permitted, there}
+use Rattle.mgs_model.specs.Acts.{Request, deciders_found, effects, judged, killed, name_shown, or_else, outcome, permitted, there}
 use Rattle.mgs_model.specs.Acts as acts
 use Rattle.mgs_model.specs.declared.entry.Decision.TheVariants.{Granted}
 use Rattle.mgs_model.specs.declared.message.Message.{Message}
@@ -25,10 +25,10 @@ use Rattle.mgs_session.specs.Sessions.{subject_in, subject_of}
 use Rattle.mgs_session.specs.declared.Session.{Session}
 use Rattle.mgs_plan.specs.Deciding.{IsJudged, IsOutcome, view_at}
 use Rattle.mgs_plan.specs.Inserting.{rights_decision}
-use Rattle.mgs_plan.specs.Killing.{kill_decision, kill_granted, kill_named, kill_outcome, name_in, name_meant}
+use Rattle.mgs_plan.specs.Killing.{IsKillRefused, kill_decision, kill_granted, kill_named, kill_outcome, name_in, name_meant}
 use Rattle.mgs_plan.specs.declared.outcome.Outcome.{Outcome}
 use Rattle.mgs_plan.specs.declared.outcome.Outcome.TheVariants.{Fails, Kills}
-use Rattle.mgs_world.specs.Worlds.{buffers_of, own_of, session_of, window_of, window_shown, world_of}
+use Rattle.mgs_world.specs.Worlds.{buffers_of, state_of, session_of, window_of, window_shown, world_of}
 use Rattle.mgs_plan.proofs.Outcomes.{only_one}
 use Rattle.mgs_plan.proofs.Stored.{unstored}
 
@@ -59,64 +59,64 @@ found_seen directory user name ks =
     find-map (buffer_seen directory user) (is_named name) (λ (b : BufferSeen). same_name name b.name) (λ b. refl) (buffers_of ks)
     ∙ ap (option_map (buffer_seen directory user)) (find-map (λ (k : MarkedBuffer). k.buffer) (marked_named name) (is_named name) (λ k. refl) ks)
 
-granted_none : (v : View) (name : List ℕ) → killed v name None ≡ kill_granted v.session.own name None
+granted_none : (v : View) (name : List ℕ) → killed v name None ≡ kill_granted v.session.state name None
 granted_none v [] = refl
 granted_none v (c ∷ cs) = refl
 
-granted_some : (v : View) (name : List ℕ) (b : BufferSeen) (k : MarkedBuffer) → killed v name (Some b) ≡ kill_granted v.session.own name (Some k)
+granted_some : (v : View) (name : List ℕ) (b : BufferSeen) (k : MarkedBuffer) → killed v name (Some b) ≡ kill_granted v.session.state name (Some k)
 granted_some v [] b k = refl
 granted_some v (c ∷ cs) b k = refl
 
 -- by what is found under the name
 named_seen : (directory : Directory) (ks : List MarkedBuffer) (user name : List ℕ) (v : View) → find_seen name v.buffers ≡ option_map (buffer_seen directory user) (option_map (λ (k : MarkedBuffer). k.buffer) (find (marked_named name) ks))
-    → permitted v.session.own (judged v (there v name 65536)) (killed v name (find_seen name v.buffers)) ≡ kill_named directory ks v.session.own user name
+    → permitted v.session.state (judged v (there v name 65536)) (killed v name (find_seen name v.buffers)) ≡ kill_named directory ks v.session.state user name
 named_seen directory ks user name v found = go (find (marked_named name) ks) found
   where
-    own : Own
-    own = v.session.own
+    state : State
+    state = v.session.state
 
     asked : Option BufferSeen → List Request
     asked o = elim o [ None ↦ [] | Some b ↦ record { buffer = name; rights = 65536 } ∷ [] ]
 
-    go : (o : Option MarkedBuffer) → find_seen name v.buffers ≡ option_map (buffer_seen directory user) (option_map (λ (k : MarkedBuffer). k.buffer) o) → permitted own (judged v (there v name 65536)) (killed v name (find_seen name v.buffers)) ≡ permitted own (kill_decision directory user o) (kill_granted own name o)
-    go None e = ap (λ o. permitted own (judged v (asked o)) (killed v name o)) e ∙ ap (permitted own Granted) (granted_none v name)
+    go : (o : Option MarkedBuffer) → find_seen name v.buffers ≡ option_map (buffer_seen directory user) (option_map (λ (k : MarkedBuffer). k.buffer) o) → permitted state (judged v (there v name 65536)) (killed v name (find_seen name v.buffers)) ≡ permitted state (kill_decision directory user o) (kill_granted state name o)
+    go None e = ap (λ o. permitted state (judged v (asked o)) (killed v name o)) e ∙ ap (permitted state Granted) (granted_none v name)
     go (Some k) e =
         let b : BufferSeen = buffer_seen directory user k.buffer in
-        ap (λ o. permitted own (judged v (asked o)) (killed v name o)) e
-        ∙ ap (λ o. permitted own (or_else (decision_by (deciders_found o) (rights_in 65536)) Granted) (killed v name (Some b))) e
-        ∙ ap (λ d. permitted own d (killed v name (Some b))) (only_one (decision_by b.deciders (rights_in 65536)))
-        ∙ ap (permitted own (kill_decision directory user (Some k))) (granted_some v name b k)
+        ap (λ o. permitted state (judged v (asked o)) (killed v name o)) e
+        ∙ ap (λ o. permitted state (or_else (decision_by (deciders_found o) (rights_in 65536)) Granted) (killed v name (Some b))) e
+        ∙ ap (λ d. permitted state d (killed v name (Some b))) (only_one (decision_by b.deciders (rights_in 65536)))
+        ∙ ap (permitted state (kill_decision directory user (Some k))) (granted_some v name b k)
 
-kill_known : (directory : Directory) (ks : List MarkedBuffer) (xs : List Session) (next : Option ℕ) (h : Session) (n : Option ℕ) (typed : List ℕ) → outcome (view (world_of directory ks xs next) (session_of ks h)) (Run (Named KillBuffer) n typed) true ≡ kill_outcome directory ks (own_of h.own) h.user (subject_of h) typed
+kill_known : (directory : Directory) (ks : List MarkedBuffer) (xs : List Session) (next : Option ℕ) (h : Session) (n : Option ℕ) (typed : List ℕ) → outcome (view (world_of directory ks xs next) (session_of ks h)) (Run (Named KillBuffer) n typed) true ≡ kill_outcome directory ks (state_of h.state) h.user (subject_of h) typed
 unfolding outcome
 kill_known directory ks xs next h n typed =
     let v = view (world_of directory ks xs next) (session_of ks h) in
     let name = name_meant (subject_of h) typed in
-    ap (λ (m : List ℕ). permitted v.session.own (judged v (there v m 65536)) (killed v m (find_seen m v.buffers))) (meant_seen directory ks xs next h typed)
+    ap (λ (m : List ℕ). permitted v.session.state (judged v (there v m 65536)) (killed v m (find_seen m v.buffers))) (meant_seen directory ks xs next h typed)
     ∙ named_seen directory ks h.user name v (found_seen directory h.user name ks)
 
 -- where the buffer is there
-kill_there : (directory : Directory) (ks : List MarkedBuffer) (own : Own) (user name : List ℕ) → HasBuffer name ks → IsName name → permitted own (rights_decision directory ks user name 65536) (effects own (Ok (Kill name))) ≡ kill_named directory ks own user name
-kill_there directory ks own user [] kept form = cc
-kill_there directory ks own user (c ∷ cs) kept form = go (find (marked_named (c ∷ cs)) ks) kept
+kill_there : (directory : Directory) (ks : List MarkedBuffer) (state : State) (user name : List ℕ) → HasBuffer name ks → IsName name → permitted state (rights_decision directory ks user name 65536) (effects state (Ok (Kill name))) ≡ kill_named directory ks state user name
+kill_there directory ks state user [] kept form = cc
+kill_there directory ks state user (c ∷ cs) kept form = go (find (marked_named (c ∷ cs)) ks) kept
   where
-    go : (o : Option MarkedBuffer) → IsSome o → permitted own (let b = (marked_or_none o).buffer in decision directory b.owners user b.entries 65536) (effects own (Ok (Kill (c ∷ cs)))) ≡ permitted own (kill_decision directory user o) (kill_granted own (c ∷ cs) o)
+    go : (o : Option MarkedBuffer) → IsSome o → permitted state (let b = (marked_or_none o).buffer in decision directory b.owners user b.entries 65536) (effects state (Ok (Kill (c ∷ cs)))) ≡ permitted state (kill_decision directory user o) (kill_granted state (c ∷ cs) o)
     go None e = cc
     go (Some k) e = refl
 
 module _ (directory : Directory) (ks : List MarkedBuffer) (xs : List Session) (next n : Option ℕ) (h : Session) (typed : List ℕ) where
   pub kill_planned : (name : List ℕ) (mask : ℕ) (o : Outcome) → name ≡ name_meant (subject_of h) typed → HasBuffer name ks → IsName name → mask ≡ 65536 → IsJudged directory ks h.user name mask (Kills name) o → IsOutcome directory ks xs next h (Run (Named KillBuffer) n typed) o
   kill_planned name mask o name_is kept form mask_is planned = λ stored.
-      let own = own_of h.own in
+      let state = state_of h.state in
       unstored (view_at directory ks xs next h) (Run (Named KillBuffer) n typed) stored refl
       ∙ kill_known directory ks xs next h n typed
-      ∙ ap (kill_named directory ks own h.user) (sym name_is)
-      ∙ sym (kill_there directory ks own h.user name kept form)
-      ∙ ap (λ (m : ℕ). permitted own (rights_decision directory ks h.user name m) (effects own (Ok (Kill name)))) (sym mask_is)
+      ∙ ap (kill_named directory ks state h.user) (sym name_is)
+      ∙ sym (kill_there directory ks state h.user name kept form)
+      ∙ ap (λ (m : ℕ). permitted state (rights_decision directory ks h.user name m) (effects state (Ok (Kill name)))) (sym mask_is)
       ∙ planned (view_at directory ks xs next h) stored
 
-  pub kill_refused : (message : Message) → ((directory : Directory) (own : Own) (user : List ℕ) → kill_outcome directory ks own user (subject_of h) typed ≡ fails own message) → IsOutcome directory ks xs next h (Run (Named KillBuffer) n typed) (Fails message)
+  pub kill_refused : (message : Message) → IsKillRefused ks (subject_of h) typed message → IsOutcome directory ks xs next h (Run (Named KillBuffer) n typed) (Fails message)
   kill_refused message none = λ stored.
       unstored (view_at directory ks xs next h) (Run (Named KillBuffer) n typed) stored refl
       ∙ kill_known directory ks xs next h n typed
-      ∙ none directory (own_of h.own) h.user
+      ∙ none directory (state_of h.state) h.user

@@ -15,6 +15,8 @@ pub mod Listings
 pub mod Switches
 pub mod Lines
 pub mod Stored
+pub mod Named
+pub mod Questions
 pub mod Saves
 pub mod Scrolls
 pub mod Unbound

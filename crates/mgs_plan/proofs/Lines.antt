@@ -18,4 +18,4 @@ wanted_twice None typed = go (is_number typed)
 pub line_same : (v : View) (n : Option ℕ) (typed : List ℕ) (stored : Bool) → outcome v (outcomes.Run (Move GoToLine) n typed) stored ≡ outcome v (outcomes.Run (Move GoToLine) (line_wanted n typed) []) stored
 unfolding outcome
 line_same v n typed stored =
-    ap (λ (m : Option ℕ). permitted v.session.own (judged v (here (target v) (λ t. 1))) (moves v.session.own (target v) (λ t. goes_to_line (text_in t.buffer.full) m))) (sym (wanted_twice n typed))
+    ap (λ (m : Option ℕ). permitted v.session.state (judged v (here (target v) (λ t. 1))) (moves v.session.state (target v) (λ t. goes_to_line (text_in t.buffer.full) m))) (sym (wanted_twice n typed))

@@ -5,7 +5,7 @@ use Rattle.mgs_model.specs.Access.{Directory, decision_by}
 use Rattle.mgs_model.specs.Rights.{rights_in}
 use Rattle.mgs_model.specs.View.{BufferSeen, View, buffer_seen, find_seen, view}
 use Rattle.mgs_model.specs.Outcome.{Run}
-use Rattle.mgs_model.specs.Acts.{about, deciders_found, judged, lists, outcome, permitted, subject}
+use Rattle.mgs_model.specs.Acts.{about, judged, lists, outcome, permitted, subject}
 use Rattle.mgs_model.specs.declared.message.Message.TheVariants.{NoBuffer}
 use Rattle.mgs_model.specs.declared.session.Command.TheVariants.{ListEntries}
 use Rattle.mgs_buffers.specs.MarkedBuffer.{HasBuffer, MarkedBuffer, has_buffer, marked_at}
@@ -19,7 +19,7 @@ use Rattle.mgs_plan.specs.declared.outcome.Outcome.{Outcome}
 use Rattle.mgs_plan.specs.declared.outcome.Outcome.TheVariants.{Fails, Lists}
 use Rattle.mgs_world.specs.Worlds.{buffers_of, session_of, world_of}
 use Rattle.mgs_world.proofs.Found.{found_seen, name_kept}
-use Rattle.mgs_plan.proofs.Outcomes.{only_one}
+use Rattle.mgs_plan.proofs.Named.{about_none, about_one}
 use Rattle.mgs_plan.proofs.Subjects.{kept_subject, subject_seen, subject_told}
 use Rattle.mgs_plan.proofs.Stored.{unstored}
 
@@ -31,14 +31,13 @@ list_seen directory ks xs next n h unnamed = go (subject_kept ks (subject_of h))
     v : View
     v = view (world_of directory ks xs next) (session_of ks h)
 
-    by_name : (name : List ℕ) (b : BufferSeen) → b.name ≡ name → find_seen b.name v.buffers ≡ Some b → subject v ≡ Some b → permitted v.session.own (judged v (about (subject v) 131072)) (lists v (subject v)) ≡ permitted v.session.own (decision_by b.deciders (rights_in 131072)) (lists_named v name)
+    by_name : (name : List ℕ) (b : BufferSeen) → b.name ≡ name → find_seen b.name v.buffers ≡ Some b → subject v ≡ Some b → permitted v.session.state (judged v (about (subject v) 131072)) (lists v (subject v)) ≡ permitted v.session.state (decision_by b.deciders (rights_in 131072)) (lists_named v name)
     by_name name b named found is =
-        ap (λ o. permitted v.session.own (judged v (about o 131072)) (lists v o)) is
-        ∙ ap (λ d. permitted v.session.own d (lists_named v b.name)) (only_one (decision_by (deciders_found (find_seen b.name v.buffers)) (rights_in 131072)) ∙ ap (λ o. decision_by (deciders_found o) (rights_in 131072)) found)
-        ∙ ap (λ (m : List ℕ). permitted v.session.own (decision_by b.deciders (rights_in 131072)) (lists_named v m)) named
+        about_one v 131072 (lists v) b is found
+        ∙ ap (λ (m : List ℕ). permitted v.session.state (decision_by b.deciders (rights_in 131072)) (lists_named v m)) named
 
-    go : (s : Option (List ℕ)) → IfSome s (λ name. HasBuffer name ks) → subject v ≡ subject_told directory ks h.user s → permitted v.session.own (judged v (about (subject v) 131072)) (lists v (subject v)) ≡ list_outcome directory ks h.user s v
-    go None there is = ap (λ o. permitted v.session.own (judged v (about o 131072)) (lists v o)) is
+    go : (s : Option (List ℕ)) → IfSome s (λ name. HasBuffer name ks) → subject v ≡ subject_told directory ks h.user s → permitted v.session.state (judged v (about (subject v) 131072)) (lists v (subject v)) ≡ list_outcome directory ks h.user s v
+    go None there is = about_none v 131072 (lists v) is
     go (Some name) there is =
         let b = buffer_seen directory h.user (marked_at name ks).buffer in
         by_name name b (name_kept name ks there)
@@ -60,5 +59,5 @@ module _ (directory : Directory) (ks : List MarkedBuffer) (xs : List Session) (n
       unstored v (Run ListEntries n []) stored refl
       ∙ list_seen directory ks xs next n h unnamed
       ∙ ap (λ s. list_outcome directory ks h.user s v) (sym shown)
-      ∙ ap (λ (m : ℕ). permitted v.session.own (rights_decision directory ks h.user name m) (lists_named v name)) (sym mask_is)
+      ∙ ap (λ (m : ℕ). permitted v.session.state (rights_decision directory ks h.user name m) (lists_named v name)) (sym mask_is)
       ∙ planned v stored

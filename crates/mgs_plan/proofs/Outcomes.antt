@@ -6,7 +6,7 @@ use Rattle.std.proofs.lemmas.List.Folds.{list_any_at}
 use Rattle.std.proofs.lemmas.Option.{slice_get-map}
 use Rattle.mgs_model.specs.Access.{Directory, Decider, decider, decision_by, allows, any_right}
 use Rattle.mgs_model.specs.Rights.{all_rights, rights_in}
-use Rattle.mgs_model.specs.World.{Item, Buffer, Own, Shows, Nothing, Buffer_of, Listing, List_of}
+use Rattle.mgs_model.specs.World.{Item, Buffer, State, Shows, Nothing, Buffer_of, Listing, List_of}
 use Rattle.mgs_model.specs.World as model
 use Rattle.mgs_model.specs.View.{View, BufferSeen, WindowSeen, find_seen, view, reads, reads_found, buffer_seen, window_seen, positions_if, told_if, full_if, size_told, serial_told, text_in}
 use Rattle.mgs_model.specs.Outcome.{Effect, Outcome, Unmodified}
@@ -21,7 +21,7 @@ use Rattle.mgs_model.specs.declared.message.Message.{Message}
 use Rattle.mgs_model.specs.declared.message.Message.TheVariants.{NoBuffer}
 use Rattle.mgs_model.specs.declared.session.Command.{Command}
 use Rattle.mgs_model.specs.declared.session.Command.TheVariants.{Insert, InsertReading, Move, Alter, Scroll, UndoEdit, NotModified}
-use Rattle.mgs_laws.proofs.Outcomes.{granted_each}
+use Rattle.mgs_model.proofs.Deciding.{granted_each}
 use Rattle.mgs_buffers.specs.MarkedBuffer.{MarkedBuffer, HasBuffer, marked_at, mark_at}
 use Rattle.mgs_windows.specs.declared.WindowMarks.{WindowMarks}
 use Rattle.mgs_windows.specs.declared.Window.{Window}
@@ -33,17 +33,17 @@ use Rattle.mgs_session.specs.declared.Session.{Session}
 use Rattle.mgs_model.specs.declared.session.Scrolling.{Scrolling}
 use Rattle.mgs_plan.specs.Rows.{outcome_without, scroll_in, scroll_outcome}
 use Rattle.mgs_plan.specs.Actions.{edit_outcome, granted_outcome, height_or_none, is_on_text, mark_if, outcome_at, place_in, plan_in, selected_height}
-use Rattle.mgs_world.specs.Worlds.{buffers_of, own_of, session_of, window_of, window_shown, world_of}
+use Rattle.mgs_world.specs.Worlds.{buffers_of, state_of, session_of, window_of, window_shown, world_of}
 use Rattle.mgs_world.proofs.Found.{found_buffer, found_seen, name_kept}
 use Rattle.mgs_world.proofs.Marks.{not_both}
 use Rattle.mgs_world.proofs.Worlds.{selected_window}
 
 -- RIGHTS
 
-pub permitted_same : (own : Own) (d : Decision) (a b : Outcome) → (d ≡ Granted → a ≡ b) → permitted own d a ≡ permitted own d b
-permitted_same own Granted a b h = h refl
-permitted_same own (DeniedBy n right) a b h = refl
-permitted_same own (NotGranted right) a b h = refl
+pub permitted_same : (state : State) (d : Decision) (a b : Outcome) → (d ≡ Granted → a ≡ b) → permitted state d a ≡ permitted state d b
+permitted_same state Granted a b h = h refl
+permitted_same state (DeniedBy n right) a b h = refl
+permitted_same state (NotGranted right) a b h = refl
 
 -- reading is granted where all of these rights are
 pub first_granted : (d : Right → Decider) (rights : List Right) → decision_by d (ReadData ∷ rights) ≡ Granted → allows (d ReadData) ≡ true
@@ -58,8 +58,8 @@ any_append d e = list_any_at (λ right. allows (d right)) all_rights 2 ReadData 
 -- WHAT IS TOLD SUFFICES
 
 -- what a plan is given of a buffer on which some right is granted or none, and whose text may be read or not
-abbrev pub surroundings : Bool → Bool → Buffer → List ℕ → ℕ → Option ℕ → ℕ → ℕ → Option ℕ → List ℕ → List ℕ → Own → Around
-surroundings told read b name point mark top height n typed kill own =
+abbrev pub surroundings : Bool → Bool → Buffer → List ℕ → ℕ → Option ℕ → ℕ → ℕ → Option ℕ → List ℕ → List ℕ → State → Around
+surroundings told read b name point mark top height n typed kill state =
     record {
       name = name;
       size = size_told (told_if told b);
@@ -69,18 +69,18 @@ surroundings told read b name point mark top height n typed kill own =
       origin = 0;
       anchor = 0;
       sought_here = false;
-      old = own.old;
+      old = state.old;
       argument = n;
       typed = typed;
       kill = kill;
-      kind = own.kind;
+      kind = state.kind;
       height = height;
-      fill = own.fill;
+      fill = state.fill;
     }
 
 -- what is so for a reader
-abbrev all_told : Buffer → Bool → List ℕ → ℕ → Option ℕ → ℕ → Option ℕ → List ℕ → List ℕ → Own → Around
-all_told b read name point mark height n typed kill own =
+abbrev all_told : Buffer → Bool → List ℕ → ℕ → Option ℕ → ℕ → Option ℕ → List ℕ → List ℕ → State → Around
+all_told b read name point mark height n typed kill state =
     record {
       name = name;
       size = length b.text;
@@ -90,34 +90,34 @@ all_told b read name point mark height n typed kill own =
       origin = 0;
       anchor = 0;
       sought_here = false;
-      old = own.old;
+      old = state.old;
       argument = n;
       typed = typed;
       kill = kill;
-      kind = own.kind;
+      kind = state.kind;
       height = height;
-      fill = own.fill;
+      fill = state.fill;
     }
 
 -- where reading is needed and not granted, nothing is done whatever is there
-unread : (own : Own) (d : Right → Decider) (rights : List Right) (o p : Outcome) → allows (d ReadData) ≡ false → permitted own (decision_by d (ReadData ∷ rights)) o ≡ permitted own (decision_by d (ReadData ∷ rights)) p
-unread own d rights o p none = permitted_same own (decision_by d (ReadData ∷ rights)) o p (λ e. not_both (allows (d ReadData)) (first_granted d rights e) none)
+unread : (state : State) (d : Right → Decider) (rights : List Right) (o p : Outcome) → allows (d ReadData) ≡ false → permitted state (decision_by d (ReadData ∷ rights)) o ≡ permitted state (decision_by d (ReadData ∷ rights)) p
+unread state d rights o p none = permitted_same state (decision_by d (ReadData ∷ rights)) o p (λ e. not_both (allows (d ReadData)) (first_granted d rights e) none)
 
 -- the rights of an insertion that reads
-reading_rights : (own : Own) (d : Right → Decider) (end : Bool) (o p : Outcome) → allows (d ReadData) ≡ false → permitted own (decision_by d (rights_in (1 + cond end 4 2))) o ≡ permitted own (decision_by d (rights_in (1 + cond end 4 2))) p
-reading_rights own d true o p none = unread own d (AppendData ∷ []) o p none
-reading_rights own d false o p none = unread own d (WriteData ∷ []) o p none
+reading_rights : (state : State) (d : Right → Decider) (end : Bool) (o p : Outcome) → allows (d ReadData) ≡ false → permitted state (decision_by d (rights_in (1 + cond end 4 2))) o ≡ permitted state (decision_by d (rights_in (1 + cond end 4 2))) p
+reading_rights state d true o p none = unread state d (AppendData ∷ []) o p none
+reading_rights state d false o p none = unread state d (WriteData ∷ []) o p none
 
 -- a text that may not be read: what is done does not depend on it
-text_unread : (own : Own) (c : Command) (d : Right → Decider) (text : List ℕ) (items : List Item) (a : Around) → allows (d ReadData) ≡ false → outcome_at own c d [] [] a ≡ outcome_at own c d text items a
-text_unread own (Insert i) d text items a none = refl
-text_unread own (InsertReading i) d text items a none = reading_rights own d (a.place == a.size) _ _ none
-text_unread own (Move m) d text items a none = unread own d [] _ _ none
-text_unread own (Alter k) d text items a none = unread own d (WriteData ∷ []) _ _ none
-text_unread own (Scroll s) d text items a none = unread own d [] _ _ none
-text_unread own UndoEdit d text items a none = unread own d (WriteData ∷ []) _ _ none
-text_unread own NotModified d text items a none = refl
-text_unread own _ d text items a none = refl
+text_unread : (state : State) (c : Command) (d : Right → Decider) (text : List ℕ) (items : List Item) (a : Around) → allows (d ReadData) ≡ false → outcome_at state c d [] [] a ≡ outcome_at state c d text items a
+text_unread state (Insert i) d text items a none = refl
+text_unread state (InsertReading i) d text items a none = reading_rights state d (a.place == a.size) _ _ none
+text_unread state (Move m) d text items a none = unread state d [] _ _ none
+text_unread state (Alter k) d text items a none = unread state d (WriteData ∷ []) _ _ none
+text_unread state (Scroll s) d text items a none = unread state d [] _ _ none
+text_unread state UndoEdit d text items a none = unread state d (WriteData ∷ []) _ _ none
+text_unread state NotModified d text items a none = refl
+text_unread state _ d text items a none = refl
 
 -- nothing is told: nothing is granted
 nothing_granted : (d : Right → Decider) (rights : List Right) → any_right d ≡ false → decision_by d (ReadData ∷ rights) ≡ Granted → ⊥
@@ -126,32 +126,32 @@ nothing_granted d rights none e = not_both (any_right d) (any_read d (first_gran
 nothing_appended : (d : Right → Decider) → any_right d ≡ false → decision_by d (AppendData ∷ []) ≡ Granted → ⊥
 nothing_appended d none e = not_both (any_right d) (any_append d (granted_each d (AppendData ∷ []) e).0) none
 
-at_its_end : (own : Own) (d : Right → Decider) (n : ℕ) (mask : ℕ → ℕ) (o : Outcome) → permitted own (decision_by d (rights_in (mask 4))) o ≡ permitted own (decision_by d (rights_in (mask (cond (n == n) 4 2)))) o
-at_its_end own d n mask o = sym (ap (λ (e : Bool). permitted own (decision_by d (rights_in (mask (cond e 4 2)))) o) (eq-eqb n n refl))
+at_its_end : (state : State) (d : Right → Decider) (n : ℕ) (mask : ℕ → ℕ) (o : Outcome) → permitted state (decision_by d (rights_in (mask 4))) o ≡ permitted state (decision_by d (rights_in (mask (cond (n == n) 4 2)))) o
+at_its_end state d n mask o = sym (ap (λ (e : Bool). permitted state (decision_by d (rights_in (mask (cond e 4 2)))) o) (eq-eqb n n refl))
 
-none_told : (own : Own) (c : Command) (d : Right → Decider) (b : Buffer) (name : List ℕ) (point : ℕ) (mark : Option ℕ) (top height : ℕ) (n : Option ℕ) (typed kill : List ℕ) → any_right d ≡ false → outcome_at own c d [] [] (surroundings false false b name point mark top height n typed kill own) ≡ outcome_at own c d b.text b.items (all_told b false name point mark height n typed kill own)
-none_told own (Insert i) d b name point mark top height n typed kill none =
-    permitted_same own (decision_by d (AppendData ∷ [])) _ _ (λ e. absurd (nothing_appended d none e))
-    ∙ at_its_end own d (length b.text) (λ m. m) (granted_outcome own (Insert i) b.text b.items (all_told b false name point mark height n typed kill own))
-none_told own (InsertReading i) d b name point mark top height n typed kill none =
-    permitted_same own (decision_by d (ReadData ∷ AppendData ∷ [])) _ _ (λ e. absurd (nothing_granted d (AppendData ∷ []) none e))
-    ∙ at_its_end own d (length b.text) (λ m. 1 + m) (granted_outcome own (InsertReading i) b.text b.items (all_told b false name point mark height n typed kill own))
-none_told own (Move m) d b name point mark top height n typed kill none = permitted_same own (decision_by d (ReadData ∷ [])) _ _ (λ e. absurd (nothing_granted d [] none e))
-none_told own (Alter k) d b name point mark top height n typed kill none = permitted_same own (decision_by d (ReadData ∷ WriteData ∷ [])) _ _ (λ e. absurd (nothing_granted d (WriteData ∷ []) none e))
-none_told own (Scroll s) d b name point mark top height n typed kill none = permitted_same own (decision_by d (ReadData ∷ [])) _ _ (λ e. absurd (nothing_granted d [] none e))
-none_told own UndoEdit d b name point mark top height n typed kill none = permitted_same own (decision_by d (ReadData ∷ WriteData ∷ [])) _ _ (λ e. absurd (nothing_granted d (WriteData ∷ []) none e))
-none_told own NotModified d b name point mark top height n typed kill none = permitted_same own (decision_by d (ReadData ∷ WriteData ∷ [])) _ _ (λ e. absurd (nothing_granted d (WriteData ∷ []) none e))
-none_told own _ d b name point mark top height n typed kill none = permitted_same own (decision_by d (ReadData ∷ [])) _ _ (λ e. absurd (nothing_granted d [] none e))
+none_told : (state : State) (c : Command) (d : Right → Decider) (b : Buffer) (name : List ℕ) (point : ℕ) (mark : Option ℕ) (top height : ℕ) (n : Option ℕ) (typed kill : List ℕ) → any_right d ≡ false → outcome_at state c d [] [] (surroundings false false b name point mark top height n typed kill state) ≡ outcome_at state c d b.text b.items (all_told b false name point mark height n typed kill state)
+none_told state (Insert i) d b name point mark top height n typed kill none =
+    permitted_same state (decision_by d (AppendData ∷ [])) _ _ (λ e. absurd (nothing_appended d none e))
+    ∙ at_its_end state d (length b.text) (λ m. m) (granted_outcome state (Insert i) b.text b.items (all_told b false name point mark height n typed kill state))
+none_told state (InsertReading i) d b name point mark top height n typed kill none =
+    permitted_same state (decision_by d (ReadData ∷ AppendData ∷ [])) _ _ (λ e. absurd (nothing_granted d (AppendData ∷ []) none e))
+    ∙ at_its_end state d (length b.text) (λ m. 1 + m) (granted_outcome state (InsertReading i) b.text b.items (all_told b false name point mark height n typed kill state))
+none_told state (Move m) d b name point mark top height n typed kill none = permitted_same state (decision_by d (ReadData ∷ [])) _ _ (λ e. absurd (nothing_granted d [] none e))
+none_told state (Alter k) d b name point mark top height n typed kill none = permitted_same state (decision_by d (ReadData ∷ WriteData ∷ [])) _ _ (λ e. absurd (nothing_granted d (WriteData ∷ []) none e))
+none_told state (Scroll s) d b name point mark top height n typed kill none = permitted_same state (decision_by d (ReadData ∷ [])) _ _ (λ e. absurd (nothing_granted d [] none e))
+none_told state UndoEdit d b name point mark top height n typed kill none = permitted_same state (decision_by d (ReadData ∷ WriteData ∷ [])) _ _ (λ e. absurd (nothing_granted d (WriteData ∷ []) none e))
+none_told state NotModified d b name point mark top height n typed kill none = permitted_same state (decision_by d (ReadData ∷ WriteData ∷ [])) _ _ (λ e. absurd (nothing_granted d (WriteData ∷ []) none e))
+none_told state _ d b name point mark top height n typed kill none = permitted_same state (decision_by d (ReadData ∷ [])) _ _ (λ e. absurd (nothing_granted d [] none e))
 
-told_same : (own : Own) (c : Command) (d : Right → Decider) (b : Buffer) (name : List ℕ) (point : ℕ) (mark : Option ℕ) (top height : ℕ) (n : Option ℕ) (typed kill : List ℕ)
-    → outcome_at own c d (text_in (full_if (allows (d ReadData)) b)) (items_in (full_if (allows (d ReadData)) b)) (surroundings (any_right d) (allows (d ReadData)) b name point mark top height n typed kill own) ≡ outcome_at own c d b.text b.items (all_told b (allows (d ReadData)) name point mark height n typed kill own)
-told_same own c d b name point mark top height n typed kill = go (any_right d) (allows (d ReadData)) refl refl
+told_same : (state : State) (c : Command) (d : Right → Decider) (b : Buffer) (name : List ℕ) (point : ℕ) (mark : Option ℕ) (top height : ℕ) (n : Option ℕ) (typed kill : List ℕ)
+    → outcome_at state c d (text_in (full_if (allows (d ReadData)) b)) (items_in (full_if (allows (d ReadData)) b)) (surroundings (any_right d) (allows (d ReadData)) b name point mark top height n typed kill state) ≡ outcome_at state c d b.text b.items (all_told b (allows (d ReadData)) name point mark height n typed kill state)
+told_same state c d b name point mark top height n typed kill = go (any_right d) (allows (d ReadData)) refl refl
   where
-    go : (a r : Bool) → any_right d ≡ a → allows (d ReadData) ≡ r → outcome_at own c d (text_in (full_if r b)) (items_in (full_if r b)) (surroundings a r b name point mark top height n typed kill own) ≡ outcome_at own c d b.text b.items (all_told b r name point mark height n typed kill own)
+    go : (a r : Bool) → any_right d ≡ a → allows (d ReadData) ≡ r → outcome_at state c d (text_in (full_if r b)) (items_in (full_if r b)) (surroundings a r b name point mark top height n typed kill state) ≡ outcome_at state c d b.text b.items (all_told b r name point mark height n typed kill state)
     go true true p q = refl
-    go true false p q = text_unread own c d b.text b.items (all_told b false name point mark height n typed kill own) q
+    go true false p q = text_unread state c d b.text b.items (all_told b false name point mark height n typed kill state) q
     go false true p q = not_both (any_right d) (any_read d q) p
-    go false false p q = none_told own c d b name point mark top height n typed kill p
+    go false false p q = none_told state c d b name point mark top height n typed kill p
 
 -- THE TARGET
 
@@ -250,28 +250,28 @@ judged_here v t rights found =
     only_one (decision_by (deciders_found (find_seen t.buffer.name v.buffers)) (rights_in (rights t)))
     ∙ ap (λ o. decision_by (deciders_found o) (rights_in (rights t))) found
 
-edit_same : (own : Own) (b : BufferSeen) (r : Result Change Message) → edited_by own b r ≡ edit_outcome own b.name (size_told b.told) (serial_told b.told) r
-edit_same own b (Ok c) = refl
-edit_same own b (Err message) = refl
+edit_same : (state : State) (b : BufferSeen) (r : Result Change Message) → edited_by state b r ≡ edit_outcome state b.name (size_told b.told) (serial_told b.told) r
+edit_same state b (Ok c) = refl
+edit_same state b (Err message) = refl
 
-edit_judged : (v : View) (t : Target) (rights : Target → ℕ) (plan : Target → Result Change Message) → target v ≡ Some t → find_seen t.buffer.name v.buffers ≡ Some t.buffer → permitted v.session.own (judged v (here (target v) rights)) (edits v.session.own (target v) plan) ≡ permitted v.session.own (decision_by t.buffer.deciders (rights_in (rights t))) (edit_outcome v.session.own t.buffer.name (size_told t.buffer.told) (serial_told t.buffer.told) (plan t))
+edit_judged : (v : View) (t : Target) (rights : Target → ℕ) (plan : Target → Result Change Message) → target v ≡ Some t → find_seen t.buffer.name v.buffers ≡ Some t.buffer → permitted v.session.state (judged v (here (target v) rights)) (edits v.session.state (target v) plan) ≡ permitted v.session.state (decision_by t.buffer.deciders (rights_in (rights t))) (edit_outcome v.session.state t.buffer.name (size_told t.buffer.told) (serial_told t.buffer.told) (plan t))
 edit_judged v t rights plan is found =
-    ap (λ o. permitted v.session.own (judged v (here o rights)) (edits v.session.own o plan)) is
-    ∙ ap (λ d. permitted v.session.own d (edits v.session.own (Some t) plan)) (judged_here v t rights found)
-    ∙ ap (permitted v.session.own (decision_by t.buffer.deciders (rights_in (rights t)))) (edit_same v.session.own t.buffer (plan t))
+    ap (λ o. permitted v.session.state (judged v (here o rights)) (edits v.session.state o plan)) is
+    ∙ ap (λ d. permitted v.session.state d (edits v.session.state (Some t) plan)) (judged_here v t rights found)
+    ∙ ap (permitted v.session.state (decision_by t.buffer.deciders (rights_in (rights t)))) (edit_same v.session.state t.buffer (plan t))
 
-motion_judged : (v : View) (t : Target) (plan : Target → Result Finish Message) → target v ≡ Some t → find_seen t.buffer.name v.buffers ≡ Some t.buffer → permitted v.session.own (judged v (here (target v) (λ t. 1))) (moves v.session.own (target v) plan) ≡ permitted v.session.own (decision_by t.buffer.deciders (rights_in 1)) (moved_by v.session.own (plan t))
+motion_judged : (v : View) (t : Target) (plan : Target → Result Finish Message) → target v ≡ Some t → find_seen t.buffer.name v.buffers ≡ Some t.buffer → permitted v.session.state (judged v (here (target v) (λ t. 1))) (moves v.session.state (target v) plan) ≡ permitted v.session.state (decision_by t.buffer.deciders (rights_in 1)) (moved_by v.session.state (plan t))
 motion_judged v t plan is found =
-    ap (λ o. permitted v.session.own (judged v (here o (λ t. 1))) (moves v.session.own o plan)) is
-    ∙ ap (λ d. permitted v.session.own d (moves v.session.own (Some t) plan)) (judged_here v t (λ t. 1) found)
+    ap (λ o. permitted v.session.state (judged v (here o (λ t. 1))) (moves v.session.state o plan)) is
+    ∙ ap (λ d. permitted v.session.state d (moves v.session.state (Some t) plan)) (judged_here v t (λ t. 1) found)
 
-rule_judged : (v : View) (t : Target) (plan : BufferSeen → Result Effect Message) → target v ≡ Some t → find_seen t.buffer.name v.buffers ≡ Some t.buffer → permitted v.session.own (judged v (about (shown v) 3)) (rules v.session.own (shown v) plan) ≡ permitted v.session.own (decision_by t.buffer.deciders (rights_in 3)) (effects v.session.own (plan t.buffer))
+rule_judged : (v : View) (t : Target) (plan : BufferSeen → Result Effect Message) → target v ≡ Some t → find_seen t.buffer.name v.buffers ≡ Some t.buffer → permitted v.session.state (judged v (about (shown v) 3)) (rules v.session.state (shown v) plan) ≡ permitted v.session.state (decision_by t.buffer.deciders (rights_in 3)) (effects v.session.state (plan t.buffer))
 rule_judged v t plan is found =
-    ap (λ (o : Option Target). permitted v.session.own (judged v (about (option_map (λ (t : Target). t.buffer) o) 3)) (rules v.session.own (option_map (λ (t : Target). t.buffer) o) plan)) is
-    ∙ ap (λ d. permitted v.session.own d (effects v.session.own (plan t.buffer))) (judged_here v t (λ t. 3) found)
+    ap (λ (o : Option Target). permitted v.session.state (judged v (about (option_map (λ (t : Target). t.buffer) o) 3)) (rules v.session.state (option_map (λ (t : Target). t.buffer) o) plan)) is
+    ∙ ap (λ d. permitted v.session.state d (effects v.session.state (plan t.buffer))) (judged_here v t (λ t. 3) found)
 
 -- what an act comes to on the target
-pub on_target : (v : View) (t : Target) (c : Command) (n : Option ℕ) (typed : List ℕ) → is_of_text c ≡ true → target v ≡ Some t → find_seen t.buffer.name v.buffers ≡ Some t.buffer → outcome v (outcomes.Run c n typed) true ≡ outcome_at v.session.own c t.buffer.deciders (text_in t.buffer.full) (items_in t.buffer.full) (around v.session n typed t)
+pub on_target : (v : View) (t : Target) (c : Command) (n : Option ℕ) (typed : List ℕ) → is_of_text c ≡ true → target v ≡ Some t → find_seen t.buffer.name v.buffers ≡ Some t.buffer → outcome v (outcomes.Run c n typed) true ≡ outcome_at v.session.state c t.buffer.deciders (text_in t.buffer.full) (items_in t.buffer.full) (around v.session n typed t)
 unfolding outcome
 on_target v t (Insert i) n typed h is found = edit_judged v t insertion_right (λ t. insertion i (around v.session n typed t)) is found
 on_target v t (InsertReading i) n typed h is found =
@@ -279,7 +279,7 @@ on_target v t (InsertReading i) n typed h is found =
 on_target v t (Move m) n typed h is found = motion_judged v t (λ t. motion m (text_in t.buffer.full) (around v.session n typed t)) is found
 on_target v t (Alter k) n typed h is found = edit_judged v t (λ t. 3) (λ t. alteration k (text_in t.buffer.full) (around v.session n typed t)) is found
 on_target v t (Scroll s) n typed h is found =
-    ap (λ b. permitted v.session.own (judged v (here (target v) (λ t. 1))) (cond b (scrolls_rows v.session.own (row_in s (selected_seen v))) (moves v.session.own (target v) (λ t. scrolling s (text_in t.buffer.full) (around v.session n typed t)))))
+    ap (λ b. permitted v.session.state (judged v (here (target v) (λ t. 1))) (cond b (scrolls_rows v.session.state (row_in s (selected_seen v))) (moves v.session.state (target v) (λ t. scrolling s (text_in t.buffer.full) (around v.session n typed t)))))
     (text_shown v.buffers (selected_seen v) t is)
     ∙ motion_judged v t (λ t. scrolling s (text_in t.buffer.full) (around v.session n typed t)) is found
 on_target v t UndoEdit n typed h is found = edit_judged v t (λ t. 3) (λ t. undo (items_in t.buffer.full) (around v.session n typed t)) is found
@@ -288,67 +288,67 @@ on_target v t _ n typed h is found = cc
 
 -- through the window's marks of the selected window, of so many rows
 through : (directory : Directory) (ks : List MarkedBuffer) (xs : List Session) (next : Option ℕ) (h : Session) (height : ℕ) (x : WindowMarks) (c : Command) (n : Option ℕ) (typed : List ℕ) → HasBuffer x.name ks → (session_of ks h).search ≡ None
-    → (let t = target_at directory ks h.user height x in outcome_at (own_of h.own) c t.buffer.deciders (text_in t.buffer.full) (items_in t.buffer.full) (around (view (world_of directory ks xs next) (session_of ks h)).session n typed t) ≡ plan_in directory ks (own_of h.own) h.user x height c n typed h.kill)
+    → (let t = target_at directory ks h.user height x in outcome_at (state_of h.state) c t.buffer.deciders (text_in t.buffer.full) (items_in t.buffer.full) (around (view (world_of directory ks xs next) (session_of ks h)).session n typed t) ≡ plan_in directory ks (state_of h.state) h.user x height c n typed h.kill)
 through directory ks xs next h height x c n typed kept quiet =
     let t = target_at directory ks h.user height x in
     let b = (marked_at x.name ks).buffer in
     let d = decider directory b.owners h.user b.entries in
-    let own = own_of h.own in
+    let state = state_of h.state in
     let point = mark_at x.name ks x.point in
     let mark = option_map (mark_at x.name ks) x.mark in
     let top = mark_at x.name ks x.top in
-    ap (λ (s : Option model.Search). let y : model.Session = record (session_of ks h) { search = s } in outcome_at own c t.buffer.deciders (text_in t.buffer.full) (items_in t.buffer.full) (around (view (world_of directory ks xs next) y).session n typed t)) quiet
-    ∙ ap (λ (r : Bool). outcome_at own c d (text_in (full_if (allows (d ReadData)) b)) (items_in (full_if (allows (d ReadData)) b)) (surroundings (any_right d) r b b.name point mark top height n typed h.kill own)) (ap (reads_found directory h.user) (found_buffer x.name ks kept))
-    ∙ told_same own c d b b.name point mark top height n typed h.kill
-    ∙ ap (λ (m : List ℕ). outcome_at own c d b.text b.items (all_told b (allows (d ReadData)) m point mark height n typed h.kill own)) (name_kept x.name ks kept)
+    ap (λ (s : Option model.Search). let y : model.Session = record (session_of ks h) { search = s } in outcome_at state c t.buffer.deciders (text_in t.buffer.full) (items_in t.buffer.full) (around (view (world_of directory ks xs next) y).session n typed t)) quiet
+    ∙ ap (λ (r : Bool). outcome_at state c d (text_in (full_if (allows (d ReadData)) b)) (items_in (full_if (allows (d ReadData)) b)) (surroundings (any_right d) r b b.name point mark top height n typed h.kill state)) (ap (reads_found directory h.user) (found_buffer x.name ks kept))
+    ∙ told_same state c d b b.name point mark top height n typed h.kill
+    ∙ ap (λ (m : List ℕ). outcome_at state c d b.text b.items (all_told b (allows (d ReadData)) m point mark height n typed h.kill state)) (name_kept x.name ks kept)
 
 -- the same of a session with another record, which has no positions of a search
-pub through_owned : (directory : Directory) (ks : List MarkedBuffer) (xs : List Session) (next : Option ℕ) (h : Session) (own : Own) (height : ℕ) (x : WindowMarks) (c : Command) (n : Option ℕ) (typed : List ℕ) → HasBuffer x.name ks
-    → (let t = target_at directory ks h.user height x in let y : model.Session = record (session_of ks h) { search = None; own = own } in outcome_at own c t.buffer.deciders (text_in t.buffer.full) (items_in t.buffer.full) (around (view (world_of directory ks xs next) y).session n typed t) ≡ plan_in directory ks own h.user x height c n typed h.kill)
-through_owned directory ks xs next h own height x c n typed kept =
+pub through_owned : (directory : Directory) (ks : List MarkedBuffer) (xs : List Session) (next : Option ℕ) (h : Session) (state : State) (height : ℕ) (x : WindowMarks) (c : Command) (n : Option ℕ) (typed : List ℕ) → HasBuffer x.name ks
+    → (let t = target_at directory ks h.user height x in let y : model.Session = record (session_of ks h) { search = None; state = state } in outcome_at state c t.buffer.deciders (text_in t.buffer.full) (items_in t.buffer.full) (around (view (world_of directory ks xs next) y).session n typed t) ≡ plan_in directory ks state h.user x height c n typed h.kill)
+through_owned directory ks xs next h state height x c n typed kept =
     let b = (marked_at x.name ks).buffer in
     let d = decider directory b.owners h.user b.entries in
     let point = mark_at x.name ks x.point in
     let mark = option_map (mark_at x.name ks) x.mark in
     let top = mark_at x.name ks x.top in
-    ap (λ (r : Bool). outcome_at own c d (text_in (full_if (allows (d ReadData)) b)) (items_in (full_if (allows (d ReadData)) b)) (surroundings (any_right d) r b b.name point mark top height n typed h.kill own)) (ap (reads_found directory h.user) (found_buffer x.name ks kept))
-    ∙ told_same own c d b b.name point mark top height n typed h.kill
-    ∙ ap (λ (m : List ℕ). outcome_at own c d b.text b.items (all_told b (allows (d ReadData)) m point mark height n typed h.kill own)) (name_kept x.name ks kept)
+    ap (λ (r : Bool). outcome_at state c d (text_in (full_if (allows (d ReadData)) b)) (items_in (full_if (allows (d ReadData)) b)) (surroundings (any_right d) r b b.name point mark top height n typed h.kill state)) (ap (reads_found directory h.user) (found_buffer x.name ks kept))
+    ∙ told_same state c d b b.name point mark top height n typed h.kill
+    ∙ ap (λ (m : List ℕ). outcome_at state c d b.text b.items (all_told b (allows (d ReadData)) m point mark height n typed h.kill state)) (name_kept x.name ks kept)
 
-pub outcome_owned : (directory : Directory) (ks : List MarkedBuffer) (xs : List Session) (next : Option ℕ) (h : Session) (own : Own) (x : WindowMarks) (c : Command) (n : Option ℕ) (typed : List ℕ) → is_of_text c ≡ true → window_marks_of h ≡ Some x → HasBuffer x.name ks
-    → (let y : model.Session = record (session_of ks h) { search = None; own = own } in outcome (view (world_of directory ks xs next) y) (outcomes.Run c n typed) true ≡ plan_in directory ks own h.user x (selected_height h) c n typed h.kill)
-outcome_owned directory ks xs next h own x c n typed on sel kept =
-    let y : model.Session = record (session_of ks h) { search = None; own = own } in
+pub outcome_owned : (directory : Directory) (ks : List MarkedBuffer) (xs : List Session) (next : Option ℕ) (h : Session) (state : State) (x : WindowMarks) (c : Command) (n : Option ℕ) (typed : List ℕ) → is_of_text c ≡ true → window_marks_of h ≡ Some x → HasBuffer x.name ks
+    → (let y : model.Session = record (session_of ks h) { search = None; state = state } in outcome (view (world_of directory ks xs next) y) (outcomes.Run c n typed) true ≡ plan_in directory ks state h.user x (selected_height h) c n typed h.kill)
+outcome_owned directory ks xs next h state x c n typed on sel kept =
+    let y : model.Session = record (session_of ks h) { search = None; state = state } in
     let seen = selected_some directory ks xs next h x sel kept in
     let t = target_at directory ks h.user seen.0 x in
     on_target (view (world_of directory ks xs next) y) t c n typed on seen.1
     (ap (λ m. find_seen m (map (buffer_seen directory h.user) (buffers_of ks))) (name_kept x.name ks kept) ∙ found_seen directory h.user x.name ks kept)
-    ∙ through_owned directory ks xs next h own seen.0 x c n typed kept
-    ∙ ap (λ (height : ℕ). plan_in directory ks own h.user x height c n typed h.kill) (sym seen.2)
+    ∙ through_owned directory ks xs next h state seen.0 x c n typed kept
+    ∙ ap (λ (height : ℕ). plan_in directory ks state h.user x height c n typed h.kill) (sym seen.2)
 
-pub outcome_plan : (directory : Directory) (ks : List MarkedBuffer) (xs : List Session) (next : Option ℕ) (h : Session) (x : WindowMarks) (c : Command) (n : Option ℕ) (typed : List ℕ) → is_of_text c ≡ true → window_marks_of h ≡ Some x → HasBuffer x.name ks → (session_of ks h).search ≡ None → outcome (view (world_of directory ks xs next) (session_of ks h)) (outcomes.Run c n typed) true ≡ plan_in directory ks (own_of h.own) h.user x (selected_height h) c n typed h.kill
+pub outcome_plan : (directory : Directory) (ks : List MarkedBuffer) (xs : List Session) (next : Option ℕ) (h : Session) (x : WindowMarks) (c : Command) (n : Option ℕ) (typed : List ℕ) → is_of_text c ≡ true → window_marks_of h ≡ Some x → HasBuffer x.name ks → (session_of ks h).search ≡ None → outcome (view (world_of directory ks xs next) (session_of ks h)) (outcomes.Run c n typed) true ≡ plan_in directory ks (state_of h.state) h.user x (selected_height h) c n typed h.kill
 outcome_plan directory ks xs next h x c n typed on sel kept quiet =
     let seen = selected_some directory ks xs next h x sel kept in
     let t = target_at directory ks h.user seen.0 x in
     on_target (view (world_of directory ks xs next) (session_of ks h)) t c n typed on seen.1
     (ap (λ m. find_seen m (map (buffer_seen directory h.user) (buffers_of ks))) (name_kept x.name ks kept) ∙ found_seen directory h.user x.name ks kept)
     ∙ through directory ks xs next h seen.0 x c n typed kept quiet
-    ∙ ap (λ (height : ℕ). plan_in directory ks (own_of h.own) h.user x height c n typed h.kill) (sym seen.2)
+    ∙ ap (λ (height : ℕ). plan_in directory ks (state_of h.state) h.user x height c n typed h.kill) (sym seen.2)
 
 -- where the selected window shows nothing
-none_edited : (v : View) (rights : Target → ℕ) (plan : Target → Result Change Message) → target v ≡ None → permitted v.session.own (judged v (here (target v) rights)) (edits v.session.own (target v) plan) ≡ fails v.session.own NoBuffer
-none_edited v rights plan none = ap (λ o. permitted v.session.own (judged v (here o rights)) (edits v.session.own o plan)) none
+none_edited : (v : View) (rights : Target → ℕ) (plan : Target → Result Change Message) → target v ≡ None → permitted v.session.state (judged v (here (target v) rights)) (edits v.session.state (target v) plan) ≡ fails v.session.state NoBuffer
+none_edited v rights plan none = ap (λ o. permitted v.session.state (judged v (here o rights)) (edits v.session.state o plan)) none
 
-none_moved : (v : View) (plan : Target → Result Finish Message) → target v ≡ None → permitted v.session.own (judged v (here (target v) (λ t. 1))) (moves v.session.own (target v) plan) ≡ fails v.session.own NoBuffer
-none_moved v plan none = ap (λ o. permitted v.session.own (judged v (here o (λ t. 1))) (moves v.session.own o plan)) none
+none_moved : (v : View) (plan : Target → Result Finish Message) → target v ≡ None → permitted v.session.state (judged v (here (target v) (λ t. 1))) (moves v.session.state (target v) plan) ≡ fails v.session.state NoBuffer
+none_moved v plan none = ap (λ o. permitted v.session.state (judged v (here o (λ t. 1))) (moves v.session.state o plan)) none
 
-none_ruled : (v : View) (plan : BufferSeen → Result Effect Message) → target v ≡ None → permitted v.session.own (judged v (about (shown v) 3)) (rules v.session.own (shown v) plan) ≡ fails v.session.own NoBuffer
-none_ruled v plan none = ap (λ (o : Option Target). permitted v.session.own (judged v (about (option_map (λ (t : Target). t.buffer) o) 3)) (rules v.session.own (option_map (λ (t : Target). t.buffer) o) plan)) none
+none_ruled : (v : View) (plan : BufferSeen → Result Effect Message) → target v ≡ None → permitted v.session.state (judged v (about (shown v) 3)) (rules v.session.state (shown v) plan) ≡ fails v.session.state NoBuffer
+none_ruled v plan none = ap (λ (o : Option Target). permitted v.session.state (judged v (about (option_map (λ (t : Target). t.buffer) o) 3)) (rules v.session.state (option_map (λ (t : Target). t.buffer) o) plan)) none
 
 -- what it comes to there
 abbrev off_outcome : View → Option Scrolling → Outcome
-off_outcome v None = fails v.session.own NoBuffer
-off_outcome v (Some s) = cond (has_rows (selected_seen v)) (scrolls_rows v.session.own (row_in s (selected_seen v))) (fails v.session.own NoBuffer)
+off_outcome v None = fails v.session.state NoBuffer
+off_outcome v (Some s) = cond (has_rows (selected_seen v)) (scrolls_rows v.session.state (row_in s (selected_seen v))) (fails v.session.state NoBuffer)
 
 pub off_target : (v : View) (c : Command) (n : Option ℕ) (typed : List ℕ) → is_of_text c ≡ true → target v ≡ None → outcome v (outcomes.Run c n typed) true ≡ off_outcome v (scroll_in c)
 unfolding outcome
@@ -358,33 +358,33 @@ off_target v (InsertReading i) n typed h none =
 off_target v (Move m) n typed h none = none_moved v (λ t. motion m (text_in t.buffer.full) (around v.session n typed t)) none
 off_target v (Alter k) n typed h none = none_edited v (λ t. 3) (λ t. alteration k (text_in t.buffer.full) (around v.session n typed t)) none
 off_target v (Scroll s) n typed h none =
-    ap (λ (o : Option Target). permitted v.session.own (judged v (here o (λ t. 1))) (cond (has_rows (selected_seen v)) (scrolls_rows v.session.own (row_in s (selected_seen v))) (moves v.session.own o (λ t. scrolling s (text_in t.buffer.full) (around v.session n typed t))))) none
+    ap (λ (o : Option Target). permitted v.session.state (judged v (here o (λ t. 1))) (cond (has_rows (selected_seen v)) (scrolls_rows v.session.state (row_in s (selected_seen v))) (moves v.session.state o (λ t. scrolling s (text_in t.buffer.full) (around v.session n typed t))))) none
 off_target v UndoEdit n typed h none = none_edited v (λ t. 3) (λ t. undo (items_in t.buffer.full) (around v.session n typed t)) none
 off_target v NotModified n typed h none = none_ruled v (λ (b : BufferSeen). Ok (Unmodified b.name)) none
 off_target v _ n typed h none = cc
 
 -- the rows of the selected window, as the session sees them
-rows_off : (own : Own) (s : Scrolling) (can : List ℕ → Bool) (ks : List MarkedBuffer) (o : Option Window) → option_and_then (λ (w : Window). w.shows) o ≡ None
-    → (let seen = option_map (window_seen can) (option_map (window_of ks) o) in cond (has_rows seen) (scrolls_rows own (row_in s seen)) (fails own NoBuffer) ≡ scroll_outcome own s (height_or_none o) (rows_in o))
-rows_off own s can ks None none = refl
-rows_off own s can ks (Some w) none =
-    ap (λ (o : Option WindowMarks). let seen : Option WindowSeen = Some (window_seen can (window_shown ks w.height o w.rows)) in cond (has_rows seen) (scrolls_rows own (row_in s seen)) (fails own NoBuffer)) none
+rows_off : (state : State) (s : Scrolling) (can : List ℕ → Bool) (ks : List MarkedBuffer) (o : Option Window) → option_and_then (λ (w : Window). w.shows) o ≡ None
+    → (let seen = option_map (window_seen can) (option_map (window_of ks) o) in cond (has_rows seen) (scrolls_rows state (row_in s seen)) (fails state NoBuffer) ≡ scroll_outcome state s (height_or_none o) (rows_in o))
+rows_off state s can ks None none = refl
+rows_off state s can ks (Some w) none =
+    ap (λ (o : Option WindowMarks). let seen : Option WindowSeen = Some (window_seen can (window_shown ks w.height o w.rows)) in cond (has_rows seen) (scrolls_rows state (row_in s seen)) (fails state NoBuffer)) none
     ∙ by w.height w.rows
   where
-    by : (height : ℕ) (rows : RowPane) → (let seen : Option WindowSeen = Some (window_seen can (window_shown ks height None rows)) in cond (has_rows seen) (scrolls_rows own (row_in s seen)) (fails own NoBuffer)) ≡ scroll_outcome own s height rows
+    by : (height : ℕ) (rows : RowPane) → (let seen : Option WindowSeen = Some (window_seen can (window_shown ks height None rows)) in cond (has_rows seen) (scrolls_rows state (row_in s seen)) (fails state NoBuffer)) ≡ scroll_outcome state s height rows
     by height NoRows = refl
     by height (Buffers row) = refl
     by height (Entries name row) = refl
 
-off_seen : (directory : Directory) (ks : List MarkedBuffer) (xs : List Session) (next : Option ℕ) (h : Session) (s : Option Scrolling) → window_marks_of h ≡ None → off_outcome (view (world_of directory ks xs next) (session_of ks h)) s ≡ outcome_without (own_of h.own) s (slice_get h.windows.windows h.windows.selected)
+off_seen : (directory : Directory) (ks : List MarkedBuffer) (xs : List Session) (next : Option ℕ) (h : Session) (s : Option Scrolling) → window_marks_of h ≡ None → off_outcome (view (world_of directory ks xs next) (session_of ks h)) s ≡ outcome_without (state_of h.state) s (slice_get h.windows.windows h.windows.selected)
 off_seen directory ks xs next h None none = refl
 off_seen directory ks xs next h (Some s) none =
     let can = reads directory (buffers_of ks) h.user in
     let ws = h.windows.windows in
-    ap (λ (seen : Option WindowSeen). cond (has_rows seen) (scrolls_rows (own_of h.own) (row_in s seen)) (fails (own_of h.own) NoBuffer))
+    ap (λ (seen : Option WindowSeen). cond (has_rows seen) (scrolls_rows (state_of h.state) (row_in s seen)) (fails (state_of h.state) NoBuffer))
     (slice_get-map (window_seen can) (map (window_of ks) ws) h.windows.selected ∙ ap (option_map (window_seen can)) (slice_get-map (window_of ks) ws h.windows.selected))
-    ∙ rows_off (own_of h.own) s can ks (slice_get ws h.windows.selected) none
+    ∙ rows_off (state_of h.state) s can ks (slice_get ws h.windows.selected) none
 
-pub outcome_none : (directory : Directory) (ks : List MarkedBuffer) (xs : List Session) (next : Option ℕ) (h : Session) (c : Command) (n : Option ℕ) (typed : List ℕ) → is_of_text c ≡ true → window_marks_of h ≡ None → outcome (view (world_of directory ks xs next) (session_of ks h)) (outcomes.Run c n typed) true ≡ outcome_without (own_of h.own) (scroll_in c) (slice_get h.windows.windows h.windows.selected)
+pub outcome_none : (directory : Directory) (ks : List MarkedBuffer) (xs : List Session) (next : Option ℕ) (h : Session) (c : Command) (n : Option ℕ) (typed : List ℕ) → is_of_text c ≡ true → window_marks_of h ≡ None → outcome (view (world_of directory ks xs next) (session_of ks h)) (outcomes.Run c n typed) true ≡ outcome_without (state_of h.state) (scroll_in c) (slice_get h.windows.windows h.windows.selected)
 outcome_none directory ks xs next h c n typed on none =
     off_target (view (world_of directory ks xs next) (session_of ks h)) c n typed on (selected_none directory ks xs next h none) ∙ off_seen directory ks xs next h (scroll_in c) none

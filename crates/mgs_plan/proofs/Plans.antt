@@ -16,7 +16,7 @@ use Rattle.mgs_edit.specs.declared.plan.Around.{Around}
 use Rattle.mgs_plan.specs.declared.action.Action.{Action}
 use Rattle.mgs_plan.specs.declared.action.Action.TheVariants.{Fails}
 use Rattle.mgs_plan.specs.declared.given.Given.{Given}
-use Rattle.mgs_plan.specs.Actions.{action_outcome, around_given, around_in, given_own, granted_outcome, mask_at, outcome_through, plan_in}
+use Rattle.mgs_plan.specs.Actions.{action_outcome, around_given, around_in, given_state, granted_outcome, mask_at, outcome_through, plan_in}
 
 -- what holds of a text and a serial holds of the buffer's, which are the same
 pub at_buffer : (holds : List ℕ → ℕ → Type 0) (text kept : List ℕ) (serial last : ℕ) → text ≡ kept → serial ≡ last → holds text serial → holds kept last
@@ -28,31 +28,31 @@ needed directory ks user x g c killed =
     let b = (marked_at x.name ks).buffer in
     decision directory b.owners user b.entries (mask_at c (around_given directory ks user x g killed).place (length b.text))
 
-pub granted : (directory : Directory) (ks : List MarkedBuffer) (user : List ℕ) (x : WindowMarks) (g : Given) (c : Command) (typed kill : List ℕ) (around : Around) (action : Action) (own : model.Own)
+pub granted : (directory : Directory) (ks : List MarkedBuffer) (user : List ℕ) (x : WindowMarks) (g : Given) (c : Command) (typed kill : List ℕ) (around : Around) (action : Action) (state : model.State)
     → around ≡ around_given directory ks user x g (length kill) → needed directory ks user x g c (length kill) ≡ Granted
-    → (let b = (marked_at x.name ks).buffer in (own : model.Own) (rest : plans.Around) → action_outcome own x.name b.text b.items kill action ≡ granted_outcome own c b.text b.items (record (surrounded around (length b.text) (record rest { name = x.name; kill = kill; serial = b.serial })) { typed = typed }))
-    → outcome_through (given_own g own) x ks kill action ≡ plan_in directory ks (given_own g own) user x g.height c g.argument typed kill
+    → (let b = (marked_at x.name ks).buffer in (state : model.State) (rest : plans.Around) → action_outcome state x.name b.text b.items kill action ≡ granted_outcome state c b.text b.items (record (surrounded around (length b.text) (record rest { name = x.name; kill = kill; serial = b.serial })) { typed = typed }))
+    → outcome_through (given_state g state) x ks kill action ≡ plan_in directory ks (given_state g state) user x g.height c g.argument typed kill
 granted directory ks user x g c typed kill around action holds around_is allowed value =
-    let own = given_own g holds in
+    let state = given_state g holds in
     let b = (marked_at x.name ks).buffer in
-    let rest = around_in directory ks user x g.height g.argument typed kill own in
-    let by_around = subst (λ (a : Around). action_outcome own x.name b.text b.items kill action ≡ granted_outcome own c b.text b.items (record (surrounded a (length b.text) (record rest { name = x.name; kill = kill; serial = b.serial })) { typed = typed })) around_is (value own rest) in
-    by_around ∙ sym (ap (λ d. permitted own d (granted_outcome own c b.text b.items rest)) allowed)
+    let rest = around_in directory ks user x g.height g.argument typed kill state in
+    let by_around = subst (λ (a : Around). action_outcome state x.name b.text b.items kill action ≡ granted_outcome state c b.text b.items (record (surrounded a (length b.text) (record rest { name = x.name; kill = kill; serial = b.serial })) { typed = typed })) around_is (value state rest) in
+    by_around ∙ sym (ap (λ d. permitted state d (granted_outcome state c b.text b.items rest)) allowed)
 
-pub denied : (directory : Directory) (ks : List MarkedBuffer) (user : List ℕ) (x : WindowMarks) (g : Given) (c : Command) (typed kill : List ℕ) (message : Message) (own : model.Own)
-    → ((own : model.Own) (o : Outcome) → permitted own (needed directory ks user x g c (length kill)) o ≡ fails own message)
-    → outcome_through (given_own g own) x ks kill (Fails message) ≡ plan_in directory ks (given_own g own) user x g.height c g.argument typed kill
+pub denied : (directory : Directory) (ks : List MarkedBuffer) (user : List ℕ) (x : WindowMarks) (g : Given) (c : Command) (typed kill : List ℕ) (message : Message) (state : model.State)
+    → ((state : model.State) (o : Outcome) → permitted state (needed directory ks user x g c (length kill)) o ≡ fails state message)
+    → outcome_through (given_state g state) x ks kill (Fails message) ≡ plan_in directory ks (given_state g state) user x g.height c g.argument typed kill
 denied directory ks user x g c typed kill message holds told =
-    let own = given_own g holds in
+    let state = given_state g holds in
     let b = (marked_at x.name ks).buffer in
-    sym (told own (granted_outcome own c b.text b.items (around_in directory ks user x g.height g.argument typed kill own)))
+    sym (told state (granted_outcome state c b.text b.items (around_in directory ks user x g.height g.argument typed kill state)))
 
 -- the same for a session that has this kill buffer and whose selected window has so many rows
-pub for_session : (directory : Directory) (ks : List MarkedBuffer) (user : List ℕ) (x : WindowMarks) (g : Given) (c : Command) (typed kill held : List ℕ) (height : ℕ) (action : Action) (own : model.Own)
-    → given_own g own ≡ own → held ≡ kill → height ≡ g.height
-    → outcome_through (given_own g own) x ks held action ≡ plan_in directory ks (given_own g own) user x g.height c g.argument typed held
-    → outcome_through own x ks kill action ≡ plan_in directory ks own user x height c g.argument typed kill
-for_session directory ks user x g c typed kill held height action own same kills rows value =
-    let by_own = subst (λ (o : model.Own). outcome_through o x ks held action ≡ plan_in directory ks o user x g.height c g.argument typed held) same value in
-    let by_kill = subst (λ (k : List ℕ). outcome_through own x ks k action ≡ plan_in directory ks own user x g.height c g.argument typed k) kills by_own in
-    subst (λ (n : ℕ). outcome_through own x ks kill action ≡ plan_in directory ks own user x n c g.argument typed kill) (sym rows) by_kill
+pub for_session : (directory : Directory) (ks : List MarkedBuffer) (user : List ℕ) (x : WindowMarks) (g : Given) (c : Command) (typed kill held : List ℕ) (height : ℕ) (action : Action) (state : model.State)
+    → given_state g state ≡ state → held ≡ kill → height ≡ g.height
+    → outcome_through (given_state g state) x ks held action ≡ plan_in directory ks (given_state g state) user x g.height c g.argument typed held
+    → outcome_through state x ks kill action ≡ plan_in directory ks state user x height c g.argument typed kill
+for_session directory ks user x g c typed kill held height action state same kills rows value =
+    let by_state = subst (λ (o : model.State). outcome_through o x ks held action ≡ plan_in directory ks o user x g.height c g.argument typed held) same value in
+    let by_kill = subst (λ (k : List ℕ). outcome_through state x ks k action ≡ plan_in directory ks state user x g.height c g.argument typed k) kills by_state in
+    subst (λ (n : ℕ). outcome_through state x ks kill action ≡ plan_in directory ks state user x n c g.argument typed kill) (sym rows) by_kill

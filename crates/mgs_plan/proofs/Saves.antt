@@ -7,7 +7,7 @@ use Rattle.mgs_model.specs.World.{Buffer}
 use Rattle.mgs_model.specs.World as model
 use Rattle.mgs_model.specs.View.{buffer_seen, find_seen, full_if, text_in, told_if, view}
 use Rattle.mgs_model.specs.Outcome.{Keep_kill, Outcome, Run, Save, Stay}
-use Rattle.mgs_model.specs.Plans.{acted_own}
+use Rattle.mgs_model.specs.Plans.{acted_state}
 use Rattle.mgs_model.specs.Acts.{fails, has_file, here, judged, outcome, permitted, saves}
 use Rattle.mgs_model.specs.declared.right.Right.{Right}
 use Rattle.mgs_model.specs.declared.right.Right.TheVariants.{ReadData, WriteData}
@@ -19,34 +19,34 @@ use Rattle.mgs_buffers.specs.MarkedBuffer.{HasBuffer, MarkedBuffer, marked_at}
 use Rattle.mgs_windows.specs.declared.WindowMarks.{WindowMarks}
 use Rattle.mgs_session.specs.Sessions.{window_marks_of}
 use Rattle.mgs_session.specs.declared.Session.{Session}
-use Rattle.mgs_world.specs.Worlds.{buffers_of, own_of, session_of, world_of}
+use Rattle.mgs_world.specs.Worlds.{buffers_of, state_of, session_of, world_of}
 use Rattle.mgs_world.proofs.Found.{found_seen, name_kept}
 use Rattle.mgs_plan.specs.Deciding.{IsOutcome}
-use Rattle.mgs_plan.specs.Saving.{save_answered, save_outcome}
+use Rattle.mgs_plan.specs.Saving.{IsSaveLeft, IsSaveRefused, save_answered, save_outcome}
 use Rattle.mgs_plan.specs.declared.outcome.Outcome.TheVariants as coded
 use Rattle.mgs_plan.proofs.Outcomes.{any_read, first_granted, judged_here, permitted_same, selected_none, selected_some, target_at}
 
 -- what it comes to by what is told and what is read of the buffer
-abbrev saves_of : model.Own → Bool → Bool → Buffer → List ℕ → Bool → Outcome
-saves_of own told read b name stored =
-    cond own.playing (fails own InMacro)
-    (cond (not (has_file (told_if told b))) (fails own NoFile)
-    (cond (not stored) (fails own SaveFailed)
-    (record { own = record (acted_own own) { echo = Wrote name }; kill = Keep_kill; arrange = Stay; effect = Save name (text_in (full_if read b)) })))
+abbrev saves_of : model.State → Bool → Bool → Buffer → List ℕ → Bool → Outcome
+saves_of state told read b name stored =
+    cond state.playing (fails state InMacro)
+    (cond (not (has_file (told_if told b))) (fails state NoFile)
+    (cond (not stored) (fails state SaveFailed)
+    (record { state = record (acted_state state) { echo = Wrote name }; kill = Keep_kill; arrange = Stay; effect = Save name (text_in (full_if read b)) })))
 
-saves_told : (own : model.Own) (b : Buffer) (name : List ℕ) (stored : Bool) → saves_of own true true b name stored ≡ cond own.playing (fails own InMacro) (cond (not b.file) (fails own NoFile) (save_answered own name b.text stored))
-saves_told own b name true = refl
-saves_told own b name false = refl
+saves_told : (state : model.State) (b : Buffer) (name : List ℕ) (stored : Bool) → saves_of state true true b name stored ≡ cond state.playing (fails state InMacro) (cond (not b.file) (fails state NoFile) (save_answered state name b.text stored))
+saves_told state b name true = refl
+saves_told state b name false = refl
 
 -- where reading and writing are granted, all is told
-saves_granted : (own : model.Own) (d : Right → Decider) (b : Buffer) (name : List ℕ) (stored : Bool) → decision_by d (rights_in 3) ≡ Granted → saves_of own (any_right d) (allows (d ReadData)) b name stored ≡ cond own.playing (fails own InMacro) (cond (not b.file) (fails own NoFile) (save_answered own name b.text stored))
-saves_granted own d b name stored e =
+saves_granted : (state : model.State) (d : Right → Decider) (b : Buffer) (name : List ℕ) (stored : Bool) → decision_by d (rights_in 3) ≡ Granted → saves_of state (any_right d) (allows (d ReadData)) b name stored ≡ cond state.playing (fails state InMacro) (cond (not b.file) (fails state NoFile) (save_answered state name b.text stored))
+saves_granted state d b name stored e =
     let read = first_granted d (WriteData ∷ []) e in
-    ap (λ (r : Bool). saves_of own (any_right d) r b name stored) read
-    ∙ ap (λ (a : Bool). saves_of own a true b name stored) (any_read d read)
-    ∙ saves_told own b name stored
+    ap (λ (r : Bool). saves_of state (any_right d) r b name stored) read
+    ∙ ap (λ (a : Bool). saves_of state a true b name stored) (any_read d read)
+    ∙ saves_told state b name stored
 
-save_known : (directory : Directory) (ks : List MarkedBuffer) (xs : List Session) (next : Option ℕ) (h : Session) (x : WindowMarks) (n : Option ℕ) (stored : Bool) → window_marks_of h ≡ Some x → HasBuffer x.name ks → outcome (view (world_of directory ks xs next) (session_of ks h)) (Run SaveBuffer n []) stored ≡ save_outcome directory h.user x.name ks h.own.player.playing (own_of h.own) stored
+save_known : (directory : Directory) (ks : List MarkedBuffer) (xs : List Session) (next : Option ℕ) (h : Session) (x : WindowMarks) (n : Option ℕ) (stored : Bool) → window_marks_of h ≡ Some x → HasBuffer x.name ks → outcome (view (world_of directory ks xs next) (session_of ks h)) (Run SaveBuffer n []) stored ≡ save_outcome directory h.user x.name ks h.state.player.playing (state_of h.state) stored
 unfolding outcome
 save_known directory ks xs next h x n stored sel kept =
     let v = view (world_of directory ks xs next) (session_of ks h) in
@@ -55,16 +55,16 @@ save_known directory ks xs next h x n stored sel kept =
     let seen = selected_some directory ks xs next h x sel kept in
     let t = target_at directory ks h.user seen.0 x in
     let found = ap (λ m. find_seen m (map (buffer_seen directory h.user) (buffers_of ks))) (name_kept x.name ks kept) ∙ found_seen directory h.user x.name ks kept in
-    ap (λ o. permitted v.session.own (judged v (here o (λ t. 3))) (saves v.session.own o stored)) seen.1
-    ∙ ap (λ k. permitted v.session.own k (saves v.session.own (Some t) stored)) (judged_here v t (λ t. 3) found)
-    ∙ permitted_same (own_of h.own) (decision_by d (rights_in 3)) _ _ (λ e. saves_granted (own_of h.own) d b b.name stored e)
-    ∙ ap (λ (m : List ℕ). permitted (own_of h.own) (decision_by d (rights_in 3)) (cond h.own.player.playing (fails (own_of h.own) InMacro) (cond (not b.file) (fails (own_of h.own) NoFile) (save_answered (own_of h.own) m b.text stored)))) (name_kept x.name ks kept)
+    ap (λ o. permitted v.session.state (judged v (here o (λ t. 3))) (saves v.session.state o stored)) seen.1
+    ∙ ap (λ k. permitted v.session.state k (saves v.session.state (Some t) stored)) (judged_here v t (λ t. 3) found)
+    ∙ permitted_same (state_of h.state) (decision_by d (rights_in 3)) _ _ (λ e. saves_granted (state_of h.state) d b b.name stored e)
+    ∙ ap (λ (m : List ℕ). permitted (state_of h.state) (decision_by d (rights_in 3)) (cond h.state.player.playing (fails (state_of h.state) InMacro) (cond (not b.file) (fails (state_of h.state) NoFile) (save_answered (state_of h.state) m b.text stored)))) (name_kept x.name ks kept)
 
-save_nowhere : (directory : Directory) (ks : List MarkedBuffer) (xs : List Session) (next : Option ℕ) (h : Session) (n : Option ℕ) (stored : Bool) → window_marks_of h ≡ None → outcome (view (world_of directory ks xs next) (session_of ks h)) (Run SaveBuffer n []) stored ≡ fails (own_of h.own) NoBuffer
+save_nowhere : (directory : Directory) (ks : List MarkedBuffer) (xs : List Session) (next : Option ℕ) (h : Session) (n : Option ℕ) (stored : Bool) → window_marks_of h ≡ None → outcome (view (world_of directory ks xs next) (session_of ks h)) (Run SaveBuffer n []) stored ≡ fails (state_of h.state) NoBuffer
 unfolding outcome
 save_nowhere directory ks xs next h n stored none =
     let v = view (world_of directory ks xs next) (session_of ks h) in
-    ap (λ o. permitted v.session.own (judged v (here o (λ t. 3))) (saves v.session.own o stored)) (selected_none directory ks xs next h none)
+    ap (λ o. permitted v.session.state (judged v (here o (λ t. 3))) (saves v.session.state o stored)) (selected_none directory ks xs next h none)
 
 -- FOR A SESSION
 
@@ -72,13 +72,13 @@ module _ (directory : Directory) (ks : List MarkedBuffer) (xs : List Session) (n
   pub save_unshown : window_marks_of h ≡ None → IsOutcome directory ks xs next h (Run SaveBuffer n []) (coded.Fails NoBuffer)
   save_unshown none = λ stored. save_nowhere directory ks xs next h n stored none
 
-  module _ (x : WindowMarks) (playing : Bool) (sel : window_marks_of h ≡ Some x) (kept : HasBuffer x.name ks) (plays : playing ≡ h.own.player.playing) where
-    pub save_refused : (message : Message) → ((own : model.Own) (stored : Bool) → save_outcome directory h.user x.name ks playing own stored ≡ fails own message) → IsOutcome directory ks xs next h (Run SaveBuffer n []) (coded.Fails message)
+  module _ (x : WindowMarks) (playing : Bool) (sel : window_marks_of h ≡ Some x) (kept : HasBuffer x.name ks) (plays : playing ≡ h.state.player.playing) where
+    pub save_refused : (message : Message) → IsSaveRefused directory h.user x.name ks playing message → IsOutcome directory ks xs next h (Run SaveBuffer n []) (coded.Fails message)
     save_refused message refused = λ stored.
         save_known directory ks xs next h x n stored sel kept
-        ∙ subst (λ (p : Bool). save_outcome directory h.user x.name ks p (own_of h.own) stored ≡ fails (own_of h.own) message) plays (refused (own_of h.own) stored)
+        ∙ subst (λ (p : Bool). save_outcome directory h.user x.name ks p (state_of h.state) stored ≡ fails (state_of h.state) message) plays (refused (state_of h.state) stored)
 
-    pub save_planned : ((own : model.Own) (stored : Bool) → save_outcome directory h.user x.name ks playing own stored ≡ save_answered own x.name (marked_at x.name ks).buffer.text stored) → IsOutcome directory ks xs next h (Run SaveBuffer n []) (coded.Saves x.name)
+    pub save_planned : IsSaveLeft directory h.user x.name ks playing → IsOutcome directory ks xs next h (Run SaveBuffer n []) (coded.Saves x.name)
     save_planned granted = λ stored.
         save_known directory ks xs next h x n stored sel kept
-        ∙ subst (λ (p : Bool). save_outcome directory h.user x.name ks p (own_of h.own) stored ≡ save_answered (own_of h.own) x.name (marked_at x.name ks).buffer.text stored) plays (granted (own_of h.own) stored)
+        ∙ subst (λ (p : Bool). save_outcome directory h.user x.name ks p (state_of h.state) stored ≡ save_answered (state_of h.state) x.name (marked_at x.name ks).buffer.text stored) plays (granted (state_of h.state) stored)

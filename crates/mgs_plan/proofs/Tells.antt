@@ -1,6 +1,6 @@
 -- What an act does not touch is as it was.
 use Rattle.std.proofs.Common.{◌≡◌, ℕ, Bool, Option, Some, None, sym, ap, ◌∙◌}
-use Rattle.mgs_model.specs.Apart.{Apart, touched_by}
+use Rattle.mgs_laws.specs.Apart.{Apart, touched_by}
 use Rattle.mgs_model.specs.Apply.{act, applied, outcome_in}
 use Rattle.mgs_model.specs.Outcome.{Act, Outcome}
 use Rattle.mgs_model.specs.World.{World}

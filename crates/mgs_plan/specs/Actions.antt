@@ -11,7 +11,7 @@ use Rattle.mgs_model.specs.Apply.{change_first, kill_after}
 use Rattle.mgs_model.specs.Outcome.{Outcome, No_effect, Unmodified, PointPlan, Keep, At, At_origin}
 use Rattle.mgs_model.specs.Outcome as outcomes
 use Rattle.mgs_model.specs.Plans as plans
-use Rattle.mgs_model.specs.Plans.{alteration, insertion, motion, reading_insertion, scrolling, undo}
+use Rattle.mgs_model.specs.Plans.{alteration, insertion, motion, reading_insertion, scrolling, undo, undone}
 use Rattle.mgs_model.specs.Acts.{effects, fails, finished, edit_of, is_full, is_too_large, moved_by, permitted}
 use Rattle.mgs_model.specs.declared.right.Right.{Right}
 use Rattle.mgs_model.specs.declared.right.Right.TheVariants.{ReadData}
@@ -19,7 +19,10 @@ use Rattle.mgs_model.specs.declared.message.Message.{Message}
 use Rattle.mgs_model.specs.declared.message.Message.TheVariants.{KeyNotBound, BufferFull, Silent}
 use Rattle.mgs_model.specs.declared.session.Command.{Command}
 use Rattle.mgs_model.specs.declared.session.Command.TheVariants.{Insert, InsertReading, Move, Alter, Scroll, Set, Rearrange, Ask, Entries, ListEntries, UndoEdit, NotModified, SaveBuffer}
+use Rattle.mgs_model.specs.declared.search.Direction.{Direction}
+use Rattle.mgs_model.specs.declared.session.Kind.{Kind}
 use Rattle.mgs_model.specs.declared.session.Kind.TheVariants.{Other}
+use Rattle.mgs_model.specs.declared.session.Motion.TheVariants.{SearchFor}
 use Rattle.mgs_model.specs.declared.session.EntryChange.{EntryChange}
 use Rattle.mgs_model.specs.declared.session.EntryChange.TheVariants.{DeleteEntry}
 use Rattle.mgs_model.specs.declared.session.Setting.{Setting}
@@ -30,7 +33,7 @@ use Rattle.mgs_windows.specs.declared.WindowMarks.{WindowMarks}
 use Rattle.mgs_windows.specs.declared.Window.{Window}
 use Rattle.mgs_session.specs.Sessions.{acted, failed, told}
 use Rattle.mgs_session.specs.declared.Session.{Session}
-use Rattle.mgs_edit.specs.Reading.{ChangeWithin, FinishWithin, LeavesBehind, change_read, edit_read, finish_read, is_alteration_planned, is_planned, kill_read, motion_read, undone_read}
+use Rattle.mgs_edit.specs.Reading.{ChangeWithin, FinishWithin, LeavesBehind, change_read, edit_read, finish_read, is_alteration_planned, is_planned, kill_read, motion_read, surrounded, undoing, undone_read}
 use Rattle.mgs_edit.specs.declared.plan.Around.{Around}
 use Rattle.mgs_edit.specs.declared.plan.Change.{Change}
 use Rattle.mgs_edit.specs.declared.plan.Finish.{Finish}
@@ -39,7 +42,7 @@ use Rattle.mgs_undo.specs.History.{has_serial}
 use Rattle.mgs_model.specs.declared.session.Question.{Question}
 use Rattle.mgs_model.specs.declared.session.Question.TheVariants.{RunWhich, ReplaceWhat, ReplaceWith}
 use Rattle.mgs_world.specs.Marking.{IsReserved, session_marked}
-use Rattle.mgs_world.specs.Worlds.{idle, own_of}
+use Rattle.mgs_world.specs.Worlds.{idle, state_of}
 use Rattle.mgs_plan.specs.declared.key_act.KeyAct.{KeyAct}
 use Rattle.mgs_plan.specs.declared.key_act.KeyAct.TheVariants.{Unbound, Run}
 use Rattle.mgs_plan.specs.declared.given.Given.{Given}
@@ -120,8 +123,8 @@ abbrev pub mark_shown : List MarkedBuffer → WindowMarks → Option ℕ
 mark_shown ks x = option_map (mark_at x.name ks) x.mark
 
 -- what a session holds that has this kind and this fill column: a plan goes by no more of it
-abbrev pub given_own : Given → model.Own → model.Own
-given_own g own = record own { kind = g.kind; fill = g.fill }
+abbrev pub given_state : Given → model.State → model.State
+given_state g state = record state { kind = g.kind; fill = g.fill }
 
 abbrev pub around_given : Directory → List MarkedBuffer → List ℕ → WindowMarks → Given → ℕ → Around
 around_given directory ks user x g killed =
@@ -138,8 +141,8 @@ around_given directory ks user x g killed =
     }
 
 -- the same, as the model's plans are given it
-abbrev pub around_in : Directory → List MarkedBuffer → List ℕ → WindowMarks → ℕ → Option ℕ → List ℕ → List ℕ → model.Own → plans.Around
-around_in directory ks user x height n typed kill own =
+abbrev pub around_in : Directory → List MarkedBuffer → List ℕ → WindowMarks → ℕ → Option ℕ → List ℕ → List ℕ → model.State → plans.Around
+around_in directory ks user x height n typed kill state =
     let b = (marked_at x.name ks).buffer in
     let reads = may directory user ReadData b in
     record {
@@ -151,13 +154,13 @@ around_in directory ks user x height n typed kill own =
       origin = 0;
       anchor = 0;
       sought_here = false;
-      old = own.old;
+      old = state.old;
       argument = n;
       typed = typed;
       kill = kill;
-      kind = own.kind;
+      kind = state.kind;
       height = height;
-      fill = own.fill;
+      fill = state.fill;
     }
 
 -- ACTIONS
@@ -186,6 +189,10 @@ pub record CanUndo (text : List ℕ) (items : List Item) (kill : List ℕ) (seri
   pub finish : LeavesBehind u.finish
   pub room : is_full (length text) serial (undone_read text kill (removed_by u.serial items) u) ≡ false
 
+-- of a buffer
+abbrev pub CanUndoIn : model.Buffer → List ℕ → Undone → Type 0
+CanUndoIn b kill u = CanUndo b.text b.items kill b.serial u
+
 abbrev pub CanDo : List ℕ → List Item → List ℕ → ℕ → Action → Type 0
 CanDo text items kill serial (Fails message) = Unit {0}
 CanDo text items kill serial (Edits mask c) = CanChange text kill serial c
@@ -202,18 +209,18 @@ CanBeDone ks x kill action = CanDoIn ks x.name kill action
 
 -- the outcome that an action stands for, in the buffer of this name, text and items, by a session that holds this and has this kill
 -- buffer
-abbrev pub action_outcome : model.Own → List ℕ → List ℕ → List Item → List ℕ → Action → Outcome
-action_outcome own name text items kill (Fails message) = fails own message
-action_outcome own name text items kill (Edits mask c) = finished own (change_read text kill c).finish (edit_of name (change_read text kill c))
-action_outcome own name text items kill (Undoes u) =
+abbrev pub action_outcome : model.State → List ℕ → List ℕ → List Item → List ℕ → Action → Outcome
+action_outcome state name text items kill (Fails message) = fails state message
+action_outcome state name text items kill (Edits mask c) = finished state (change_read text kill c).finish (edit_of name (change_read text kill c))
+action_outcome state name text items kill (Undoes u) =
     let c = undone_read text kill (removed_by u.serial items) u in
-    finished own c.finish (edit_of name c)
-action_outcome own name text items kill (Moves f) = finished own (finish_read text kill 0 f) No_effect
-action_outcome own name text items kill Clears = effects own (Ok (Unmodified name))
+    finished state c.finish (edit_of name c)
+action_outcome state name text items kill (Moves f) = finished state (finish_read text kill 0 f) No_effect
+action_outcome state name text items kill Clears = effects state (Ok (Unmodified name))
 
 -- what an action comes to through a window's marks
-abbrev pub outcome_through : model.Own → WindowMarks → List MarkedBuffer → List ℕ → Action → Outcome
-outcome_through own x ks kill action = action_outcome own x.name (marked_at x.name ks).buffer.text (marked_at x.name ks).buffer.items kill action
+abbrev pub outcome_through : model.State → WindowMarks → List MarkedBuffer → List ℕ → Action → Outcome
+outcome_through state x ks kill action = action_outcome state x.name (marked_at x.name ks).buffer.text (marked_at x.name ks).buffer.items kill action
 
 -- the rows of the selected window above its mode line
 abbrev pub height_or_none : Option Window → ℕ
@@ -290,9 +297,9 @@ pub record IsMarked (x : WindowMarks) (position : ℕ) (action : Action) (ks ls 
 
 -- OUTCOMES
 
-abbrev pub edit_outcome : model.Own → List ℕ → ℕ → ℕ → Result plans.Change Message → Outcome
-edit_outcome own name size serial (Err message) = fails own message
-edit_outcome own name size serial (Ok c) = if is_full size serial c then fails own BufferFull else finished own c.finish (edit_of name c)
+abbrev pub edit_outcome : model.State → List ℕ → ℕ → ℕ → Result plans.Change Message → Outcome
+edit_outcome state name size serial (Err message) = fails state message
+edit_outcome state name size serial (Ok c) = if is_full size serial c then fails state BufferFull else finished state c.finish (edit_of name c)
 
 -- an insertion at the text's end appends, one elsewhere writes
 abbrev pub insertion_mask : ℕ → ℕ → ℕ
@@ -316,42 +323,82 @@ IsDoneBy needed (Moves f) = Unit {0}
 IsDoneBy needed Clears = needed ≡ 3
 
 -- what it does where they are granted
-abbrev pub granted_outcome : model.Own → Command → List ℕ → List Item → plans.Around → Outcome
-granted_outcome own (Insert c) text items a = edit_outcome own a.name a.size a.serial (insertion c a)
-granted_outcome own (InsertReading c) text items a = edit_outcome own a.name a.size a.serial (reading_insertion c text a)
-granted_outcome own (Move c) text items a = moved_by own (motion c text a)
-granted_outcome own (Alter c) text items a = edit_outcome own a.name a.size a.serial (alteration c text a)
-granted_outcome own (Scroll c) text items a = moved_by own (scrolling c text a)
-granted_outcome own UndoEdit text items a = edit_outcome own a.name a.size a.serial (undo items a)
-granted_outcome own NotModified text items a = effects own (Ok (Unmodified a.name))
-granted_outcome own _ text items a = fails own KeyNotBound
+abbrev pub granted_outcome : model.State → Command → List ℕ → List Item → plans.Around → Outcome
+granted_outcome state (Insert c) text items a = edit_outcome state a.name a.size a.serial (insertion c a)
+granted_outcome state (InsertReading c) text items a = edit_outcome state a.name a.size a.serial (reading_insertion c text a)
+granted_outcome state (Move c) text items a = moved_by state (motion c text a)
+granted_outcome state (Alter c) text items a = edit_outcome state a.name a.size a.serial (alteration c text a)
+granted_outcome state (Scroll c) text items a = moved_by state (scrolling c text a)
+granted_outcome state UndoEdit text items a = edit_outcome state a.name a.size a.serial (undo items a)
+granted_outcome state NotModified text items a = effects state (Ok (Unmodified a.name))
+granted_outcome state _ text items a = fails state KeyNotBound
 
-abbrev pub outcome_at : model.Own → Command → (Right → Decider) → List ℕ → List Item → plans.Around → Outcome
-outcome_at own c deciders text items a = permitted own (decision_by deciders (rights_in (mask_at c a.place a.size))) (granted_outcome own c text items a)
+abbrev pub outcome_at : model.State → Command → (Right → Decider) → List ℕ → List Item → plans.Around → Outcome
+outcome_at state c deciders text items a = permitted state (decision_by deciders (rights_in (mask_at c a.place a.size))) (granted_outcome state c text items a)
 
 -- the outcome of a command through a window's marks, and of what was typed for it
-abbrev pub plan_in : Directory → List MarkedBuffer → model.Own → List ℕ → WindowMarks → ℕ → Command → Option ℕ → List ℕ → List ℕ → Outcome
-plan_in directory ks own user x height c n typed kill =
+abbrev pub plan_in : Directory → List MarkedBuffer → model.State → List ℕ → WindowMarks → ℕ → Command → Option ℕ → List ℕ → List ℕ → Outcome
+plan_in directory ks state user x height c n typed kill =
     let b = (marked_at x.name ks).buffer in
-    outcome_at own c (decider directory b.owners user b.entries) b.text b.items (around_in directory ks user x height n typed kill own)
+    outcome_at state c (decider directory b.owners user b.entries) b.text b.items (around_in directory ks user x height n typed kill state)
 
 -- WHAT PLANS SAY
 
 -- that an action is what a planned edit of a text of this serial comes to, or a planned motion
 abbrev pub IsEditOf : List ℕ → ℕ → List ℕ → Result Change Message → Action → Type 0
 IsEditOf text serial kill planned action =
-    (own : model.Own) (name : List ℕ) (items : List Item) → action_outcome own name text items kill action ≡ edit_outcome own name (length text) serial (edit_read text kill planned)
+    (state : model.State) (name : List ℕ) (items : List Item) → action_outcome state name text items kill action ≡ edit_outcome state name (length text) serial (edit_read text kill planned)
 
 abbrev pub IsMotionOf : List ℕ → List ℕ → Result Finish Message → Action → Type 0
 IsMotionOf text kill planned action =
-    (own : model.Own) (name : List ℕ) (items : List Item) → action_outcome own name text items kill action ≡ moved_by own (motion_read text kill planned)
+    (state : model.State) (name : List ℕ) (items : List Item) → action_outcome state name text items kill action ≡ moved_by state (motion_read text kill planned)
+
+-- that it is what taking an edit back comes to, whichever buffer of this text and serial keeps as much of it
+abbrev pub IsUndoneSo : List ℕ → ℕ → Undone → Action → Type 0
+IsUndoneSo text serial u action =
+    (state : model.State) (name : List ℕ) (items : List Item) (kill : List ℕ) → length (removed_by u.serial items) ≡ u.len
+    → action_outcome state name text items kill action ≡ edit_outcome state name (length text) serial (Ok (undone_read text kill (removed_by u.serial items) u))
+
+abbrev pub CanUndoSo : List ℕ → ℕ → Undone → Action → Type 0
+CanUndoSo text serial u action = (items : List Item) (kill : List ℕ) → length (removed_by u.serial items) ≡ u.len → LeavesBehind u.finish → CanDo text items kill serial action
+
+-- of an edit that is kept as this item under a serial
+abbrev pub IsTakenBack : List ℕ → ℕ → List ℕ → ℕ → Item → Action → Type 0
+IsTakenBack text serial name target item action =
+    (state : model.State) (items : List Item) (kill : List ℕ) (kind : Kind) (rest : plans.Around) → find (has_serial target) items ≡ Some item
+    → action_outcome state name text items kill action ≡ edit_outcome state name (length text) serial (undone (undoing kind name serial (record rest { size = length text })) (Some item))
+
+abbrev pub CanTakeBack : List ℕ → ℕ → ℕ → Item → Action → Type 0
+CanTakeBack text serial target item action = (items : List Item) (kill : List ℕ) → find (has_serial target) items ≡ Some item → CanDo text items kill serial action
+
+-- that it is what an undo comes to in the buffer of a name, or any command whose rights are granted, and a search
+abbrev pub IsUndoIn : List MarkedBuffer → List ℕ → Kind → Action → Type 0
+IsUndoIn ks name kind action =
+    let b = (marked_at name ks).buffer in
+    (state : model.State) (kill : List ℕ) (rest : plans.Around)
+    → action_outcome state name b.text b.items kill action ≡ edit_outcome state name (length b.text) b.serial (undo b.items (undoing kind name b.serial (record rest { size = length b.text })))
+
+abbrev pub IsGrantedIn : List MarkedBuffer → List ℕ → List ℕ → Around → Command → Action → Type 0
+IsGrantedIn ks name kill around c action =
+    let b = (marked_at name ks).buffer in
+    (state : model.State) (rest : plans.Around)
+    → action_outcome state name b.text b.items kill action ≡ granted_outcome state c b.text b.items (surrounded around (length b.text) (record rest { name = name; kill = kill; serial = b.serial }))
+
+abbrev pub IsSearchIn : List MarkedBuffer → List ℕ → List ℕ → ℕ → Direction → List ℕ → Action → Type 0
+IsSearchIn ks name kill place direction pattern action =
+    let b = (marked_at name ks).buffer in
+    (state : model.State) (rest : plans.Around)
+    → action_outcome state name b.text b.items kill action ≡ moved_by state (motion (SearchFor direction) b.text (record rest { place = place; typed = pattern }))
 
 -- that it is what a command comes to through a window's marks, by a user who is given this and has this kill buffer
 abbrev pub IsActionFor : Directory → List MarkedBuffer → List ℕ → WindowMarks → Given → List ℕ → Command → List ℕ → Action → Type 0
 IsActionFor directory ks user x g kill c typed action =
-    (own : model.Own) → outcome_through (given_own g own) x ks kill action ≡ plan_in directory ks (given_own g own) user x g.height c g.argument typed kill
+    (state : model.State) → outcome_through (given_state g state) x ks kill action ≡ plan_in directory ks (given_state g state) user x g.height c g.argument typed kill
 
 -- and by a session at rest
 abbrev pub IsActionOf : Directory → List MarkedBuffer → Session → WindowMarks → Command → Option ℕ → List ℕ → Action → Type 0
 IsActionOf directory ks h x c n typed action =
-    let own = idle (own_of h.own) in outcome_through own x ks h.kill action ≡ plan_in directory ks own h.user x (selected_height h) c n typed h.kill
+    let state = idle (state_of h.state) in outcome_through state x ks h.kill action ≡ plan_in directory ks state h.user x (selected_height h) c n typed h.kill
+
+abbrev pub IsSearchOf : Directory → List MarkedBuffer → Session → WindowMarks → Direction → Option ℕ → List ℕ → Action → Type 0
+IsSearchOf directory ks h x direction n pattern action = IsActionOf directory ks h x (Move (SearchFor direction)) n pattern action

@@ -1,11 +1,11 @@
 -- What is decided, as the model has it.
 use Rattle.std.specs.Prelude.{◌≡◌, ℕ, Bool, false, true, List, [], length, Option, Some, Result, Ok, slice_get}
 use Rattle.mgs_model.specs.Access.{Directory}
-use Rattle.mgs_model.specs.Acts.{effects, fails, outcome, permitted, relisted, shows_named}
-use Rattle.mgs_model.specs.Outcome.{Act, Create, Effect, Kill, No_effect, Reown, Run}
+use Rattle.mgs_model.specs.Acts.{created, effects, fails, outcome, permitted, list_set, shows_named}
+use Rattle.mgs_model.specs.Outcome.{Act, Create, Effect, Kill, No_effect, SetOwners, Run}
 use Rattle.mgs_model.specs.Outcome as outcomes
 use Rattle.mgs_model.specs.View.{View, view}
-use Rattle.mgs_model.specs.World.{Own}
+use Rattle.mgs_model.specs.World.{State}
 use Rattle.mgs_model.specs.declared.entry.Decision.{Decision}
 use Rattle.mgs_model.specs.declared.entry.Decision.TheVariants.{Granted}
 use Rattle.mgs_model.specs.declared.message.Message.{Message}
@@ -18,7 +18,7 @@ use Rattle.mgs_session.specs.declared.Session.{Session}
 use Rattle.mgs_windows.specs.declared.WindowMarks.{WindowMarks}
 use Rattle.mgs_plan.specs.Actions.{CanBeDone, insertion_mask, is_setting_done, outcome_through}
 use Rattle.mgs_plan.specs.Inserting.{CanCopy, put_outcome, rights_decision}
-use Rattle.mgs_plan.specs.Listed.{CanRelist, entries_planned}
+use Rattle.mgs_plan.specs.Listed.{CanSetList, entries_planned}
 use Rattle.mgs_plan.specs.Listing.{lists_named}
 use Rattle.mgs_plan.specs.Rows.{CanScroll, outcome_without, rows_outcome}
 use Rattle.mgs_plan.specs.Saving.{save_answered}
@@ -26,7 +26,7 @@ use Rattle.mgs_plan.specs.declared.action.Action.{Action}
 use Rattle.mgs_plan.specs.declared.action.Action.TheVariants as actions
 use Rattle.mgs_plan.specs.declared.outcome.EntryPlan.{EntryPlan}
 use Rattle.mgs_plan.specs.declared.outcome.Outcome.{Outcome}
-use Rattle.mgs_plan.specs.declared.outcome.Outcome.TheVariants.{Fails, Acts, Kills, Reowns, Relists, Lists, Shows, Creates, Copies, Saves, Scrolls, Sets, Asks, Arranges}
+use Rattle.mgs_plan.specs.declared.outcome.Outcome.TheVariants.{Fails, Acts, Kills, SetsOwners, SetsList, Lists, Shows, Creates, Copies, Saves, Scrolls, Sets, Asks, Arranges}
 use Rattle.mgs_world.specs.Worlds.{session_of, world_of}
 
 -- the view of a session
@@ -35,17 +35,17 @@ view_at directory ks xs next h = view (world_of directory ks xs next) (session_o
 
 -- what an outcome is in a view, by the buffers and by whether the store saved
 abbrev pub outcome_read : List MarkedBuffer → View → Outcome → Bool → outcomes.Outcome
-outcome_read ks v (Fails message) stored = fails v.session.own message
-outcome_read ks v (Acts x action) stored = outcome_through v.session.own x ks v.session.kill action
-outcome_read ks v (Kills name) stored = effects v.session.own (Ok (Kill name))
-outcome_read ks v (Reowns name new) stored = effects v.session.own (Ok (Reown name new))
-outcome_read ks v (Relists name plan) stored = effects v.session.own (relisted name (entries_planned plan (marked_at name ks).buffer.entries))
+outcome_read ks v (Fails message) stored = fails v.session.state message
+outcome_read ks v (Acts x action) stored = outcome_through v.session.state x ks v.session.kill action
+outcome_read ks v (Kills name) stored = effects v.session.state (Ok (Kill name))
+outcome_read ks v (SetsOwners name new) stored = effects v.session.state (Ok (SetOwners name new))
+outcome_read ks v (SetsList name plan) stored = effects v.session.state (list_set name (entries_planned plan (marked_at name ks).buffer.entries))
 outcome_read ks v (Lists name) stored = lists_named v name
 outcome_read ks v (Shows name) stored = shows_named v name No_effect
 outcome_read ks v (Creates name) stored = shows_named v name (Create name v.session.user)
-outcome_read ks v (Copies x source place) stored = put_outcome v.session.own x.name place (marked_at source ks).buffer.text
-outcome_read ks v (Saves name) stored = save_answered v.session.own name (marked_at name ks).buffer.text stored
-outcome_read ks v (Scrolls rows) stored = rows_outcome v.session.own rows
+outcome_read ks v (Copies x source place) stored = put_outcome v.session.state x.name place (marked_at source ks).buffer.text
+outcome_read ks v (Saves name) stored = save_answered v.session.state name (marked_at name ks).buffer.text stored
+outcome_read ks v (Scrolls rows) stored = rows_outcome v.session.state rows
 outcome_read ks v (Sets c n) stored = outcome v (Run (Set c) n []) stored
 outcome_read ks v (Asks c n) stored = outcome v (Run (Ask c) n []) stored
 outcome_read ks v (Arranges c n) stored = outcome v (Run (Rearrange c) n []) stored
@@ -81,7 +81,7 @@ pub record CanRule (directory : Directory) (ks : List MarkedBuffer) (user name :
   pub granted : IsGranted directory ks user name mask
 
 pub record CanList (directory : Directory) (ks : List MarkedBuffer) (user name : List ℕ) (plan : EntryPlan) : Type 0 where
-  pub can : CanRelist ks name plan
+  pub can : CanSetList ks name plan
   pub granted : IsGranted directory ks user name 262144
 
 pub record CanSave (directory : Directory) (ks : List MarkedBuffer) (user name : List ℕ) : Type 0 where
@@ -94,8 +94,8 @@ abbrev pub CanPerform : Directory → List MarkedBuffer → Session → Outcome 
 CanPerform directory ks h (Fails message) = Unit {0}
 CanPerform directory ks h (Acts x action) = CanAct directory ks h x action
 CanPerform directory ks h (Kills name) = CanRule directory ks h.user name 65536
-CanPerform directory ks h (Reowns name new) = CanRule directory ks h.user name 524288
-CanPerform directory ks h (Relists name plan) = CanList directory ks h.user name plan
+CanPerform directory ks h (SetsOwners name new) = CanRule directory ks h.user name 524288
+CanPerform directory ks h (SetsList name plan) = CanList directory ks h.user name plan
 CanPerform directory ks h (Lists name) = Unit {0}
 CanPerform directory ks h (Shows name) = HasBuffer name ks
 CanPerform directory ks h (Creates name) = has_buffer name ks ≡ false
@@ -110,6 +110,14 @@ CanPerform directory ks h (Arranges c n) = Unit {0}
 abbrev pub MayPerform : Directory → List MarkedBuffer → List ℕ → List ℕ → ℕ → Session → Outcome → Type 0
 MayPerform directory ks user name mask h o = IsGranted directory ks user name mask → CanPerform directory ks h o
 
+-- whoever may perform this once they are granted can perform what it comes to
+abbrev pub CanPerformJudged : Directory → List MarkedBuffer → List ℕ → List ℕ → ℕ → Outcome → Outcome → Type 0
+CanPerformJudged directory ks user name mask granted o = (h : Session) → MayPerform directory ks user name mask h granted → CanPerform directory ks h o
+
+-- every session whose user is granted these rights on the buffer of a name can perform it
+abbrev pub CanWhereGranted : Directory → List MarkedBuffer → List ℕ → ℕ → Outcome → Type 0
+CanWhereGranted directory ks name mask o = (h : Session) → IsGranted directory ks h.user name mask → CanPerform directory ks h o
+
 -- THAT IT IS WHAT AN ACT COMES TO
 
 -- by a session, whatever the store answers
@@ -123,18 +131,22 @@ IsPlanned directory ks h c o = (xs : List Session) (next : Option ℕ) → IsOut
 
 -- that this is told in place of whatever was to be done
 abbrev pub Refuses : Decision → Message → Type 0
-Refuses d message = (own : Own) (o : outcomes.Outcome) → permitted own d o ≡ fails own message
+Refuses d message = (state : State) (o : outcomes.Outcome) → permitted state d o ≡ fails state message
 
 -- that it is the one, where these rights are granted a user on the buffer of a name, and else what is told of that
 abbrev pub IsJudged : Directory → List MarkedBuffer → List ℕ → List ℕ → ℕ → Outcome → Outcome → Type 0
 IsJudged directory ks user name mask granted o =
-    (v : View) (stored : Bool) → permitted v.session.own (rights_decision directory ks user name mask) (outcome_read ks v granted stored) ≡ outcome_read ks v o stored
+    (v : View) (stored : Bool) → permitted v.session.state (rights_decision directory ks user name mask) (outcome_read ks v granted stored) ≡ outcome_read ks v o stored
 
 -- that it has this effect, or tells why there is none
 abbrev pub IsRuled : List MarkedBuffer → Result Effect Message → Outcome → Type 0
-IsRuled ks effect o = (v : View) (stored : Bool) → outcome_read ks v o stored ≡ effects v.session.own effect
+IsRuled ks effect o = (v : View) (stored : Bool) → outcome_read ks v o stored ≡ effects v.session.state effect
+
+-- that it is what it comes to that a buffer is made of this name
+abbrev pub IsCreation : List MarkedBuffer → List ℕ → Outcome → Type 0
+IsCreation ks typed o = (v : View) (stored : Bool) → length v.buffers ≡ length ks → created v typed ≡ outcome_read ks v o stored
 
 -- that it is what scrolling comes to, or any other command on a text, in a session whose selected window shows none
 abbrev pub IsUnshown : Session → Option Scrolling → Outcome → Type 0
 IsUnshown h scrolling o =
-    (ks : List MarkedBuffer) (v : View) (stored : Bool) → outcome_without v.session.own scrolling (slice_get h.windows.windows h.windows.selected) ≡ outcome_read ks v o stored
+    (ks : List MarkedBuffer) (v : View) (stored : Bool) → outcome_without v.session.state scrolling (slice_get h.windows.windows h.windows.selected) ≡ outcome_read ks v o stored

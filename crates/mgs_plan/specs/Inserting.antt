@@ -1,7 +1,7 @@
 -- What the insertion of a buffer's text into the one that is shown comes to.
 use Rattle.std.specs.Prelude.{◌≡◌, ℕ, ◌+◌, ◌≤◌, Bool, true, false, List, [], length, Option, Some, None, Ok}
 use Rattle.mgs_model.specs.Access.{Directory, decision}
-use Rattle.mgs_model.specs.World.{Buffer, Own, may}
+use Rattle.mgs_model.specs.World.{Buffer, State, may}
 use Rattle.mgs_model.specs.Outcome.{Outcome}
 use Rattle.mgs_model.specs.Plans as plans
 use Rattle.mgs_model.specs.Acts.{edit_of, fails, finished, is_full, or_else, permitted}
@@ -51,32 +51,37 @@ abbrev pub copy_decision : Directory → List MarkedBuffer → List ℕ → List
 copy_decision directory ks user source name place = or_else (rights_decision directory ks user source 1) (target_decision directory ks user name place)
 
 -- what it comes to at a place, where the rights are granted
-abbrev pub copied_at : List MarkedBuffer → Own → List ℕ → List ℕ → ℕ → Outcome
-copied_at ks own source name place =
-    let b = (marked_at name ks).buffer in edit_outcome own name (length b.text) b.serial (Ok (insertion_of place (marked_at source ks).buffer.text))
+abbrev pub copied_at : List MarkedBuffer → State → List ℕ → List ℕ → ℕ → Outcome
+copied_at ks state source name place =
+    let b = (marked_at name ks).buffer in edit_outcome state name (length b.text) b.serial (Ok (insertion_of place (marked_at source ks).buffer.text))
 
 -- and for a user
-abbrev pub copy_outcome : Directory → List MarkedBuffer → Own → List ℕ → List ℕ → WindowMarks → Outcome
-copy_outcome directory ks own user source x =
-    let place = acting_place directory ks user x in permitted own (copy_decision directory ks user source x.name place) (copied_at ks own source x.name place)
+abbrev pub copy_outcome : Directory → List MarkedBuffer → State → List ℕ → List ℕ → WindowMarks → Outcome
+copy_outcome directory ks state user source x =
+    let place = acting_place directory ks user x in permitted state (copy_decision directory ks user source x.name place) (copied_at ks state source x.name place)
 
-abbrev pub outcome_from : Directory → List MarkedBuffer → Own → List ℕ → List ℕ → WindowMarks → Bool → Outcome
-outcome_from directory ks own user source x true = copy_outcome directory ks own user source x
-outcome_from directory ks own user source x false = fails own NoSuchBuffer
+abbrev pub outcome_from : Directory → List MarkedBuffer → State → List ℕ → List ℕ → WindowMarks → Bool → Outcome
+outcome_from directory ks state user source x true = copy_outcome directory ks state user source x
+outcome_from directory ks state user source x false = fails state NoSuchBuffer
 
 -- by the name that was typed, for a user whose selected window shows this
-abbrev pub insertion_outcome : Directory → List MarkedBuffer → Own → List ℕ → List ℕ → Option WindowMarks → Outcome
-insertion_outcome directory ks own user typed None = fails own NoBuffer
-insertion_outcome directory ks own user typed (Some x) = outcome_from directory ks own user typed x (has_buffer typed ks)
+abbrev pub insertion_outcome : Directory → List MarkedBuffer → State → List ℕ → List ℕ → Option WindowMarks → Outcome
+insertion_outcome directory ks state user typed None = fails state NoBuffer
+insertion_outcome directory ks state user typed (Some x) = outcome_from directory ks state user typed x (has_buffer typed ks)
+
+-- there is no room for it
+abbrev pub is_copy_full : List MarkedBuffer → List ℕ → List ℕ → ℕ → Bool
+is_copy_full ks source name place =
+    let b = (marked_at name ks).buffer in is_full (length b.text) b.serial (insertion_of place (marked_at source ks).buffer.text)
 
 -- ONCE IT IS DECIDED
 
-abbrev pub put_outcome : Own → List ℕ → ℕ → List ℕ → Outcome
-put_outcome own name place put = let c = insertion_of place put in finished own c.finish (edit_of name c)
+abbrev pub put_outcome : State → List ℕ → ℕ → List ℕ → Outcome
+put_outcome state name place put = let c = insertion_of place put in finished state c.finish (edit_of name c)
 
-abbrev pub decided_outcome : List MarkedBuffer → Own → List ℕ → Inserted → Outcome
-decided_outcome ks own name (Fails message) = fails own message
-decided_outcome ks own name (Copies source place) = put_outcome own name place (marked_at source ks).buffer.text
+abbrev pub decided_outcome : List MarkedBuffer → State → List ℕ → Inserted → Outcome
+decided_outcome ks state name (Fails message) = fails state message
+decided_outcome ks state name (Copies source place) = put_outcome state name place (marked_at source ks).buffer.text
 
 -- what it asks of a buffer
 pub record CanPut (b : Buffer) (put : List ℕ) (place : ℕ) : Type 0 where
@@ -96,6 +101,17 @@ CanInsert ks name (Copies source place) = CanCopy ks name source place
 abbrev pub IsInsertionGranted : Directory → List MarkedBuffer → List ℕ → List ℕ → Inserted → Type 0
 IsInsertionGranted directory ks user name (Fails message) = Unit {0}
 IsInsertionGranted directory ks user name (Copies source place) = target_decision directory ks user name place ≡ Granted
+
+-- whoever is granted an insertion at the place is granted this
+abbrev pub KeepsGrant : List MarkedBuffer → List ℕ → ℕ → Inserted → Type 0
+KeepsGrant ks name place i = (directory : Directory) (user : List ℕ) → target_decision directory ks user name place ≡ Granted → IsInsertionGranted directory ks user name i
+
+-- that it is what an insertion comes to, whatever the session holds: of a buffer that is there, and by the name that was typed
+abbrev pub IsCopyDecided : Directory → List MarkedBuffer → List ℕ → List ℕ → WindowMarks → Inserted → Type 0
+IsCopyDecided directory ks user source x i = (state : State) → decided_outcome ks state x.name i ≡ copy_outcome directory ks state user source x
+
+abbrev pub IsInsertionDecided : Directory → List MarkedBuffer → List ℕ → List ℕ → WindowMarks → Inserted → Type 0
+IsInsertionDecided directory ks user typed x i = (state : State) → decided_outcome ks state x.name i ≡ outcome_from directory ks state user typed x (has_buffer typed ks)
 
 -- WHAT IS DONE, but for the mark
 abbrev pub buffers_inserted : WindowMarks → ℕ → List ℕ → List MarkedBuffer → List MarkedBuffer

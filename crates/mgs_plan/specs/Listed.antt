@@ -14,7 +14,7 @@ entries_planned (Delete n) entries = entries_changed DeleteEntry entries n []
 entries_planned (Replace n e) entries = entry_replaced entries n e
 
 -- that it can be, in the buffer of a name
-pub record CanRelist (ks : List MarkedBuffer) (name : List ℕ) (plan : EntryPlan) : Type 0 where
+pub record CanSetList (ks : List MarkedBuffer) (name : List ℕ) (plan : EntryPlan) : Type 0 where
   pub kept : HasBuffer name ks
   pub entries : List Entry
   pub planned : entries_planned plan (marked_at name ks).buffer.entries ≡ Ok entries

@@ -12,9 +12,9 @@ use Rattle.mgs_plan.specs.Inserting.{rights_decision}
 
 -- the selected window comes to the list of the buffer of a name
 abbrev pub lists_named : View → List ℕ → Outcome
-lists_named v name = arranges v.session.own No_effect (Ok (comes v.session.windows v.session.selected (List_of name)))
+lists_named v name = arranges v.session.state No_effect (Ok (comes v.session.windows v.session.selected (List_of name)))
 
 -- what it comes to for a user, where it is about the buffer of this name, or about none
 abbrev pub list_outcome : Directory → List MarkedBuffer → List ℕ → Option (List ℕ) → View → Outcome
-list_outcome directory ks user None v = fails v.session.own NoBuffer
-list_outcome directory ks user (Some name) v = permitted v.session.own (rights_decision directory ks user name 131072) (lists_named v name)
+list_outcome directory ks user None v = fails v.session.state NoBuffer
+list_outcome directory ks user (Some name) v = permitted v.session.state (rights_decision directory ks user name 131072) (lists_named v name)

@@ -1,6 +1,6 @@
 -- What a command on a text does in a window that shows none.
 use Rattle.std.specs.Prelude.{◌≡◌, ℕ, Option, Some, None, slice_get}
-use Rattle.mgs_model.specs.World.{Own}
+use Rattle.mgs_model.specs.World.{State}
 use Rattle.mgs_model.specs.Outcome.{Outcome}
 use Rattle.mgs_model.specs.Plans.{row_scrolled}
 use Rattle.mgs_model.specs.Acts.{fails, scrolls_rows}
@@ -59,16 +59,16 @@ pub record CanScroll (h : Session) (rows : RowPane) : Type 0 where
 -- OUTCOMES
 
 -- what it comes to that a window comes to rows
-abbrev pub rows_outcome : Own → RowPane → Outcome
-rows_outcome own NoRows = fails own NoBuffer
-rows_outcome own (Buffers row) = scrolls_rows own (Some row)
-rows_outcome own (Entries name row) = scrolls_rows own (Some row)
+abbrev pub rows_outcome : State → RowPane → Outcome
+rows_outcome state NoRows = fails state NoBuffer
+rows_outcome state (Buffers row) = scrolls_rows state (Some row)
+rows_outcome state (Entries name row) = scrolls_rows state (Some row)
 
-abbrev pub scroll_outcome : Own → Scrolling → ℕ → RowPane → Outcome
-scroll_outcome own c height NoRows = fails own NoBuffer
-scroll_outcome own c height (Buffers row) = scrolls_rows own (Some (row_scrolled c row height))
-scroll_outcome own c height (Entries name row) = scrolls_rows own (Some (row_scrolled c row height))
+abbrev pub scroll_outcome : State → Scrolling → ℕ → RowPane → Outcome
+scroll_outcome state c height NoRows = fails state NoBuffer
+scroll_outcome state c height (Buffers row) = scrolls_rows state (Some (row_scrolled c row height))
+scroll_outcome state c height (Entries name row) = scrolls_rows state (Some (row_scrolled c row height))
 
-abbrev pub outcome_without : Own → Option Scrolling → Option Window → Outcome
-outcome_without own None o = fails own NoBuffer
-outcome_without own (Some c) o = scroll_outcome own c (height_or_none o) (rows_in o)
+abbrev pub outcome_without : State → Option Scrolling → Option Window → Outcome
+outcome_without state None o = fails state NoBuffer
+outcome_without state (Some c) o = scroll_outcome state c (height_or_none o) (rows_in o)

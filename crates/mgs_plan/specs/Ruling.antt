@@ -1,11 +1,11 @@
 -- What a change of a buffer's owners or of its access list comes to.
 use Rattle.std.specs.Prelude.{ℕ, List, Option, Some, None, Result, Ok, Err, if◌then◌else◌}
 use Rattle.mgs_model.specs.Access.{Directory, group_answered, is_among, is_group_answer}
-use Rattle.mgs_model.specs.World.{Own}
-use Rattle.mgs_model.specs.Outcome.{Effect, Outcome, Reown}
+use Rattle.mgs_model.specs.World.{State}
+use Rattle.mgs_model.specs.Outcome.{Effect, Outcome, SetOwners}
 use Rattle.mgs_model.specs.declared.owners.NewOwner.TheVariants.{ToUser, ToGroup}
 use Rattle.mgs_model.specs.Plans.{entries_changed}
-use Rattle.mgs_model.specs.Acts.{effects, fails, permitted, relisted}
+use Rattle.mgs_model.specs.Acts.{effects, fails, permitted, list_set}
 use Rattle.mgs_model.specs.declared.entry.Entry.{Entry}
 use Rattle.mgs_model.specs.declared.message.Message.{Message}
 use Rattle.mgs_model.specs.declared.message.Message.TheVariants.{NoBuffer, NoSuchUser, NoSuchGroup}
@@ -27,19 +27,26 @@ ruling_mask Owner = 524288
 ruling_mask Group = 524288
 ruling_mask (Entries c) = 262144
 
+-- another user is to own the buffer of this name, and another group, or none
+abbrev pub owner_plan : Directory → List ℕ → List ℕ → Result Effect Message
+owner_plan directory name typed = if is_among typed directory.users then Ok (SetOwners name (ToUser typed)) else Err NoSuchUser
+
+abbrev pub group_plan : Directory → List ℕ → List ℕ → Result Effect Message
+group_plan directory name typed =
+    if is_group_answer directory.groups typed then Ok (SetOwners name (ToGroup (group_answered typed))) else Err NoSuchGroup
+
 -- what is planned in a buffer of this name and list
 abbrev pub ruling_plan : Directory → List ℕ → List Entry → Ruling → Option ℕ → List ℕ → Result Effect Message
-ruling_plan directory name entries Owner n typed = if is_among typed directory.users then Ok (Reown name (ToUser typed)) else Err NoSuchUser
-ruling_plan directory name entries Group n typed =
-    if is_group_answer directory.groups typed then Ok (Reown name (ToGroup (group_answered typed))) else Err NoSuchGroup
-ruling_plan directory name entries (Entries c) n typed = relisted name (entries_changed c entries n typed)
+ruling_plan directory name entries Owner n typed = owner_plan directory name typed
+ruling_plan directory name entries Group n typed = group_plan directory name typed
+ruling_plan directory name entries (Entries c) n typed = list_set name (entries_changed c entries n typed)
 
 -- what it comes to for a user, in the buffer of a name
-abbrev pub ruling_in : Directory → List MarkedBuffer → Own → List ℕ → List ℕ → Ruling → Option ℕ → List ℕ → Outcome
-ruling_in directory ks own user name c n typed =
-    permitted own (rights_decision directory ks user name (ruling_mask c)) (effects own (ruling_plan directory name (marked_at name ks).buffer.entries c n typed))
+abbrev pub ruling_in : Directory → List MarkedBuffer → State → List ℕ → List ℕ → Ruling → Option ℕ → List ℕ → Outcome
+ruling_in directory ks state user name c n typed =
+    permitted state (rights_decision directory ks user name (ruling_mask c)) (effects state (ruling_plan directory name (marked_at name ks).buffer.entries c n typed))
 
 -- and where it is about the buffer of this name, or about none
-abbrev pub ruling_outcome : Directory → List MarkedBuffer → Own → List ℕ → Option (List ℕ) → Ruling → Option ℕ → List ℕ → Outcome
-ruling_outcome directory ks own user None c n typed = fails own NoBuffer
-ruling_outcome directory ks own user (Some name) c n typed = ruling_in directory ks own user name c n typed
+abbrev pub ruling_outcome : Directory → List MarkedBuffer → State → List ℕ → Option (List ℕ) → Ruling → Option ℕ → List ℕ → Outcome
+ruling_outcome directory ks state user None c n typed = fails state NoBuffer
+ruling_outcome directory ks state user (Some name) c n typed = ruling_in directory ks state user name c n typed

@@ -14,10 +14,10 @@ column_set (Some n) x = if n == 0 then failed BadColumn x else filling n (acted 
 
 -- one macro is recorded at a time, and none while one plays
 abbrev pub recording_started : Session → Session
-recording_started x = cond (x.own.recorder.recording || x.own.player.playing) (failed InMacro x) (macro_started x)
+recording_started x = cond (x.state.recorder.recording || x.state.player.playing) (failed InMacro x) (macro_started x)
 
 abbrev pub recording_ended : Session → Session
-recording_ended x = cond x.own.player.playing (failed InMacro x) (cond x.own.recorder.recording (macro_ended x) (failed NotInMacro x))
+recording_ended x = cond x.state.player.playing (failed InMacro x) (cond x.state.recorder.recording (macro_ended x) (failed NotInMacro x))
 
 -- the playing of a macro is no act
 abbrev pub session_set : Setting → Option ℕ → Session → Session

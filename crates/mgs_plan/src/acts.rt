@@ -4,7 +4,7 @@ ghost use Rattle.mgs_model.specs.Outcome as outcomes;
 ghost use Rattle.mgs_session.specs.Sessions.{window_marks_of};
 ghost use Rattle.mgs_plan.specs.Actions.{AreMarks, act_of, is_command_done, is_done_here};
 ghost use Rattle.mgs_plan.specs.Deciding.{CanPerform, IsPlanned};
-ghost use Rattle.mgs_world.specs.Worlds.{idle, own_of};
+ghost use Rattle.mgs_world.specs.Worlds.{idle, state_of};
 
 use crate::key_act::KeyAct;
 use crate::listing::plan_list;
@@ -27,7 +27,7 @@ fn plan_command<T: Marked + Drop>(
     argument: Option<usize>,
 ) -> Outcome
     requires marks { IfSome (window_marks_of session.now) (AreMarks buffers.now) }
-    requires fresh { own_of session.now.own ≡ idle (own_of session.now.own) }
+    requires fresh { state_of session.now.state ≡ idle (state_of session.now.state) }
     requires here { is_command_done command ≡ true }
     ensures value { IsPlanned directory.now buffers.now session.now (outcomes.Run command argument []) result }
     ensures can { CanPerform directory.now buffers.now session.now result }
@@ -56,7 +56,7 @@ pub fn plan_act<T: Marked + Drop>(
     done: KeyAct,
 ) -> Outcome
     requires marks { IfSome (window_marks_of session.now) (AreMarks buffers.now) }
-    requires fresh { own_of session.now.own ≡ idle (own_of session.now.own) }
+    requires fresh { state_of session.now.state ≡ idle (state_of session.now.state) }
     requires here { is_done_here done ≡ true }
     ensures value { IsPlanned directory.now buffers.now session.now (act_of done) result }
     ensures can { CanPerform directory.now buffers.now session.now result }

@@ -4,7 +4,7 @@ ghost use Rattle.mgs_session.specs.Sessions.{window_marks_of};
 ghost use Rattle.mgs_plan.specs.Actions.{AreMarks, is_answered};
 ghost use Rattle.mgs_plan.specs.Deciding.{CanPerform, IsPlanned};
 ghost use Rattle.mgs_plan.specs.Searching.{answer_act};
-ghost use Rattle.mgs_world.specs.Worlds.{idle, own_of};
+ghost use Rattle.mgs_world.specs.Worlds.{idle, state_of};
 
 use crate::inserting::plan_insertion;
 use crate::killing::plan_kill;
@@ -31,10 +31,10 @@ pub fn plan_answer<T: Marked + Drop>(
     typed: &[char],
 ) -> Outcome
     requires here { is_answered question ≡ true }
-    requires fresh { own_of session.now.own ≡ idle (own_of session.now.own) }
+    requires fresh { state_of session.now.state ≡ idle (state_of session.now.state) }
     requires few { length typed.now ≤ 120 }
     requires marks { IfSome (window_marks_of session.now) (AreMarks buffers.now) }
-    ensures value { IsPlanned directory.now buffers.now session.now (answer_act question argument typed.now (own_of session.now.own)) result }
+    ensures value { IsPlanned directory.now buffers.now session.now (answer_act question argument typed.now (state_of session.now.state)) result }
     ensures can { CanPerform directory.now buffers.now session.now result }
 {
     match question {

@@ -1,9 +1,8 @@
 // The positions of searches go by an edit.
 ghost use Rattle.std.specs.Prelude.{◌≡◌, ◌+◌, length};
 ghost use Rattle.mgs_buffers.specs.MarkedBuffer.{HasBuffer, marked_at};
-ghost use Rattle.mgs_edit.specs.Reading.{change_read, undone_read};
-ghost use Rattle.mgs_plan.specs.Actions.{CanChange, CanDoIn, CanUndo, removed_by};
-ghost use Rattle.mgs_plan.specs.Following.{CanFollow, action_edit, edit_told, followed};
+ghost use Rattle.mgs_plan.specs.Actions.{CanChange, CanDoIn, CanUndoIn};
+ghost use Rattle.mgs_plan.specs.Following.{CanFollow, action_edit, change_told, edit_told, followed, undo_told};
 ghost use Rattle.mgs_plan.specs.Inserting.{CanPut, insertion_of};
 
 use crate::action::Action;
@@ -23,7 +22,7 @@ fn edit_of_change<T: Marked + Drop>(
 ) -> Option<Edited>
     requires kept { HasBuffer name.now buffers.now }
     requires can { CanChange (marked_at name.now buffers.now).buffer.text kill.now (marked_at name.now buffers.now).buffer.serial change.now }
-    ensures { result ≡ edit_told (length (marked_at name.now buffers.now).buffer.text) (change_read (marked_at name.now buffers.now).buffer.text kill.now change.now) }
+    ensures { result ≡ change_told (marked_at name.now buffers.now).buffer kill.now change.now }
 {
     let killed = kill.len();
     if !is_edit(change, killed) {
@@ -49,8 +48,8 @@ fn edit_of_undo<T: Marked + Drop>(
     undone: &Undone,
 ) -> Option<Edited>
     requires kept { HasBuffer name.now buffers.now }
-    requires can { CanUndo (marked_at name.now buffers.now).buffer.text (marked_at name.now buffers.now).buffer.items kill.now (marked_at name.now buffers.now).buffer.serial undone.now }
-    ensures { result ≡ edit_told (length (marked_at name.now buffers.now).buffer.text) (undone_read (marked_at name.now buffers.now).buffer.text kill.now (removed_by undone.now.serial (marked_at name.now buffers.now).buffer.items) undone.now) }
+    requires can { CanUndoIn (marked_at name.now buffers.now).buffer kill.now undone.now }
+    ensures { result ≡ undo_told (marked_at name.now buffers.now).buffer kill.now undone.now }
 {
     if !is_undo_an_edit(undone) {
         return None;

@@ -1,21 +1,20 @@
 // What the insertion of a buffer's text into the one that is shown comes to.
 ghost use Rattle.std.specs.Prelude.{◌≡◌, ◌<◌, ◌≤◌, ℕ, List, length, Option, Some, None, IfSome};
-ghost use Rattle.mgs_model.specs.Access.{Directory};
-ghost use Rattle.mgs_model.specs.Acts.{is_full};
 ghost use Rattle.mgs_model.specs.Outcome.{Run};
-ghost use Rattle.mgs_model.specs.World.{Own};
+ghost use Rattle.mgs_model.specs.World.{State};
 ghost use Rattle.mgs_model.specs.declared.entry.Decision.TheVariants.{Granted};
-ghost use Rattle.mgs_buffers.specs.MarkedBuffer.{HasBuffer, has_buffer, marked_at};
+ghost use Rattle.mgs_buffers.specs.MarkedBuffer.{HasBuffer, marked_at};
 ghost use Rattle.mgs_plan.specs.declared.inserting.Inserted.TheVariants.{Copies};
 ghost use Rattle.mgs_model.specs.declared.session.ByName.TheVariants.{InsertBuffer};
 ghost use Rattle.mgs_model.specs.declared.session.Command.TheVariants.{Named};
 ghost use Rattle.mgs_session.specs.Sessions.{window_marks_of};
 ghost use Rattle.mgs_plan.specs.Actions.{AreMarks};
 ghost use Rattle.mgs_plan.specs.Deciding.{CanPerform, IsGranted, IsPlanned, Refuses};
-ghost use Rattle.mgs_plan.specs.Inserting.{CanInsert, IsInsertionGranted, acting_place, copied_at, copy_decision, copy_outcome, decided_outcome, insertion_of, outcome_from, rights_decision, target_decision};
+ghost use Rattle.mgs_plan.specs.Inserting.{CanInsert, IsCopyDecided, IsInsertionDecided, IsInsertionGranted, KeepsGrant};
+ghost use Rattle.mgs_plan.specs.Inserting.{acting_place, copied_at, copy_decision, decided_outcome, is_copy_full, rights_decision, target_decision};
 
 use crate::outcome::Outcome;
-use crate::planning::{denial, insertion_bit};
+use crate::planning::{denial, insertion_mask};
 use mgs_buffers::Buffers;
 use mgs_marks::Marked;
 use mgs_model::{Mask, Message, Name, Right, TEXT_LIMIT};
@@ -60,7 +59,7 @@ fn target_refusal<T: Marked + Drop>(
     ensures refused { IfSome result (Refuses (target_decision directory.now buffers.now user.now name.now place)) }
     ensures none { result ≡ None → target_decision directory.now buffers.now user.now name.now place ≡ Granted }
 {
-    let mask = Mask::from_bits(insertion_bit(place, buffers.text_len(name)));
+    let mask = insertion_mask(place, buffers.text_len(name));
     denial(buffers.decide_all(directory, name, user, mask))
 }
 
@@ -109,7 +108,7 @@ fn acting_place<T: Marked + Drop>(
 fn is_full<T: Marked + Drop>(buffers: &Buffers<T>, source: &Name, name: &Name) -> bool
     requires source { HasBuffer source.now buffers.now }
     requires target { HasBuffer name.now buffers.now }
-    ensures { (place : ℕ) → result ≡ is_full (length (marked_at name.now buffers.now).buffer.text) (marked_at name.now buffers.now).buffer.serial (insertion_of place (marked_at source.now buffers.now).buffer.text) }
+    ensures { (place : ℕ) → result ≡ is_copy_full buffers.now source.now name.now place }
 {
     let put = buffers.text_len(source);
     put > 0 && (buffers.text_len(name) + put > TEXT_LIMIT || buffers.serial(name) == u64::MAX)
@@ -125,9 +124,9 @@ fn copied_at<T: Marked + Drop>(
     requires source { HasBuffer source buffers.now }
     requires target { HasBuffer name.now buffers.now }
     requires within { place ≤ length (marked_at name.now buffers.now).buffer.text }
-    ensures value { (own : Own) → decided_outcome buffers.now own name.now result ≡ copied_at buffers.now own source name.now place }
+    ensures value { (state : State) → decided_outcome buffers.now state name.now result ≡ copied_at buffers.now state source name.now place }
     ensures can { CanInsert buffers.now name.now result }
-    ensures granted { (directory : Directory) (user : List ℕ) → target_decision directory buffers.now user name.now place ≡ Granted → IsInsertionGranted directory buffers.now user name.now result }
+    ensures granted { KeepsGrant buffers.now name.now place result }
 {
     if is_full(buffers, &source, name) {
         return Inserted::Fails(Message::BufferFull);
@@ -146,7 +145,7 @@ fn copied<T: Marked + Drop>(
     requires source { HasBuffer source buffers.now }
     requires target { HasBuffer window_marks.now.name buffers.now }
     requires marks { AreMarks buffers.now window_marks.now }
-    ensures value { (own : Own) → decided_outcome buffers.now own window_marks.now.name result ≡ copy_outcome directory.now buffers.now own user.now source window_marks.now }
+    ensures value { IsCopyDecided directory.now buffers.now user.now source window_marks.now result }
     ensures can { CanInsert buffers.now window_marks.now.name result }
     ensures granted { IsInsertionGranted directory.now buffers.now user.now window_marks.now.name result }
 {
@@ -168,7 +167,7 @@ fn decide_insertion<T: Marked + Drop>(
 ) -> Inserted
     requires target { HasBuffer window_marks.now.name buffers.now }
     requires marks { AreMarks buffers.now window_marks.now }
-    ensures value { (own : Own) → decided_outcome buffers.now own window_marks.now.name result ≡ outcome_from directory.now buffers.now own user.now typed.now window_marks.now (has_buffer typed.now buffers.now) }
+    ensures value { IsInsertionDecided directory.now buffers.now user.now typed.now window_marks.now result }
     ensures can { CanInsert buffers.now window_marks.now.name result }
     ensures granted { IsInsertionGranted directory.now buffers.now user.now window_marks.now.name result }
 {

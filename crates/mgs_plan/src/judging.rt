@@ -1,8 +1,7 @@
 // Rights are judged before anything is done.
 ghost use Rattle.std.specs.Prelude.{◌≡◌, Option, None, IfSome};
 ghost use Rattle.mgs_buffers.specs.MarkedBuffer.{HasBuffer};
-ghost use Rattle.mgs_session.specs.declared.Session as code;
-ghost use Rattle.mgs_plan.specs.Deciding.{CanPerform, IsGranted, IsJudged, MayPerform, Refuses};
+ghost use Rattle.mgs_plan.specs.Deciding.{CanPerformJudged, IsGranted, IsJudged, Refuses};
 ghost use Rattle.mgs_plan.specs.Inserting.{rights_decision};
 
 use crate::outcome::Outcome;
@@ -38,7 +37,7 @@ pub(crate) fn judged<T: Marked + Drop>(
 ) -> Outcome
     requires { HasBuffer name.now buffers.now }
     ensures value { IsJudged directory.now buffers.now user.now name.now mask granted result }
-    ensures can { (h : code.Session) → MayPerform directory.now buffers.now user.now name.now mask h granted → CanPerform directory.now buffers.now h result }
+    ensures can { CanPerformJudged directory.now buffers.now user.now name.now mask granted result }
 {
     match refusal(buffers, directory, user, name, mask) {
         Some(message) => Outcome::Fails(message),

@@ -1,16 +1,13 @@
 // What the killing of a buffer comes to: of the one of the name that was typed, or where nothing was typed, the one whose text or access
 // list is shown.
-ghost use Rattle.std.specs.Prelude.{◌≡◌, ℕ, List, Option, IfErr, IfOk};
-ghost use Rattle.mgs_model.specs.Access.{Directory};
-ghost use Rattle.mgs_model.specs.Acts.{fails};
+ghost use Rattle.std.specs.Prelude.{◌≡◌, ℕ, Option, IfErr, IfOk};
 ghost use Rattle.mgs_model.specs.Names.{IsName};
 ghost use Rattle.mgs_model.specs.Outcome.{Run};
-ghost use Rattle.mgs_model.specs.World.{Own};
 ghost use Rattle.mgs_model.specs.declared.session.ByName.TheVariants.{KillBuffer};
 ghost use Rattle.mgs_model.specs.declared.session.Command.TheVariants.{Named};
 ghost use Rattle.mgs_buffers.specs.MarkedBuffer.{HasBuffer};
 ghost use Rattle.mgs_plan.specs.Deciding.{CanPerform, IsPlanned};
-ghost use Rattle.mgs_plan.specs.Killing.{kill_outcome, name_meant};
+ghost use Rattle.mgs_plan.specs.Killing.{IsKillRefused, name_meant};
 
 use crate::judging::judged;
 use crate::outcome::Outcome;
@@ -36,7 +33,7 @@ fn meant<T: Marked + Drop>(
     ensures name { IfOk result (λ n. n ≡ name_meant subject typed.now) }
     ensures form { IfOk result (λ n. IsName n) }
     ensures kept { IfOk result (λ n. HasBuffer n buffers.now) }
-    ensures none { IfErr result (λ message. (directory : Directory) (own : Own) (user : List ℕ) → kill_outcome directory buffers.now own user subject typed.now ≡ fails own message) }
+    ensures none { IfErr result (IsKillRefused buffers.now subject typed.now) }
 {
     if let Some(name) = buffers.name_typed(typed) {
         return Ok(name);

@@ -28,5 +28,5 @@ pub use answering::plan_answer;
 pub use following::{edit_of, edit_of_insertion, follow};
 pub use key_act::KeyAct;
 pub use outcome::{EntryPlan, Outcome};
-pub use planning::denial;
+pub use planning::{denial, insertion_mask};
 pub use ruling::changed;

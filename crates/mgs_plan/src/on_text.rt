@@ -4,7 +4,7 @@ ghost use Rattle.mgs_model.specs.Outcome.{Run};
 ghost use Rattle.mgs_session.specs.Sessions.{window_marks_of};
 ghost use Rattle.mgs_plan.specs.Actions.{AreMarks, CanBeDone, IsActionOf, is_on_text};
 ghost use Rattle.mgs_plan.specs.Deciding.{CanPerform, IsActionGranted, IsPlanned};
-ghost use Rattle.mgs_world.specs.Worlds.{idle, own_of};
+ghost use Rattle.mgs_world.specs.Worlds.{idle, state_of};
 
 use crate::action::Action;
 use crate::given::Given;
@@ -35,9 +35,9 @@ fn plan_for<T: Marked + Drop>(
 {
     let given = Given {
         argument,
-        kind: session.own.kind,
+        kind: session.state.kind,
         height: session.windows.selected_window().height,
-        fill: session.own.fill,
+        fill: session.state.fill,
     };
     plan(
         buffers,
@@ -60,7 +60,7 @@ pub(crate) fn plan_text<T: Marked + Drop>(
     argument: Option<usize>,
 ) -> Outcome
     requires marks { IfSome (window_marks_of session.now) (AreMarks buffers.now) }
-    requires fresh { own_of session.now.own ≡ idle (own_of session.now.own) }
+    requires fresh { state_of session.now.state ≡ idle (state_of session.now.state) }
     requires here { is_on_text command ≡ true }
     ensures value { IsPlanned directory.now buffers.now session.now (Run command argument []) result }
     ensures can { CanPerform directory.now buffers.now session.now result }

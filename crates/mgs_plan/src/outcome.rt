@@ -24,9 +24,9 @@ pub enum Outcome {
     /// The buffer of a name goes.
     Kills(Name),
     /// The buffer of a name gets an owner, or an owning group, or none.
-    Reowns(Name, NewOwner),
+    SetsOwners(Name, NewOwner),
     /// The access list of the buffer of a name changes.
-    Relists(Name, EntryPlan),
+    SetsList(Name, EntryPlan),
     /// The selected window comes to the access list of the buffer of a name.
     Lists(Name),
     /// The selected window comes to the buffer of a name, which is there.

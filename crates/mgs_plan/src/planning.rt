@@ -1,15 +1,13 @@
 // What a command on a text comes to: whether it is permitted, and what its family plans.
-ghost use Rattle.std.specs.Prelude.{◌≡◌, ◌≤◌, ◌+◌, ℕ, List, [], length, find, Option, Some, None, Ok, IfOk, IfSome, true};
+ghost use Rattle.std.specs.Prelude.{◌≡◌, ◌≤◌, ◌+◌, ℕ, List, [], length, Option, None, Ok, IfOk, IfSome, true};
 ghost use Rattle.mgs_model.specs.declared.entry.Decision.TheVariants.{Granted};
-ghost use Rattle.mgs_model.specs.Plans as plans;
-ghost use Rattle.mgs_model.specs.Plans.{undo as model_undo, undone};
-ghost use Rattle.mgs_model.specs.World.{Item, Own};
-ghost use Rattle.mgs_undo.specs.History.{has_serial};
+ghost use Rattle.mgs_model.specs.World.{Item};
 ghost use Rattle.mgs_undo.specs.Numbered.{item_of};
 ghost use Rattle.mgs_buffers.specs.Changing.{writes};
 ghost use Rattle.mgs_buffers.specs.MarkedBuffer.{HasBuffer, marked_at};
-ghost use Rattle.mgs_edit.specs.Reading.{ChangeWithin, FinishWithin, IsWithin, LeavesBehind, surrounded, undoing, undone_read};
-ghost use Rattle.mgs_plan.specs.Actions.{AreMarks, CanBeDone, CanDo, CanDoIn, IsActionFor, IsDoneBy, IsEditOf, IsMotionOf, action_outcome, around_given, edit_outcome, granted_outcome, insertion_mask, is_on_text, mark_shown, marks_in, mask_at, removed_by};
+ghost use Rattle.mgs_edit.specs.Reading.{ChangeWithin, FinishWithin, IsWithin};
+ghost use Rattle.mgs_plan.specs.Actions.{AreMarks, CanBeDone, CanDo, CanDoIn, CanTakeBack, CanUndoSo, around_given, insertion_mask, is_on_text, mark_shown, marks_in, mask_at};
+ghost use Rattle.mgs_plan.specs.Actions.{IsActionFor, IsDoneBy, IsEditOf, IsGrantedIn, IsMotionOf, IsTakenBack, IsUndoIn, IsUndoneSo};
 ghost use Rattle.mgs_plan.specs.Deciding.{IsActionGranted, Refuses};
 
 use crate::action::Action;
@@ -75,15 +73,15 @@ pub(crate) fn around<T: Marked + Drop>(
     }
 }
 
-/// The bit of the right that an insertion needs: at the text's end it appends, elsewhere it writes.
-pub fn insertion_bit(place: usize, size: usize) -> u32
+/// The right that an insertion needs: at the text's end it appends, elsewhere it writes.
+pub fn insertion_mask(place: usize, size: usize) -> Mask
     ensures value { result ≡ insertion_mask place size }
     ensures small { result ≤ 4 }
 {
     if place == size {
-        Right::AppendData.bit()
+        Mask::of(Right::AppendData)
     } else {
-        Right::WriteData.bit()
+        Mask::of(Right::WriteData)
     }
 }
 
@@ -93,8 +91,8 @@ pub(crate) fn needs(command: &Command, place: usize, size: usize) -> Mask
 {
     let read = Right::ReadData.bit();
     match *command {
-        Command::Insert(_) => Mask::from_bits(insertion_bit(place, size)),
-        Command::InsertReading(_) => Mask::from_bits(read + insertion_bit(place, size)),
+        Command::Insert(_) => insertion_mask(place, size),
+        Command::InsertReading(_) => Mask::from_bits(read + insertion_mask(place, size).bits()),
         Command::Alter(_) | Command::UndoEdit | Command::NotModified => {
             Mask::from_bits(read + Right::WriteData.bit())
         }
@@ -163,8 +161,8 @@ pub(crate) fn moves<T: Text>(text: &T, kill: &[char], planned: Result<Finish, Me
 /// What taking an edit back comes to, where the text has the buffer's last serial.
 fn undoes_so<T: Text>(text: &T, serial: u64, undone: Undone) -> Action
     requires within { undone.from + undone.gone ≤ length (T.text text.now) }
-    ensures value { (own : Own) (name : List ℕ) (items : List Item) (kill : List ℕ) → length (removed_by undone.serial items) ≡ undone.len → action_outcome own name (T.text text.now) items kill result ≡ edit_outcome own name (length (T.text text.now)) serial (Ok (undone_read (T.text text.now) kill (removed_by undone.serial items) undone)) }
-    ensures can { (items : List Item) (kill : List ℕ) → length (removed_by undone.serial items) ≡ undone.len → LeavesBehind undone.finish → CanDo (T.text text.now) items kill serial result }
+    ensures value { IsUndoneSo (T.text text.now) serial undone result }
+    ensures can { CanUndoSo (T.text text.now) serial undone result }
     ensures by { IsDoneBy 3 result }
 {
     if is_undo_an_edit(&undone) && (is_undo_too_long(text.len(), &undone) || serial == u64::MAX) {
@@ -175,8 +173,8 @@ fn undoes_so<T: Text>(text: &T, serial: u64, undone: Undone) -> Action
 
 /// The same, of an edit that the buffer keeps under the serial `target`.
 fn takes_back<T: Text>(text: &T, serial: u64, name: &Name, target: u64, edit: &Edit) -> Action
-    ensures value { (own : Own) (items : List Item) (kill : List ℕ) (kind : Kind) (rest : plans.Around) → find (has_serial target) items ≡ Some (item_of target edit.now) → action_outcome own name.now (T.text text.now) items kill result ≡ edit_outcome own name.now (length (T.text text.now)) serial (undone (undoing kind name.now serial (record rest { size = length (T.text text.now) })) (Some (item_of target edit.now))) }
-    ensures can { (items : List Item) (kill : List ℕ) → find (has_serial target) items ≡ Some (item_of target edit.now) → CanDo (T.text text.now) items kill serial result }
+    ensures value { IsTakenBack (T.text text.now) serial name.now target (item_of target edit.now) result }
+    ensures can { CanTakeBack (T.text text.now) serial target (item_of target edit.now) result }
     ensures by { IsDoneBy 3 result }
 {
     if serial == u64::MAX {
@@ -187,7 +185,7 @@ fn takes_back<T: Text>(text: &T, serial: u64, name: &Name, target: u64, edit: &E
 
 /// What an undo comes to: in a run of undos the edit before the last one undone is taken back, and elsewhere the last edit.
 fn undoes<T: Marked + Drop>(found: &Found<T>, kind: Kind) -> Action
-    ensures value { (own : Own) (kill : List ℕ) (rest : plans.Around) → action_outcome own found.now.name (marked_at found.now.name found.now.all).buffer.text (marked_at found.now.name found.now.all).buffer.items kill result ≡ edit_outcome own found.now.name (length (marked_at found.now.name found.now.all).buffer.text) (marked_at found.now.name found.now.all).buffer.serial (model_undo (marked_at found.now.name found.now.all).buffer.items (undoing kind found.now.name (marked_at found.now.name found.now.all).buffer.serial (record rest { size = length (marked_at found.now.name found.now.all).buffer.text }))) }
+    ensures value { IsUndoIn found.now.all found.now.name kind result }
     ensures can { (kill : List ℕ) → CanDoIn found.now.all found.now.name kill result }
     ensures by { IsDoneBy 3 result }
 {
@@ -213,7 +211,7 @@ fn plan_granted<T: Marked + Drop>(
     requires killed { length kill.now ≡ around.now.killed }
     requires here { is_on_text command ≡ true }
     requires mask { mask ≡ mask_at command around.now.place (length (marked_at found.now.name found.now.all).buffer.text) }
-    ensures value { (own : Own) (rest : plans.Around) → action_outcome own found.now.name (marked_at found.now.name found.now.all).buffer.text (marked_at found.now.name found.now.all).buffer.items kill.now result ≡ granted_outcome own command (marked_at found.now.name found.now.all).buffer.text (marked_at found.now.name found.now.all).buffer.items (surrounded around.now (length (marked_at found.now.name found.now.all).buffer.text) (record rest { name = found.now.name; kill = kill.now; serial = (marked_at found.now.name found.now.all).buffer.serial })) }
+    ensures value { IsGrantedIn found.now.all found.now.name kill.now around.now command result }
     ensures can { CanDoIn found.now.all found.now.name kill.now result }
     ensures by { IsDoneBy mask result }
 {

@@ -1,18 +1,16 @@
 // What a change of the rules of a buffer comes to: of its owner, its owning group, or an entry of its access list.
 ghost use Rattle.std.specs.Prelude.{◌≡◌, ◌<◌, ◌-◌, ℕ, List as Items, length, Option, None, IfSome, true, false};
-ghost use Rattle.mgs_model.specs.Acts.{relisted};
+ghost use Rattle.mgs_model.specs.Acts.{list_set};
 ghost use Rattle.mgs_model.specs.Outcome.{Run};
 ghost use Rattle.mgs_model.specs.Plans.{count_of, entries_changed, entry_inserted, entry_replaced, has_entry, new_number};
 ghost use Rattle.mgs_model.specs.Rights.{bit_of};
 ghost use Rattle.mgs_model.specs.Access.{Directory};
-ghost use Rattle.mgs_model.specs.declared.entry.Entry.{Entry};
 ghost use Rattle.mgs_model.specs.declared.session.EntryChange.TheVariants.{DeleteEntry};
 ghost use Rattle.mgs_buffers.specs.MarkedBuffer.{HasBuffer, MarkedBuffer, marked_at};
 ghost use Rattle.mgs_session.specs.declared.Session as code;
-ghost use Rattle.mgs_plan.specs.declared.ruling.Ruling.TheVariants.{Group, Owner};
-ghost use Rattle.mgs_plan.specs.Deciding.{CanPerform, CanRule, IsGranted, IsPlanned, IsRuled};
+ghost use Rattle.mgs_plan.specs.Deciding.{CanPerform, CanRule, CanWhereGranted, IsPlanned, IsRuled};
 ghost use Rattle.mgs_plan.specs.Listed.{entries_planned};
-ghost use Rattle.mgs_plan.specs.Ruling.{command_of, ruling_mask, ruling_plan};
+ghost use Rattle.mgs_plan.specs.Ruling.{command_of, group_plan, owner_plan, ruling_mask, ruling_plan};
 
 use crate::judging::judged;
 use crate::outcome::{EntryPlan, Outcome};
@@ -47,25 +45,25 @@ fn right_for(ruling: Ruling) -> Right
 
 /// The buffer gets the owner whose name was typed, where that is a user.
 fn owner_ruled(directory: &Directory, name: Name, typed: &[char]) -> Outcome
-    ensures value { (ks : Items MarkedBuffer) (entries : Items Entry) (n : Option ℕ) → IsRuled ks (ruling_plan directory.now name entries Owner n typed.now) result }
+    ensures value { (ks : Items MarkedBuffer) → IsRuled ks (owner_plan directory.now name typed.now) result }
     ensures can { (ks : Items MarkedBuffer) (h : code.Session) → CanRule directory.now ks h.user name 524288 → CanPerform directory.now ks h result }
 {
     match directory.user_typed(typed) {
-        Some(owner) => Outcome::Reowns(name, NewOwner::ToUser(owner)),
+        Some(owner) => Outcome::SetsOwners(name, NewOwner::ToUser(owner)),
         None => Outcome::Fails(Message::NoSuchUser),
     }
 }
 
 /// The buffer gets the owning group whose name was typed, where that is a group of the directory, or none, where nothing was typed.
 fn group_ruled(directory: &Directory, name: Name, typed: &[char]) -> Outcome
-    ensures value { (ks : Items MarkedBuffer) (entries : Items Entry) (n : Option ℕ) → IsRuled ks (ruling_plan directory.now name entries Group n typed.now) result }
+    ensures value { (ks : Items MarkedBuffer) → IsRuled ks (group_plan directory.now name typed.now) result }
     ensures can { (ks : Items MarkedBuffer) (h : code.Session) → CanRule directory.now ks h.user name 524288 → CanPerform directory.now ks h result }
 {
     if typed.is_empty() {
-        return Outcome::Reowns(name, NewOwner::ToGroup(None));
+        return Outcome::SetsOwners(name, NewOwner::ToGroup(None));
     }
     match directory.group_typed(typed) {
-        Some(group) => Outcome::Reowns(name, NewOwner::ToGroup(Some(group))),
+        Some(group) => Outcome::SetsOwners(name, NewOwner::ToGroup(Some(group))),
         None => Outcome::Fails(Message::NoSuchGroup),
     }
 }
@@ -155,13 +153,13 @@ pub fn changed(list: List, plan: &EntryPlan) -> Result<List, Message>
 }
 
 /// The list of the buffer is to change, where it can.
-fn relists<T: Marked + Drop>(buffers: &Buffers<T>, name: Name, plan: EntryPlan) -> Outcome
+fn sets_list<T: Marked + Drop>(buffers: &Buffers<T>, name: Name, plan: EntryPlan) -> Outcome
     requires { HasBuffer name buffers.now }
-    ensures value { IsRuled buffers.now (relisted name (entries_planned plan (marked_at name buffers.now).buffer.entries)) result }
-    ensures can { (directory : Directory) (h : code.Session) → IsGranted directory buffers.now h.user name 262144 → CanPerform directory buffers.now h result }
+    ensures value { IsRuled buffers.now (list_set name (entries_planned plan (marked_at name buffers.now).buffer.entries)) result }
+    ensures can { (directory : Directory) → CanWhereGranted directory buffers.now name 262144 result }
 {
     match changed(buffers.copy_list(&name), &plan) {
-        Ok(_) => Outcome::Relists(name, plan),
+        Ok(_) => Outcome::SetsList(name, plan),
         Err(message) => Outcome::Fails(message),
     }
 }
@@ -175,19 +173,19 @@ fn entries_ruled<T: Marked + Drop>(
     typed: &[char],
 ) -> Outcome
     requires { HasBuffer name buffers.now }
-    ensures value { IsRuled buffers.now (relisted name (entries_changed change (marked_at name buffers.now).buffer.entries argument typed.now)) result }
-    ensures can { (directory : Directory) (h : code.Session) → IsGranted directory buffers.now h.user name 262144 → CanPerform directory buffers.now h result }
+    ensures value { IsRuled buffers.now (list_set name (entries_changed change (marked_at name buffers.now).buffer.entries argument typed.now)) result }
+    ensures can { (directory : Directory) → CanWhereGranted directory buffers.now name 262144 result }
 {
     if let EntryChange::DeleteEntry = change {
-        return relists(buffers, name, EntryPlan::Delete(argument));
+        return sets_list(buffers, name, EntryPlan::Delete(argument));
     }
     let entry = match entry_typed(typed) {
         Ok(entry) => entry,
         Err(fault) => return Outcome::Fails(Message::BadEntry(fault)),
     };
     match change {
-        EntryChange::InsertEntry => relists(buffers, name, EntryPlan::Insert(argument, entry)),
-        _ => relists(buffers, name, EntryPlan::Replace(argument, entry)),
+        EntryChange::InsertEntry => sets_list(buffers, name, EntryPlan::Insert(argument, entry)),
+        _ => sets_list(buffers, name, EntryPlan::Replace(argument, entry)),
     }
 }
 
@@ -202,7 +200,7 @@ fn granted<T: Marked + Drop>(
 ) -> Outcome
     requires { HasBuffer name buffers.now }
     ensures value { IsRuled buffers.now (ruling_plan directory.now name (marked_at name buffers.now).buffer.entries ruling argument typed.now) result }
-    ensures can { (h : code.Session) → IsGranted directory.now buffers.now h.user name (ruling_mask ruling) → CanPerform directory.now buffers.now h result }
+    ensures can { CanWhereGranted directory.now buffers.now name (ruling_mask ruling) result }
 {
     match ruling {
         Ruling::Owner => owner_ruled(directory, name, typed),

@@ -1,14 +1,12 @@
 // What a save comes to: of the text that a session's selected window shows.
-ghost use Rattle.std.specs.Prelude.{◌≡◌, ℕ, Bool, [], Option, None, IfSome};
-ghost use Rattle.mgs_model.specs.Acts.{fails};
+ghost use Rattle.std.specs.Prelude.{◌≡◌, ℕ, [], Option, None, IfSome};
 ghost use Rattle.mgs_model.specs.Outcome.{Run};
-ghost use Rattle.mgs_model.specs.World.{Own};
 ghost use Rattle.mgs_model.specs.declared.session.Command.TheVariants.{SaveBuffer};
-ghost use Rattle.mgs_buffers.specs.MarkedBuffer.{HasBuffer, marked_at};
+ghost use Rattle.mgs_buffers.specs.MarkedBuffer.{HasBuffer};
 ghost use Rattle.mgs_session.specs.Sessions.{window_marks_of};
 ghost use Rattle.mgs_plan.specs.Actions.{AreMarks};
 ghost use Rattle.mgs_plan.specs.Deciding.{CanPerform, CanSave, IsPlanned};
-ghost use Rattle.mgs_plan.specs.Saving.{save_answered, save_outcome};
+ghost use Rattle.mgs_plan.specs.Saving.{IsSaveLeft, IsSaveRefused};
 
 use crate::outcome::Outcome;
 use mgs_buffers::Buffers;
@@ -27,8 +25,8 @@ fn refusal<T: Marked + Drop>(
     is_playing: bool,
 ) -> Option<Message>
     requires { HasBuffer name.now buffers.now }
-    ensures refused { IfSome result (λ message. (own : Own) (stored : Bool) → save_outcome directory.now user.now name.now buffers.now is_playing own stored ≡ fails own message) }
-    ensures none { result ≡ None → (own : Own) (stored : Bool) → save_outcome directory.now user.now name.now buffers.now is_playing own stored ≡ save_answered own name.now (marked_at name.now buffers.now).buffer.text stored }
+    ensures refused { IfSome result (IsSaveRefused directory.now user.now name.now buffers.now is_playing) }
+    ensures none { result ≡ None → IsSaveLeft directory.now user.now name.now buffers.now is_playing }
     ensures can { result ≡ None → CanSave directory.now buffers.now user.now name.now }
 {
     let mask = Mask::from_bits(Right::ReadData.bit() + Right::WriteData.bit());
@@ -61,7 +59,7 @@ pub(crate) fn plan_save<T: Marked + Drop>(
         return Outcome::Fails(Message::NoBuffer);
     };
     let name = window_marks.name;
-    let is_playing = session.own.player.is_playing();
+    let is_playing = session.state.player.is_playing();
     match refusal(buffers, directory, &session.user, &name, is_playing) {
         Some(message) => Outcome::Fails(message),
         None => Outcome::Saves(name),

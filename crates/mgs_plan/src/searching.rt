@@ -1,19 +1,15 @@
 // What a search for what was typed comes to.
 ghost use Rattle.std.specs.Prelude.{◌≡◌, ◌≤◌, ℕ, List, length, Option, IfOk, IfSome};
-ghost use Rattle.mgs_model.specs.Acts.{moved_by};
-ghost use Rattle.mgs_model.specs.Plans as plans;
-ghost use Rattle.mgs_model.specs.Plans.{motion};
-ghost use Rattle.mgs_model.specs.World.{Own};
 ghost use Rattle.mgs_model.specs.declared.session.Command.TheVariants.{Move};
 ghost use Rattle.mgs_model.specs.declared.session.Motion.TheVariants.{SearchFor};
 ghost use Rattle.mgs_buffers.specs.MarkedBuffer.{HasBuffer, marked_at};
 ghost use Rattle.mgs_edit.specs.Reading.{FinishWithin, motion_read};
 ghost use Rattle.mgs_search.specs.Planned.{went};
-ghost use Rattle.mgs_plan.specs.Actions.{AreMarks, CanBeDone, CanDoIn, IsActionFor, IsActionOf, IsDoneBy, action_outcome};
+ghost use Rattle.mgs_plan.specs.Actions.{AreMarks, CanBeDone, CanDoIn, IsActionFor, IsDoneBy, IsSearchIn, IsSearchOf};
 ghost use Rattle.mgs_session.specs.Sessions.{window_marks_of};
 ghost use Rattle.mgs_plan.specs.Deciding.{CanPerform, IsActionGranted, IsPlanned};
 ghost use Rattle.mgs_plan.specs.Searching.{searches, sought};
-ghost use Rattle.mgs_world.specs.Worlds.{idle, own_of};
+ghost use Rattle.mgs_world.specs.Worlds.{idle, state_of};
 
 use crate::action::Action;
 use crate::given::Given;
@@ -55,7 +51,7 @@ fn plan_granted<T: Marked + Drop>(
     pattern: &[char],
 ) -> Action
     requires place { place ≤ length (marked_at found.now.name found.now.all).buffer.text }
-    ensures value { (own : Own) (rest : plans.Around) → action_outcome own found.now.name (marked_at found.now.name found.now.all).buffer.text (marked_at found.now.name found.now.all).buffer.items kill.now result ≡ moved_by own (motion (SearchFor direction) (marked_at found.now.name found.now.all).buffer.text (record rest { place = place; typed = pattern.now })) }
+    ensures value { IsSearchIn found.now.all found.now.name kill.now place direction pattern.now result }
     ensures can { CanDoIn found.now.all found.now.name kill.now result }
     ensures by { (mask : ℕ) → IsDoneBy mask result }
 {
@@ -105,15 +101,15 @@ fn plan_for<T: Marked + Drop>(
     pattern: &[char],
 ) -> Action
     requires marks { AreMarks buffers.now window_marks.now }
-    ensures value { IsActionOf directory.now buffers.now session.now window_marks.now (Move (SearchFor direction)) argument pattern.now result }
+    ensures value { IsSearchOf directory.now buffers.now session.now window_marks.now direction argument pattern.now result }
     ensures can { CanBeDone buffers.now window_marks.now session.now.kill result }
     ensures granted { IsActionGranted directory.now buffers.now session.now.user window_marks.now.name result }
 {
     let given = Given {
         argument,
-        kind: session.own.kind,
+        kind: session.state.kind,
         height: session.windows.selected_window().height,
-        fill: session.own.fill,
+        fill: session.state.fill,
     };
     plan(
         buffers,
@@ -139,12 +135,12 @@ fn plan_meant<T: Marked + Drop>(
 ) -> Action
     requires marks { AreMarks buffers.now window_marks.now }
     requires few { length typed.now ≤ 120 }
-    ensures value { IsActionOf directory.now buffers.now session.now window_marks.now (Move (SearchFor direction)) argument (sought session.now.own.pattern typed.now) result }
+    ensures value { IsSearchOf directory.now buffers.now session.now window_marks.now direction argument (sought session.now.state.pattern typed.now) result }
     ensures can { CanBeDone buffers.now window_marks.now session.now.kill result }
     ensures granted { IsActionGranted directory.now buffers.now session.now.user window_marks.now.name result }
 {
     if typed.is_empty() {
-        let last = session.own.pattern.as_slice();
+        let last = session.state.pattern.as_slice();
         return plan_for(
             buffers,
             directory,
@@ -177,7 +173,7 @@ pub(crate) fn plan_search<T: Marked + Drop>(
     typed: &[char],
 ) -> Outcome
     requires marks { IfSome (window_marks_of session.now) (AreMarks buffers.now) }
-    requires fresh { own_of session.now.own ≡ idle (own_of session.now.own) }
+    requires fresh { state_of session.now.state ≡ idle (state_of session.now.state) }
     requires few { length typed.now ≤ 120 }
     ensures value { IsPlanned directory.now buffers.now session.now (searches session.now direction argument typed.now) result }
     ensures can { CanPerform directory.now buffers.now session.now result }

@@ -1,14 +1,12 @@
 // What a switch to the buffer of a typed name comes to.
-ghost use Rattle.std.specs.Prelude.{◌≡◌, ℕ, Bool, length, Option, false};
+ghost use Rattle.std.specs.Prelude.{◌≡◌, ℕ, Option, false};
 ghost use Rattle.mgs_model.specs.Access.{Directory};
-ghost use Rattle.mgs_model.specs.Acts.{created};
 ghost use Rattle.mgs_model.specs.Outcome.{Run};
-ghost use Rattle.mgs_model.specs.View.{View};
 ghost use Rattle.mgs_model.specs.declared.session.ByName.TheVariants.{SwitchToBuffer};
 ghost use Rattle.mgs_model.specs.declared.session.Command.TheVariants.{Named};
 ghost use Rattle.mgs_buffers.specs.MarkedBuffer.{has_buffer};
 ghost use Rattle.mgs_session.specs.declared.Session as code;
-ghost use Rattle.mgs_plan.specs.Deciding.{CanPerform, IsPlanned, outcome_read};
+ghost use Rattle.mgs_plan.specs.Deciding.{CanPerform, IsCreation, IsPlanned};
 
 use crate::judging::judged;
 use crate::naming::name_typed;
@@ -29,7 +27,7 @@ fn right_to_come() -> Mask
 /// What a switch to a buffer that is not there comes to: the name is judged first, and then whether there is room.
 fn switch_new<T: Marked + Drop>(buffers: &Buffers<T>, typed: &[char]) -> Outcome
     requires { has_buffer typed.now buffers.now ≡ false }
-    ensures value { (v : View) (stored : Bool) → length v.buffers ≡ length buffers.now → created v typed.now ≡ outcome_read buffers.now v result stored }
+    ensures value { IsCreation buffers.now typed.now result }
     ensures can { (directory : Directory) (h : code.Session) → CanPerform directory buffers.now h result }
 {
     let Some(name) = name_typed(typed) else {

@@ -9,7 +9,8 @@ use Rattle.std.specs.List.{count_by}
 use Rattle.std.proofs.lemmas.Bool.{cases_eq, eq-eqb, ne_eqb}
 use Rattle.std.proofs.lemmas.List.{append-nil, drop_all, set-get_or, take_all}
 use Rattle.std.proofs.lemmas.List.Sums.{sum_by-append, sum_by-cons}
-use Rattle.mgs_model.specs.Rows.{Row, plain_row, rows_put}
+use Rattle.mgs_model.specs.Rows.{Row, plain_row}
+use Rattle.mgs_grid.specs.Cells.{rows_put}
 use Rattle.mgs_grid.proofs.Fits.{fitted_none}
 use Rattle.mgs_grid.proofs.Pictures.{set_put}
 use Rattle.mgs_screen.specs.Screens.{is_ink}

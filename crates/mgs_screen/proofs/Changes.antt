@@ -6,7 +6,7 @@ use Rattle.std.proofs.lemmas.Bool.{cases_eq, eq-eqb, ne_eqb}
 use Rattle.std.proofs.lemmas.List.{take-append-drop, take-append-le, drop-append-le, length-take-le}
 use Rattle.std.proofs.lemmas.List.Sums.{sum_by-append}
 use Rattle.std.proofs.lemmas.Option.{same_Some}
-use Rattle.mgs_model.specs.Apart.{IsEditedOnce}
+use Rattle.mgs_laws.specs.Apart.{IsEditedOnce}
 use Rattle.mgs_model.specs.Lines.{is_feed, line_of, start_of}
 use Rattle.mgs_model.specs.World.{Buffer, Item}
 use Rattle.mgs_laws.proofs.Follow.{edit_parts}

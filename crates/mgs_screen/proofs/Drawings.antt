@@ -9,12 +9,13 @@ use Rattle.std.proofs.lemmas.List.Folds.{list_any_at}
 use Rattle.mgs_model.specs.Rights.{all_rights}
 use Rattle.mgs_model.specs.Access.{Directory, Decider, decider, decision_by, allows, any_right}
 use Rattle.mgs_model.specs.Lines.{line_of, line_start, column}
-use Rattle.mgs_model.specs.Rows.{Row, rows_put, mode_row, buffer_mode, unread_rows, text_rows, shift_at, echo_row}
+use Rattle.mgs_model.specs.Rows.{Row, mode_row, buffer_mode, unread_rows, text_rows, shift_at, echo_row}
+use Rattle.mgs_grid.specs.Cells.{rows_put}
 use Rattle.mgs_model.specs.Picture.{Picture}
 use Rattle.mgs_model.specs.World.{Buffer, may}
 use Rattle.mgs_model.specs.View.{BufferSeen, Positions, buffer_seen, reads, reads_found, window_seen, positions_if, told_if, full_if}
 use Rattle.mgs_model.specs.Seen.{WindowPane, Text_pane, text_seen, attributes_seen, attributes_of, text_pane, window_pane}
-use Rattle.mgs_model.specs.Draw.{draw, screen, read_rows, place_of, point_row, point_shift, window_rows, windows_rows, window_cursor, first_row, heading_of, own_line, cursor_in_mode}
+use Rattle.mgs_model.specs.Draw.{draw, screen, read_rows, place_of, point_row, point_shift, window_rows, windows_rows, window_cursor, first_row, heading_of, state_line, cursor_in_mode}
 use Rattle.mgs_model.specs.declared.right.Right.{Right}
 use Rattle.mgs_model.specs.declared.right.Right.TheVariants.{ReadData, ReadAttributes}
 use Rattle.mgs_buffers.specs.MarkedBuffer.{MarkedBuffer, marked_at, HasBuffer, IsMark, mark_at}
@@ -23,9 +24,9 @@ use Rattle.mgs_windows.specs.declared.WindowMarks.{WindowMarks}
 use Rattle.mgs_windows.specs.declared.Window.{Window}
 use Rattle.mgs_windows.specs.declared.RowPane.{RowPane}
 use Rattle.mgs_windows.specs.Panes.{room_of}
-use Rattle.mgs_session.specs.declared.Own.{Own}
+use Rattle.mgs_session.specs.declared.State.{State}
 use Rattle.mgs_session.specs.declared.Session.{Session}
-use Rattle.mgs_world.specs.Worlds.{buffers_of, window_shown, window_of, world_of, session_of, own_of}
+use Rattle.mgs_world.specs.Worlds.{buffers_of, window_shown, window_of, world_of, session_of, state_of}
 use Rattle.mgs_screen.specs.Screens as screens
 use Rattle.mgs_screen.specs.Screens.{IsMeasured, window_to, windows_to, heading_to, window_marks_rows, window_marks_cursor}
 use Rattle.mgs_model.specs.declared.entry.Decision.{Decision}
@@ -300,14 +301,14 @@ rows_all d user ks cols selected i first ws old rows echo past room so_far =
 -- THE SCREEN
 
 -- behind the line of a prompt, where one is shown, and else at the point
-abbrev pub cursor_in : Own → ℕ → ℕ → ℕ × ℕ → ℕ × ℕ
-cursor_in own rows cols point = cursor_in_mode (own_of own).mode rows cols (own_line (own_of own)) point
+abbrev pub cursor_in : State → ℕ → ℕ → ℕ × ℕ → ℕ × ℕ
+cursor_in state rows cols point = cursor_in_mode (state_of state).mode rows cols (state_line (state_of state)) point
 
 screen_is : (d : Directory) (ks : List MarkedBuffer) (x : Session) (sessions : List Session) (next : Option ℕ) (p : Picture)
     → p.rows ≡ x.windows.rows → p.cols ≡ x.cols
-    → p.lines ≡ windows_rows 0 x.windows.selected x.cols (windows_to d x.user ks x.windows.windows) ++ echo_row x.cols (own_line (own_of x.own)) x.own.echo ∷ []
-    → p.row ≡ (cursor_in x.own x.windows.rows x.cols (cursor_of x.windows.selected x.cols (windows_to d x.user ks x.windows.windows))).0
-    → p.col ≡ (cursor_in x.own x.windows.rows x.cols (cursor_of x.windows.selected x.cols (windows_to d x.user ks x.windows.windows))).1
+    → p.lines ≡ windows_rows 0 x.windows.selected x.cols (windows_to d x.user ks x.windows.windows) ++ echo_row x.cols (state_line (state_of x.state)) x.state.echo ∷ []
+    → p.row ≡ (cursor_in x.state x.windows.rows x.cols (cursor_of x.windows.selected x.cols (windows_to d x.user ks x.windows.windows))).0
+    → p.col ≡ (cursor_in x.state x.windows.rows x.cols (cursor_of x.windows.selected x.cols (windows_to d x.user ks x.windows.windows))).1
     → p ≡ screen (world_of d ks sessions next) (session_of ks x)
 unfolding draw
 screen_is d ks x sessions next p rows cols lines row col =
@@ -322,20 +323,20 @@ screen_is d ks x sessions next p rows cols lines row col =
 pub session_drawn : (d : Directory) (ks : List MarkedBuffer) (x : Session) (sessions : List Session) (next : Option ℕ) (ws : List Window) (selected rows cols : ℕ) (point : ℕ × ℕ) (p : Picture)
     → ws ≡ x.windows.windows → selected ≡ x.windows.selected → rows ≡ x.windows.rows → cols ≡ x.cols
     → p.rows ≡ rows → p.cols ≡ cols
-    → p.lines ≡ windows_rows 0 selected cols (windows_to d x.user ks ws) ++ echo_row cols (own_line (own_of x.own)) x.own.echo ∷ []
-    → p.row ≡ (cursor_in x.own rows cols point).0 → p.col ≡ (cursor_in x.own rows cols point).1
+    → p.lines ≡ windows_rows 0 selected cols (windows_to d x.user ks ws) ++ echo_row cols (state_line (state_of x.state)) x.state.echo ∷ []
+    → p.row ≡ (cursor_in x.state rows cols point).0 → p.col ≡ (cursor_in x.state rows cols point).1
     → point ≡ cursor_of selected cols (windows_to d x.user ks ws)
     → p ≡ screen (world_of d ks sessions next) (session_of ks x)
 session_drawn d ks x sessions next ws selected rows cols point p all chosen high wide rows_are cols_are lines row col there =
-    let on : cursor_in x.own rows cols point ≡ cursor_in x.own x.windows.rows x.cols (cursor_of x.windows.selected x.cols (windows_to d x.user ks x.windows.windows)) =
-    ap (cursor_in x.own rows cols) there
-    ∙ ap (λ (vs : List Window). cursor_in x.own rows cols (cursor_of selected cols (windows_to d x.user ks vs))) all
-    ∙ ap (λ (n : ℕ). cursor_in x.own rows cols (cursor_of n cols (windows_to d x.user ks x.windows.windows))) chosen
-    ∙ ap (λ (n : ℕ). cursor_in x.own n cols (cursor_of x.windows.selected cols (windows_to d x.user ks x.windows.windows))) high
-    ∙ ap (λ (n : ℕ). cursor_in x.own x.windows.rows n (cursor_of x.windows.selected n (windows_to d x.user ks x.windows.windows))) wide in
+    let on : cursor_in x.state rows cols point ≡ cursor_in x.state x.windows.rows x.cols (cursor_of x.windows.selected x.cols (windows_to d x.user ks x.windows.windows)) =
+    ap (cursor_in x.state rows cols) there
+    ∙ ap (λ (vs : List Window). cursor_in x.state rows cols (cursor_of selected cols (windows_to d x.user ks vs))) all
+    ∙ ap (λ (n : ℕ). cursor_in x.state rows cols (cursor_of n cols (windows_to d x.user ks x.windows.windows))) chosen
+    ∙ ap (λ (n : ℕ). cursor_in x.state n cols (cursor_of x.windows.selected cols (windows_to d x.user ks x.windows.windows))) high
+    ∙ ap (λ (n : ℕ). cursor_in x.state x.windows.rows n (cursor_of x.windows.selected n (windows_to d x.user ks x.windows.windows))) wide in
     screen_is d ks x sessions next p (rows_are ∙ high) (cols_are ∙ wide)
     (lines
-    ∙ ap (λ (vs : List Window). windows_rows 0 selected cols (windows_to d x.user ks vs) ++ echo_row cols (own_line (own_of x.own)) x.own.echo ∷ []) all
-    ∙ ap (λ (n : ℕ). windows_rows 0 n cols (windows_to d x.user ks x.windows.windows) ++ echo_row cols (own_line (own_of x.own)) x.own.echo ∷ []) chosen
-    ∙ ap (λ (n : ℕ). windows_rows 0 x.windows.selected n (windows_to d x.user ks x.windows.windows) ++ echo_row n (own_line (own_of x.own)) x.own.echo ∷ []) wide)
+    ∙ ap (λ (vs : List Window). windows_rows 0 selected cols (windows_to d x.user ks vs) ++ echo_row cols (state_line (state_of x.state)) x.state.echo ∷ []) all
+    ∙ ap (λ (n : ℕ). windows_rows 0 n cols (windows_to d x.user ks x.windows.windows) ++ echo_row cols (state_line (state_of x.state)) x.state.echo ∷ []) chosen
+    ∙ ap (λ (n : ℕ). windows_rows 0 x.windows.selected n (windows_to d x.user ks x.windows.windows) ++ echo_row n (state_line (state_of x.state)) x.state.echo ∷ []) wide)
     (row ∙ ap (λ (c : ℕ × ℕ). c.0) on) (col ∙ ap (λ (c : ℕ × ℕ). c.1) on)

@@ -8,9 +8,9 @@ use Rattle.mgs_model.specs.declared.entry.Decision.TheVariants.{Granted}
 use Rattle.mgs_model.specs.declared.right.Right.{Right}
 use Rattle.mgs_model.specs.declared.right.Right.TheVariants.{ReadAttributes, ReadData}
 use Rattle.mgs_buffers.specs.MarkedBuffer.{MarkedBuffer, marked_at}
-use Rattle.mgs_laws.proofs.Outcomes.{granted_each}
+use Rattle.mgs_model.proofs.Deciding.{granted_each}
 use Rattle.mgs_screen.specs.Screens.{ReadsAll, heading_to}
-use Rattle.mgs_screen.specs.Sketches.{told_as}
+use Rattle.mgs_screen.specs.TextsDrawn.{told_as}
 
 pub reads_granted : (directory : Directory) (user : List ℕ) (b : Buffer) (mask : ℕ) → mask ≡ 129 → decision directory b.owners user b.entries mask ≡ Granted → ReadsAll directory user b
 reads_granted directory user b mask is granted =

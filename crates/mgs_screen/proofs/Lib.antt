@@ -2,7 +2,7 @@ pub mod Drawings
 pub mod Sights
 pub mod Listings
 pub mod RowPanes
-pub mod Sketches
+pub mod TextsDrawn
 pub mod Changes
 pub mod Redrawn
 mod TabStops

@@ -7,7 +7,8 @@ use Rattle.std.proofs.lemmas.List.{append-nil, set_past}
 use Rattle.mgs_model.specs.Cells.{cells}
 use Rattle.mgs_model.specs.Lines.{is_feed, start_of}
 use Rattle.mgs_model.specs.Picture.{Picture}
-use Rattle.mgs_model.specs.Rows.{Row, rows_put, text_rows, shift_at, shown_row}
+use Rattle.mgs_model.specs.Rows.{Row, text_rows, shift_at, shown_row}
+use Rattle.mgs_grid.specs.Cells.{rows_put}
 use Rattle.mgs_grid.specs.Panes.{AreSameBut, IsDrawnBut, text_put}
 use Rattle.mgs_grid.specs.RowSets.{has_row, AreSameApart}
 use Rattle.mgs_grid.proofs.RowSets.{put_apart}
@@ -15,9 +16,9 @@ use Rattle.mgs_grid.proofs.Edited.{edited_rows}
 use Rattle.mgs_grid.proofs.Panes.{put_again, same_put}
 use Rattle.mgs_grid.proofs.Pictures.{length-text_rows}
 use Rattle.mgs_screen.specs.Changes.{IsLineEdited}
-use Rattle.mgs_screen.specs.Sketches.{DoesShow, rows_at, showing}
-use Rattle.mgs_screen.specs.declared.sketch.DrawnText.{DrawnText}
-use Rattle.mgs_screen.proofs.Sketches.{length-rows_at, put_same, put_there}
+use Rattle.mgs_screen.specs.TextsDrawn.{DoesShow, rows_at, showing}
+use Rattle.mgs_screen.specs.declared.drawn_texts.DrawnText.{DrawnText}
+use Rattle.mgs_screen.proofs.TextsDrawn.{length-rows_at, put_same, put_there}
 
 -- FROM WHICH COLUMNS ROWS ARE SHOWN
 

@@ -3,7 +3,8 @@ use Rattle.std.proofs.Common.{◌≡◌, ℕ, zero, suc, ◌+◌, ◌-◌, ◌<�
 use Rattle.std.proofs.Math.Seq.{take-append_seam, take-append-add, drop-append-add}
 use Rattle.std.proofs.lemmas.Bool.{cases_lt, and_parts, leb-true, lt-leb, le-leb, lt-ltb, le-ltb}
 use Rattle.std.proofs.lemmas.List.{length-map, length-replicate, map-append, take_all, take-append-le, drop-append-le, drop_all, length-take-le}
-use Rattle.mgs_model.specs.Rows.{Row, plain_row, mode_row, blank_rows, rows_put}
+use Rattle.mgs_model.specs.Rows.{Row, plain_row, mode_row, blank_rows}
+use Rattle.mgs_grid.specs.Cells.{rows_put}
 use Rattle.mgs_model.specs.Draw.{rows_from}
 use Rattle.mgs_model.specs.Picture.{Picture}
 use Rattle.mgs_grid.proofs.Pictures.{length-rows_put}

@@ -10,7 +10,8 @@ use Rattle.std.proofs.lemmas.List.Sums.{sum_by-cons}
 use Rattle.mgs_model.specs.Cells.{cells, cells_from, glyph, unhalved}
 use Rattle.mgs_model.specs.Lines.{is_feed, line_of, line_start, start_of}
 use Rattle.mgs_model.specs.Picture.{Picture}
-use Rattle.mgs_model.specs.Rows.{Row, fitted, rows_put, shown_row}
+use Rattle.mgs_model.specs.Rows.{Row, fitted, shown_row}
+use Rattle.mgs_grid.specs.Cells.{rows_put}
 use Rattle.mgs_grid.specs.Panes.{text_put}
 use Rattle.mgs_lines.proofs.Feeds.{line_of_start}
 use Rattle.mgs_lines.proofs.Glyphs.{glyph-tab}

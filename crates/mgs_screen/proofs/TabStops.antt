@@ -3,7 +3,7 @@ use Rattle.std.proofs.Common.{◌≡◌, ℕ, ◌+◌, ◌-◌, ◌<◌, ◌≤�
 use Rattle.std.specs.Prelude.{slice_range}
 use Rattle.std.specs.List.{suffix_len}
 use Rattle.std.proofs.lemmas.List.{drop-take, length-take-le, take-append-le, take-take}
-use Rattle.mgs_model.specs.Apart.{IsEditedOnce}
+use Rattle.mgs_laws.specs.Apart.{IsEditedOnce}
 use Rattle.mgs_model.specs.Cells.{cells, glyph}
 use Rattle.mgs_model.specs.Lines.{is_within, line_of, line_start, start_of}
 use Rattle.mgs_model.specs.World.{Buffer}

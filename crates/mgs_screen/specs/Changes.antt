@@ -1,6 +1,6 @@
 -- What has become of the rows of a text.
 use Rattle.std.specs.Prelude.{◌≡◌, ℕ, List, ◌++◌, Option, drop, count_by, length}
-use Rattle.mgs_model.specs.Apart.{Follows, IsEditedOnce}
+use Rattle.mgs_laws.specs.Apart.{Follows, IsEditedOnce}
 use Rattle.mgs_model.specs.Lines.{is_feed}
 use Rattle.mgs_model.specs.Picture.{Picture}
 use Rattle.mgs_model.specs.Rows.{Row, shift_at, text_rows}
@@ -11,9 +11,9 @@ use Rattle.mgs_undo.specs.declared.Edit.{Edit}
 use Rattle.mgs_screen.specs.TabStops.{IsKnown, IsTabStop}
 use Rattle.mgs_screen.specs.declared.change.Change.{Change}
 use Rattle.mgs_screen.specs.declared.change.Change.TheVariants.{Nothing, Line, Anything}
-use Rattle.mgs_screen.specs.Sketches.{DoesShow, rows_at, showing}
-use Rattle.mgs_screen.specs.declared.sketch.DrawnText.{DrawnText}
-use Rattle.mgs_screen.specs.declared.sketch.Earlier.{Earlier}
+use Rattle.mgs_screen.specs.TextsDrawn.{DoesShow, rows_at, showing}
+use Rattle.mgs_screen.specs.declared.drawn_texts.DrawnText.{DrawnText}
+use Rattle.mgs_screen.specs.declared.drawn_texts.Earlier.{Earlier}
 use Rattle.mgs_screen.specs.declared.tab_stops.TabStop.{TabStop}
 
 -- What is shown of a text began at one position, and begins at another one now. From there on an edit took characters out and put others in,

@@ -1,5 +1,5 @@
 pub mod Screens
 pub mod Listings
-pub mod Sketches
+pub mod TextsDrawn
 pub mod Changes
 pub mod TabStops

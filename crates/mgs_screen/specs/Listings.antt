@@ -1,13 +1,14 @@
 -- The listing of all buffers and an access list, as a screen shows them of the kept buffers.
-use Rattle.std.specs.Prelude.{◌≡◌, ℕ, Bool, ◌+◌, ◌-◌, nat_le, nat_lt, ◌&&◌, List, [], ◌∷◌, map, Option, Some, None, if◌then◌else◌}
+use Rattle.std.specs.Prelude.{◌≡◌, ℕ, Bool, ◌+◌, ◌-◌, nat_le, nat_lt, ◌&&◌, List, [], ◌∷◌, ◌++◌, map, Option, Some, None, if◌then◌else◌}
 use Rattle.std.specs.List.{flat_map}
 use Rattle.mgs_model.specs.Access.{Directory, decider, decision_by}
 use Rattle.mgs_model.specs.World.{Buffer, may}
 use Rattle.mgs_model.specs.Picture.{Picture}
-use Rattle.mgs_model.specs.Rows.{rows_put, plain_row}
+use Rattle.mgs_model.specs.Rows.{blank_rows, mode_row, none_mode, plain_row}
+use Rattle.mgs_grid.specs.Cells.{rows_put}
 use Rattle.mgs_model.specs.View.{BufferSeen, buffer_seen, find_seen}
 use Rattle.mgs_model.specs.Seen.{Pane, No_pane, Attributes, EntriesSeen, Listed, Unlisted, attributes_of, if_granted, listing_pane, entries_pane}
-use Rattle.mgs_model.specs.Draw.{pane_rows, rows_from, listing_text}
+use Rattle.mgs_model.specs.Draw.{entries_shown, pane_rows, rows_from, listing_text}
 use Rattle.mgs_model.specs.declared.right.Right.TheVariants.{ReadAcl, ReadAttributes}
 use Rattle.mgs_buffers.specs.MarkedBuffer.{MarkedBuffer, marked_at}
 use Rattle.mgs_windows.specs.declared.RowPane.{RowPane}
@@ -64,6 +65,14 @@ buffer_drawn first height row number (Some a) p = row_drawn (place_in first heig
 -- all rows
 abbrev pub drawn : ℕ → ℕ → ℕ → List (List ℕ) → Picture → Picture
 drawn first height row texts p = record p { lines = rows_put first (rows_from p.cols height row texts) p.lines }
+
+-- those of a buffer's access list
+abbrev pub acl_drawn : ℕ → ℕ → ℕ → Directory → List ℕ → Buffer → Picture → Picture
+acl_drawn first height row directory user b p = drawn first height row (entries_shown (entries_told directory user b)) p
+
+-- the rows of a window that shows nothing, and its mode line
+abbrev pub none_drawn : ℕ → ℕ → Picture → Picture
+none_drawn first height p = record p { lines = rows_put first (blank_rows p.cols height ++ mode_row p.cols none_mode ∷ []) p.lines }
 
 -- what is told of buffers
 abbrev pub listed : Directory → List ℕ → List MarkedBuffer → List Attributes

@@ -1,7 +1,7 @@
 -- What a screen shows of the kept buffers.
 use Rattle.std.specs.Prelude.{◌≡◌, ℕ, ◌-◌, min, Bool, true, false, List, [], ◌∷◌, ◌++◌, ◌==◌, not, map, Option, Some, None, if◌then◌else◌, codes}
 use Rattle.mgs_model.specs.Access.{Directory}
-use Rattle.mgs_model.specs.World.{Buffer, Own, may}
+use Rattle.mgs_model.specs.World.{Buffer, State, may}
 use Rattle.mgs_model.specs.Lines.{column, line_of, line_start}
 use Rattle.mgs_model.specs.Picture.{Picture}
 use Rattle.mgs_model.specs.Prompts.{line_in_mode, prompt_line, search_text}
@@ -9,10 +9,11 @@ use Rattle.mgs_model.specs.declared.message.Message.{Message}
 use Rattle.mgs_model.specs.declared.message.Message.TheVariants.{Silent}
 use Rattle.mgs_model.specs.declared.session.Mode.{Mode}
 use Rattle.mgs_model.specs.declared.session.Mode.TheVariants.{Plain}
-use Rattle.mgs_model.specs.Rows.{Row, rows_put, mode_row, echo_row, line_row, line_end_column, shift_for, buffer_mode, unless_told}
+use Rattle.mgs_model.specs.Rows.{Row, mode_row, echo_row, line_row, line_end_column, shift_for, buffer_mode, unless_told}
+use Rattle.mgs_grid.specs.Cells.{rows_put}
 use Rattle.mgs_model.specs.View.{buffer_seen, window_seen, reads}
 use Rattle.mgs_model.specs.Seen.{WindowPane, window_pane}
-use Rattle.mgs_model.specs.Draw.{read_rows, place_of, point_row, cursor_in_mode, window_rows}
+use Rattle.mgs_model.specs.Draw.{read_rows, screen, place_of, point_row, cursor_in_mode, window_rows}
 use Rattle.mgs_model.specs.declared.right.Right.TheVariants.{ReadAttributes, ReadData}
 use Rattle.mgs_mini.specs.Typing.{PromptInput}
 use Rattle.mgs_marks.specs.Marks.{position_in}
@@ -22,8 +23,9 @@ use Rattle.mgs_windows.specs.declared.WindowMarks.{WindowMarks}
 use Rattle.mgs_windows.specs.declared.Window.{Window}
 use Rattle.mgs_session.specs.declared.search.Aim.{Aim}
 use Rattle.mgs_session.specs.declared.search.Aim.TheVariants.{Find, Replace}
-use Rattle.mgs_world.specs.Worlds.{buffers_of, window_of}
-use Rattle.mgs_screen.specs.Sketches.{told_as}
+use Rattle.mgs_session.specs.declared.Session.{Session}
+use Rattle.mgs_world.specs.Worlds.{buffers_of, session_of, window_of, world_of}
+use Rattle.mgs_screen.specs.TextsDrawn.{told_as}
 
 -- the column from which the point's line is shown
 abbrev pub screen_shift : Bool → ℕ → ℕ → ℕ
@@ -73,6 +75,14 @@ found_rows selected cols height f heading x = window_marks_rows selected cols he
 abbrev pub user_rows : Bool → ℕ → Directory → List ℕ → List MarkedBuffer → Window → List Row
 user_rows selected cols directory user ks x = window_rows selected cols (window_to directory user ks x)
 
+-- the lines of a picture with them from a row on
+abbrev pub window_lines : Bool → ℕ → Directory → List ℕ → List MarkedBuffer → Window → Picture → List Row
+window_lines selected first directory user ks x p = rows_put first (user_rows selected p.cols directory user ks x) p.lines
+
+-- the screen of a session, whatever other sessions there are, and whichever id comes next
+abbrev pub IsScreenOf : Directory → List MarkedBuffer → Session → Picture → Type 0
+IsScreenOf directory ks x p = (sessions : List Session) (next : Option ℕ) → p ≡ screen (world_of directory ks sessions next) (session_of ks x)
+
 -- where the selected window's cursor is in such a text
 abbrev pub window_marks_cursor : ℕ → ℕ → MarkedBuffer → WindowMarks → ℕ × ℕ
 window_marks_cursor cols height k x = (
@@ -103,12 +113,12 @@ row_in_mode mode input echo row point p =
     }
 
 -- of one who holds this
-abbrev pub last_row_drawn : Own → ℕ → ℕ × ℕ → Picture → Picture
-last_row_drawn own row point p = row_in_mode own.mode own.input own.echo row point p
+abbrev pub last_row_drawn : State → ℕ → ℕ × ℕ → Picture → Picture
+last_row_drawn state row point p = row_in_mode state.mode state.input state.echo row point p
 
 -- nothing is told, no search goes on and no prompt waits
-abbrev pub IsAtRest : Own → Type 0
-IsAtRest own = (row : ℕ) (point : ℕ × ℕ) (p : Picture) → last_row_drawn own row point p ≡ row_in_mode Plain [] Silent row point p
+abbrev pub IsAtRest : State → Type 0
+IsAtRest state = (row : ℕ) (point : ℕ × ℕ) (p : Picture) → last_row_drawn state row point p ≡ row_in_mode Plain [] Silent row point p
 
 -- the line of a search in a row, and the cursor at the point
 abbrev pub search_line : Aim → List ℕ

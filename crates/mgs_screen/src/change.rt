@@ -5,7 +5,7 @@ ghost use Rattle.mgs_buffers.specs.MarkedBuffer.{marked_at};
 ghost use Rattle.mgs_screen.specs.Changes.{IsChange, IsChangeBy, IsChangeSince, IsStopSince};
 ghost use Rattle.mgs_screen.specs.TabStops.{IsKnown, IsTabStop};
 
-use crate::sketch::{DrawnText, Earlier};
+use crate::drawn_texts::{DrawnText, Earlier};
 use crate::tab_stops::TabStop;
 use mgs_buffers::Found;
 use mgs_marks::Marked;

@@ -1,16 +1,17 @@
 // The last row of a screen, and the cursor.
 ghost use Rattle.std.specs.Prelude.{◌≡◌, ◌+◌, ◌<◌, ◌≤◌, [], ◌∷◌, None, true, length, count_by, take};
-ghost use Rattle.mgs_model.specs.Rows.{is_silent, plain_row, rows_put};
+ghost use Rattle.mgs_model.specs.Rows.{is_silent, plain_row};
+ghost use Rattle.mgs_grid.specs.Cells.{rows_put};
 ghost use Rattle.mgs_model.specs.declared.message.Message.TheVariants.{Silent};
 ghost use Rattle.mgs_model.specs.declared.session.Mode.TheVariants.{Plain};
 ghost use Rattle.mgs_grid.specs.RowSets.{AreIn, AreSameApart};
-ghost use Rattle.mgs_world.specs.Worlds.{input_in, mode_in, own_of};
+ghost use Rattle.mgs_world.specs.Worlds.{input_in, mode_in, state_of};
 ghost use Rattle.mgs_screen.specs.Screens.{IsAtRest, is_ink, prompt_drawn, last_row_drawn, row_in_mode, search_drawn};
 
 use mgs_grid::{Grid, Line, RowSet};
 use mgs_mini::Prompt;
 use mgs_model::Message;
-use mgs_session::{Aim, Own};
+use mgs_session::{Aim, State};
 
 fn is_silent(message: &Message) -> bool
     ensures { result ≡ is_silent message.now }
@@ -82,21 +83,21 @@ fn draw_prompted(
 
 /// Draws the last row: where nothing is told, the line of the search that goes on, or of the prompt where there is one, and
 /// else the echo text. Puts the cursor behind the line of a prompt, and else at the point.
-fn draw_last_row(own: &Own, row: usize, point: (usize, usize), grid: &mut Grid)
+fn draw_last_row(state: &State, row: usize, point: (usize, usize), grid: &mut Grid)
     requires last { row + 1 ≡ grid.old.rows }
     requires row { point.0 < grid.old.rows }
     requires col { point.1 < grid.old.cols }
-    ensures { grid.new ≡ last_row_drawn (own_of own.now) row point grid.old }
+    ensures { grid.new ≡ last_row_drawn (state_of state.now) row point grid.old }
 {
-    match &own.search {
+    match &state.search {
         Some(search) => {
-            if is_silent(&own.echo) {
+            if is_silent(&state.echo) {
                 draw_search(&search.aim, row, point, grid);
             } else {
-                draw_told(&own.echo, row, point, grid);
+                draw_told(&state.echo, row, point, grid);
             }
         }
-        None => draw_prompted(&own.prompt, &own.echo, row, point, grid),
+        None => draw_prompted(&state.prompt, &state.echo, row, point, grid),
     }
 }
 
@@ -111,12 +112,12 @@ fn is_unprompted(prompt: &Option<Prompt>, echo: &Message) -> bool
 }
 
 /// Whether nothing is told, no search goes on and no prompt waits: the last row is blank, and the cursor is at the point.
-fn is_at_rest(own: &Own) -> bool
-    ensures { result ≡ true → IsAtRest (own_of own.now) }
+fn is_at_rest(state: &State) -> bool
+    ensures { result ≡ true → IsAtRest (state_of state.now) }
 {
-    match &own.search {
+    match &state.search {
         Some(_) => false,
-        None => is_unprompted(&own.prompt, &own.echo),
+        None => is_unprompted(&state.prompt, &state.echo),
     }
 }
 
@@ -173,7 +174,7 @@ fn is_blank_at(row: usize, grid: &Grid) -> bool
 
 /// Draws the last row, and notes that it was drawn. Where it is to be blank and is so, the cursor alone is put.
 pub(crate) fn redraw_last_row(
-    own: &Own,
+    state: &State,
     row: usize,
     point: (usize, usize),
     rows: &mut RowSet,
@@ -182,15 +183,15 @@ pub(crate) fn redraw_last_row(
     requires last { row + 1 ≡ grid.old.rows }
     requires row { point.0 < grid.old.rows }
     requires col { point.1 < grid.old.cols }
-    ensures grid { grid.new ≡ last_row_drawn (own_of own.now) row point grid.old }
+    ensures grid { grid.new ≡ last_row_drawn (state_of state.now) row point grid.old }
     ensures rows { AreIn rows.old rows.new }
     ensures apart { AreSameApart rows.new grid.old.lines grid.new.lines }
 {
     let _rows = grid.rows();
-    if is_at_rest(own) && is_blank_at(row, grid) {
+    if is_at_rest(state) && is_blank_at(row, grid) {
         grid.set_cursor(point.0, point.1);
         return;
     }
-    draw_last_row(own, row, point, grid);
+    draw_last_row(state, row, point, grid);
     rows.insert(row);
 }

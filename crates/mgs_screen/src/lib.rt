@@ -2,14 +2,14 @@
 #![tactic(auto)]
 
 mod change;
+mod drawn_texts;
 mod last_row;
 mod listing;
 mod measuring;
 mod redrawing;
 mod screen;
-mod sketch;
 mod tab_stops;
 
+pub use drawn_texts::DrawnTexts;
 pub use listing::{draw_entries, draw_listing};
 pub use screen::redraw_session;
-pub use sketch::Sketch;

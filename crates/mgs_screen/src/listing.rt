@@ -1,13 +1,13 @@
 // What a window shows in place of a text, drawn into its rows: nothing, the listing of all buffers, or an access list.
 ghost use Rattle.std.specs.Prelude.{◌≡◌, ◌+◌, ◌<◌, ◌≤◌, ◌^◌, [], ◌∷◌, ◌++◌, map, length, decimal, codes};
 ghost use Rattle.std.specs.Option.{option_map};
-ghost use Rattle.mgs_model.specs.Rows.{rows_put, cause_text, blank_rows, mode_row, none_mode};
+ghost use Rattle.mgs_model.specs.Rows.{cause_text};
 ghost use Rattle.mgs_model.specs.Seen.{if_granted};
-ghost use Rattle.mgs_model.specs.Draw.{listing_text, entry_text, entries_texts, entries_shown};
+ghost use Rattle.mgs_model.specs.Draw.{listing_text, entry_text, entries_texts};
 ghost use Rattle.mgs_buffers.specs.MarkedBuffer.{HasBuffer, marked_at};
 ghost use Rattle.mgs_buffers.specs.Judging.{AreJudged, rules_kept};
 ghost use Rattle.mgs_buffers.specs.Told.{attributes_read};
-ghost use Rattle.mgs_screen.specs.Listings.{IsPaneDrawn, listing_to, entries_to, rows_to, entries_told, name_to, place_in, past_sight, row_drawn, buffer_drawn, drawn, listed};
+ghost use Rattle.mgs_screen.specs.Listings.{IsPaneDrawn, listing_to, entries_to, rows_to, name_to, place_in, past_sight, row_drawn, buffer_drawn, drawn, acl_drawn, none_drawn, listed};
 
 use mgs_acl::{Entry, print_entry};
 use mgs_buffers::{Attributes, Buffers, Found};
@@ -197,7 +197,7 @@ fn draw_acl<T: Marked + Drop>(
     requires room { sight.first + sight.height ≤ grid.old.rows }
     requires judged { AreJudged directory.now (rules_kept found.now.all) judge.old }
     ensures judged { AreJudged directory.now (rules_kept found.now.all) judge.new }
-    ensures grid { grid.new ≡ drawn sight.first sight.height sight.row (entries_shown (entries_told directory.now user.now (marked_at found.now.name found.now.all).buffer)) grid.old }
+    ensures grid { grid.new ≡ acl_drawn sight.first sight.height sight.row directory.now user.now (marked_at found.now.name found.now.all).buffer grid.old }
 {
     if found.grants_by(judge, directory, user, Right::ReadAcl) {
         draw_list(found.entries(), sight, grid);
@@ -256,7 +256,7 @@ pub fn draw_entries<T: Marked + Drop>(
 /// Draws blank rows, and the mode line of a window that shows nothing.
 fn draw_none(first: usize, height: usize, grid: &mut Grid)
     requires { first + height < grid.old.rows }
-    ensures { grid.new ≡ record grid.old { lines = rows_put first (blank_rows grid.old.cols height ++ mode_row grid.old.cols none_mode ∷ []) grid.old.lines } }
+    ensures { grid.new ≡ none_drawn first height grid.old }
 {
     let _rows = grid.rows();
     grid.draw_blank(first, height);

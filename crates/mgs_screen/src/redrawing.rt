@@ -6,11 +6,11 @@ ghost use Rattle.mgs_world.specs.Worlds.{buffers_of};
 ghost use Rattle.mgs_buffers.specs.MarkedBuffer.{HasBuffer, marked_at};
 ghost use Rattle.mgs_grid.specs.RowSets.{AreIn, AreSameApart};
 ghost use Rattle.mgs_screen.specs.Changes.{CompletesChange, CompletesLine, CompletesRow, CompletesShifts};
-ghost use Rattle.mgs_screen.specs.Sketches.{DoesShow, MayStand, showing};
+ghost use Rattle.mgs_screen.specs.TextsDrawn.{DoesShow, MayStand, showing};
 ghost use Rattle.mgs_screen.specs.TabStops.{IsTabStop};
 
 use crate::change::{Change, change_since};
-use crate::sketch::{DrawnText, Earlier};
+use crate::drawn_texts::{DrawnText, Earlier};
 use crate::tab_stops::{TabStop, begin_at};
 use mgs_buffers::Found;
 use mgs_grid::{Grid, RowSet};

@@ -1,24 +1,25 @@
 // The screen of a session, drawn into a grid that is there.
 ghost use Rattle.std.specs.Prelude.{◌≡◌, ◌+◌, ◌<◌, ◌≤◌, ℕ, true, List, [], ◌∷◌, Option, None, Some, IfSome};
-ghost use Rattle.mgs_model.specs.Draw.{screen, window_cursor};
-ghost use Rattle.mgs_model.specs.Rows.{rows_put, mode_row, buffer_mode};
+ghost use Rattle.mgs_model.specs.Draw.{window_cursor};
+ghost use Rattle.mgs_model.specs.Rows.{mode_row, buffer_mode};
+ghost use Rattle.mgs_grid.specs.Cells.{rows_put};
 ghost use Rattle.mgs_session.specs.declared.Session.{Session};
-ghost use Rattle.mgs_world.specs.Worlds.{buffers_of, world_of, session_of};
+ghost use Rattle.mgs_world.specs.Worlds.{buffers_of};
 ghost use Rattle.mgs_world.specs.Sound.{IsSessionSound, IsWindowSound};
 ghost use Rattle.mgs_buffers.specs.Judging.{AreJudged, rules_kept};
 ghost use Rattle.mgs_buffers.specs.MarkedBuffer.{HasBuffer, IsMark, marked_at};
 ghost use Rattle.mgs_grid.specs.RowSets.{has_row, AreIn, AreSameApart};
 ghost use Rattle.mgs_model.specs.World.{may};
 ghost use Rattle.mgs_model.specs.declared.right.Right.TheVariants.{ReadData};
-ghost use Rattle.mgs_screen.specs.Screens.{ReadsAll, found_rows, heading_to, user_rows, window_marks_cursor, window_to};
-ghost use Rattle.mgs_screen.specs.Sketches.{AreStanding, AreStandingAbove, AreStandingFrom, DoesShowMode, IsStopOf, heading_of, mode_text, pushed, told_as};
+ghost use Rattle.mgs_screen.specs.Screens.{IsScreenOf, ReadsAll, found_rows, heading_to, window_lines, window_marks_cursor, window_to};
+ghost use Rattle.mgs_screen.specs.TextsDrawn.{AreStanding, AreStandingAbove, AreStandingFrom, DoesShowMode, IsStopOf, heading_of, mode_text, pushed, told_as};
 
 use crate::change::stop_since;
+use crate::drawn_texts::{DrawnText, DrawnTexts, Earlier, ModeLine};
 use crate::last_row::redraw_last_row;
 use crate::listing::draw_rows;
 use crate::measuring::measure;
 use crate::redrawing::redraw_pane;
-use crate::sketch::{DrawnText, Earlier, ModeLine, Sketch};
 use crate::tab_stops::TabStop;
 use mgs_buffers::{Buffers, Found};
 use mgs_cache::{Judge, OUTRIGHT_LIMIT};
@@ -186,8 +187,8 @@ fn redraw_text<T: Marked + Drop>(
     window_marks: &WindowMarks,
     height: usize,
     place: Place,
-    sketch: &Sketch,
-    texts: &mut Sketch,
+    drawn_texts: &DrawnTexts,
+    texts: &mut DrawnTexts,
     rows: &mut RowSet,
     grid: &mut Grid,
 ) -> (usize, usize)
@@ -195,7 +196,7 @@ fn redraw_text<T: Marked + Drop>(
     requires top { IsMark found.now.name window_marks.now.top found.now.all }
     requires some { 1 ≤ height }
     requires room { place.first + height < grid.old.rows }
-    requires stands { AreStandingFrom place.first (buffers_of found.now.all) grid.old sketch.now }
+    requires stands { AreStandingFrom place.first (buffers_of found.now.all) grid.old drawn_texts.now }
     requires above { AreStandingAbove place.first (buffers_of found.now.all) grid.old texts.old }
     ensures rows { grid.new.rows ≡ grid.old.rows }
     ensures cols { grid.new.cols ≡ grid.old.cols }
@@ -210,7 +211,7 @@ fn redraw_text<T: Marked + Drop>(
     let cols = grid.cols();
     let text = found.text();
     let name = found.name();
-    let earlier = sketch.drawn(place.index, name, place.first, height);
+    let earlier = drawn_texts.drawn(place.index, name, place.first, height);
     let known = known_stop(found, &earlier);
     let measures = measure(text, window_marks, place.selected, cols, known);
     let mode = mode_of(heading, measures.line + 1, measures.column);
@@ -234,7 +235,7 @@ fn redraw_text<T: Marked + Drop>(
 }
 
 /// Notes that all rows of a window were drawn, and that it shows no text that is kept.
-fn note_rows(first: usize, height: usize, texts: &mut Sketch, rows: &mut RowSet)
+fn note_rows(first: usize, height: usize, texts: &mut DrawnTexts, rows: &mut RowSet)
     requires { first + height + 1 ≤ ROWS_MAX }
     ensures texts { texts.new ≡ pushed None texts.old }
     ensures more { AreIn rows.old rows.new }
@@ -244,7 +245,7 @@ fn note_rows(first: usize, height: usize, texts: &mut Sketch, rows: &mut RowSet)
     texts.push_none();
 }
 
-/// Draws a window, in those rows alone that changed since the screen of the sketch was drawn. Tells where the cursor is, from the
+/// Draws a window, in those rows alone that changed since these texts were drawn. Tells where the cursor is, from the
 /// window's first cell, if the window is the selected one.
 fn redraw_window<T: Marked + Drop>(
     buffers: &Buffers<T>,
@@ -253,8 +254,8 @@ fn redraw_window<T: Marked + Drop>(
     user: &Name,
     window: &Window,
     place: Place,
-    sketch: &Sketch,
-    texts: &mut Sketch,
+    drawn_texts: &DrawnTexts,
+    texts: &mut DrawnTexts,
     rows: &mut RowSet,
     grid: &mut Grid,
 ) -> (usize, usize)
@@ -262,12 +263,12 @@ fn redraw_window<T: Marked + Drop>(
     requires some { 1 ≤ window.now.height }
     requires room { place.first + window.now.height < grid.old.rows }
     requires judged { AreJudged directory.now (rules_kept buffers.now) judge.old }
-    requires stands { AreStandingFrom place.first (buffers_of buffers.now) grid.old sketch.now }
+    requires stands { AreStandingFrom place.first (buffers_of buffers.now) grid.old drawn_texts.now }
     requires above { AreStandingAbove place.first (buffers_of buffers.now) grid.old texts.old }
     ensures judged { AreJudged directory.now (rules_kept buffers.now) judge.new }
     ensures rows { grid.new.rows ≡ grid.old.rows }
     ensures cols { grid.new.cols ≡ grid.old.cols }
-    ensures lines { grid.new.lines ≡ rows_put place.first (user_rows place.selected grid.old.cols directory.now user.now buffers.now window.now) grid.old.lines }
+    ensures lines { grid.new.lines ≡ window_lines place.selected place.first directory.now user.now buffers.now window.now grid.old }
     ensures cursor { place.selected ≡ true → result ≡ window_cursor grid.old.cols (Some (window_to directory.now user.now buffers.now window.now)) }
     ensures row { result.0 < window.now.height }
     ensures col { result.1 < grid.old.cols }
@@ -300,7 +301,7 @@ fn redraw_window<T: Marked + Drop>(
             &window_marks,
             height,
             place,
-            sketch,
+            drawn_texts,
             texts,
             rows,
             grid,
@@ -314,31 +315,30 @@ fn redraw_window<T: Marked + Drop>(
     (0, 0)
 }
 
-/// Draws a session's screen into a grid that shows an earlier screen of it, with the texts of this sketch. It tells which rows it drew:
-/// the others are as they were. With a sketch of no text the grid may show anything before, and all rows are drawn. The sketch has then
-/// the texts of the new screen. Who may see what is decided by a judge that keeps what was decided on these buffers. Where memory is
-/// refused to it, the screen is drawn as well.
+/// Draws a session's screen into a grid that shows an earlier screen of it, with these texts. It tells which rows it drew: the others are as they
+/// were. With no text the grid may show anything before, and all rows are drawn. The texts are then those of the new screen. Who may see what is
+/// decided by a judge that keeps what was decided on these buffers. Where memory is refused to it, the screen is drawn as well.
 pub fn redraw_session<T: Marked + Drop>(
     buffers: &Buffers<T>,
     judge: &mut Judge,
     directory: &Directory,
     session: &Session,
-    sketch: &mut Sketch,
+    drawn_texts: &mut DrawnTexts,
     grid: &mut Grid,
 ) -> RowSet
     requires sound { IsSessionSound buffers.now session.now }
     requires rows { session.now.windows.rows ≡ grid.old.rows }
     requires cols { session.now.cols ≡ grid.old.cols }
     requires judged { AreJudged directory.now (rules_kept buffers.now) judge.old }
-    requires stands { AreStanding (buffers_of buffers.now) grid.old sketch.old }
+    requires stands { AreStanding (buffers_of buffers.now) grid.old drawn_texts.old }
     ensures judged { AreJudged directory.now (rules_kept buffers.now) judge.new }
-    ensures grid { (sessions : List Session) (next : Option ℕ) → grid.new ≡ screen (world_of directory.now buffers.now sessions next) (session_of buffers.now session.now) }
-    ensures stands { AreStanding (buffers_of buffers.now) grid.new sketch.new }
+    ensures grid { IsScreenOf directory.now buffers.now session.now grid.new }
+    ensures stands { AreStanding (buffers_of buffers.now) grid.new drawn_texts.new }
     ensures apart { AreSameApart result grid.old.lines grid.new.lines }
 {
     let _rows = grid.rows();
     let selected = session.windows.selected();
-    let mut texts = Sketch::new();
+    let mut texts = DrawnTexts::new();
     let mut rows = RowSet::none();
     let mut first = 0;
     let mut cursor = (0, 0);
@@ -355,7 +355,7 @@ pub fn redraw_session<T: Marked + Drop>(
             &session.user,
             window,
             place,
-            sketch,
+            drawn_texts,
             &mut texts,
             &mut rows,
             grid,
@@ -365,7 +365,7 @@ pub fn redraw_session<T: Marked + Drop>(
         }
         first += window.height + 1;
     }
-    redraw_last_row(&session.own, first, cursor, &mut rows, grid);
-    *sketch = texts;
+    redraw_last_row(&session.state, first, cursor, &mut rows, grid);
+    *drawn_texts = texts;
     rows
 }

@@ -10,14 +10,18 @@ use mgs_text::Text;
 /// A place of a line, and its column, a multiple of eight.
 #[derive(Clone, Copy)]
 pub(crate) struct TabStop {
+    /// Where it is in the text.
     pub(crate) place: usize,
+    /// Its column.
     pub(crate) column: usize,
 }
 
 /// Where a row begins that shows a line, and from which column on it shows what stands there.
 #[derive(Clone, Copy)]
 pub(crate) struct Begin {
+    /// Where in the text it begins.
     pub(crate) place: usize,
+    /// The column, counted from there.
     pub(crate) shift: usize,
 }
 

@@ -5,12 +5,13 @@ use Rattle.std.specs.List.{position_or_len}
 use Rattle.std.proofs.lemmas.Option.{get_or_from_slice_get}
 use Rattle.mgs_model.specs.Access.{Directory}
 use Rattle.mgs_model.specs.Acts.{counted, edit_of, finished}
-use Rattle.mgs_model.specs.Apart.{touched_by}
+use Rattle.mgs_laws.specs.Apart.{touched_by}
 use Rattle.mgs_model.specs.Apply.{act, applied, apply, change_first, outcome_in, session_arranged}
-use Rattle.mgs_model.specs.Events.{may_be_refused}
-use Rattle.mgs_model.specs.Outcome.{Edit, No_effect, Outcome, Run, takes_memory, Act}
+use Rattle.mgs_laws.specs.Refusals.{may_be_refused}
+use Rattle.mgs_model.specs.Outcome.{Edit, No_effect, Outcome, Run, Act}
+use Rattle.mgs_laws.specs.Refusals.{takes_memory}
 use Rattle.mgs_model.specs.Plans.{Change, Finish}
-use Rattle.mgs_model.specs.World.{Own, World, has_id}
+use Rattle.mgs_model.specs.World.{State, World, has_id}
 use Rattle.mgs_model.specs.declared.session.Command.TheVariants.{Alter}
 use Rattle.mgs_model.specs.declared.touched.Touched.{Touched}
 use Rattle.mgs_buffers.specs.MarkedBuffer.{HasBuffer, MarkedBuffer, marked_at, IsMark}
@@ -27,7 +28,7 @@ use Rattle.mgs_plan.specs.Following.{edit_told, followed}
 use Rattle.mgs_plan.specs.Tells.{touched_in}
 use Rattle.mgs_world.specs.Only.{OnlyThis, nothing_held}
 use Rattle.mgs_world.specs.Sound.{IsSound}
-use Rattle.mgs_world.specs.Worlds.{aim_old, buffers_of, id_after, own_of, session_id, session_of, size_named, world_of}
+use Rattle.mgs_world.specs.Worlds.{aim_old, buffers_of, id_after, state_of, session_id, session_of, size_named, world_of}
 use Rattle.mgs_world.proofs.Edits.{followed_get, size_kept}
 use Rattle.mgs_world.proofs.Only.{only_world, sound_but}
 use Rattle.mgs_world.proofs.SelectedMark.{get_set}
@@ -40,7 +41,7 @@ use Rattle.mgs_plan.proofs.Leaving.{length_edited_by, mark_edited_by}
 use Rattle.mgs_seek.specs.Planning.{CanPerform, IsDone, IsPlanned, change_planned, counted_if, edit_of_plan, left_at, old_of, one_met, search_after, session_after, size_then, IsTyped, ReplacementFails, IsLeft, put_of, touched_edit}
 use Rattle.mgs_seek.specs.Replacing.{finish_met, is_change, point_met, remaining_at, remaining_in, replacement, session_met, taken}
 use Rattle.mgs_seek.specs.declared.replacing.Planned.{Planned}
-use Rattle.mgs_seek.proofs.Lifts.{acts_sound, found_at, in_this, acts, does_fail, held_at, only_own}
+use Rattle.mgs_seek.proofs.Lifts.{acts_sound, found_at, in_this, acts, does_fail, held_at, only_state}
 use Rattle.mgs_seek.proofs.Meets.{counts, met_does, only_met, replaces}
 use Rattle.mgs_seek.proofs.Seeks.{held_so}
 use Rattle.mgs_seek.proofs.Skips.{none_counted, same_replacing}
@@ -55,13 +56,13 @@ some_same x y e = cc
 
 -- STEP BY STEP: the edit, the positions that go by it, and its session
 
-after_held : (n : List ℕ) (e : Option Edited) (h : Session) (s : Search) → h.own.search ≡ Some s → (session_after n e h).own.search ≡ Some (search_after n e s)
+after_held : (n : List ℕ) (e : Option Edited) (h : Session) (s : Search) → h.state.search ≡ Some s → (session_after n e h).state.search ≡ Some (search_after n e s)
 after_held n None h s held = held
 after_held n (Some e) h s held = ap (option_map (search_edited n e)) held
 
-old_after : (n : List ℕ) (e : Option Edited) (h : Session) → old_of (session_after n e h).own.search ≡ old_of h.own.search
+old_after : (n : List ℕ) (e : Option Edited) (h : Session) → old_of (session_after n e h).state.search ≡ old_of h.state.search
 old_after n None h = refl
-old_after n (Some e) h = by h.own.search
+old_after n (Some e) h = by h.state.search
   where
     by : (o : Option Search) → old_of (option_map (search_edited n e) o) ≡ old_of o
     by None = refl
@@ -74,12 +75,12 @@ touched_is n size c = by (is_change c)
     by true = refl
     by false = refl
 
-module _ {d : Directory} (ks ls : List MarkedBuffer) (h : Session) (p : Planned) (can : CanPerform d ks h p) (put : List ℕ) (put_is : put ≡ put_of p.plan.replaces h.own.search) (edit : ls ≡ edited_by p.window_marks.name (taken p.edit.from p.edit.to put) ks) where
+module _ {d : Directory} (ks ls : List MarkedBuffer) (h : Session) (p : Planned) (can : CanPerform d ks h p) (put : List ℕ) (put_is : put ≡ put_of p.plan.replaces h.state.search) (edit : ls ≡ edited_by p.window_marks.name (taken p.edit.from p.edit.to put) ks) where
   abbrev called : List ℕ
   called = p.window_marks.name
 
   abbrev edit_done : Change
-  edit_done = change_planned p h.own.search
+  edit_done = change_planned p h.state.search
 
   pub edit_is : ls ≡ edited_by called edit_done ks
   edit_is = edit ∙ ap (λ (k : List ℕ). edited_by called (taken p.edit.from p.edit.to k) ks) put_is
@@ -106,24 +107,24 @@ module _ {d : Directory} (ks ls : List MarkedBuffer) (h : Session) (p : Planned)
     y_so : y ≡ session_after called (edit_of_plan p h) h
     y_so = y_is ∙ ap (λ (q : Option Edited). session_after called q h) e_so
 
-    pub next_then : IfSome p.plan.next (λ m. m + length (old_of y.own.search) ≤ length (marked_at called ls).buffer.text)
+    pub next_then : IfSome p.plan.next (λ m. m + length (old_of y.state.search) ≤ length (marked_at called ls).buffer.text)
     next_then = by p.plan.next can.next
       where
-        old : length (old_of y.own.search) ≡ length (old_of h.own.search)
-        old = ap (λ (z : Session). length (old_of z.own.search)) y_is ∙ ap (λ (k : List ℕ). length k) (old_after called e h)
+        old : length (old_of y.state.search) ≡ length (old_of h.state.search)
+        old = ap (λ (z : Session). length (old_of z.state.search)) y_is ∙ ap (λ (k : List ℕ). length k) (old_after called e h)
 
-        by : (q : Option ℕ) → IfSome q (λ m. m + length (old_of h.own.search) ≤ size_then p (length (marked_at called ks).buffer.text)) → IfSome q (λ m. m + length (old_of y.own.search) ≤ length (marked_at called ls).buffer.text)
+        by : (q : Option ℕ) → IfSome q (λ m. m + length (old_of h.state.search) ≤ size_then p (length (marked_at called ks).buffer.text)) → IfSome q (λ m. m + length (old_of y.state.search) ≤ length (marked_at called ls).buffer.text)
         by None small = tt
         by (Some m) small = omega (arith, small, old, length_then)
 
-    pub done_by : (at : ℕ) (xs ys : List Session) (ks2 : List MarkedBuffer) (left : Session) (touched : Touched) → ys ≡ followed called e xs → ((s : Search) → y.own.search ≡ Some s → IsLeft p s ls ks2 y left) → touched ≡ touched_edit called e → IsDone at p h ks ks2 xs (slice_set ys at left) touched
+    pub done_by : (at : ℕ) (xs ys : List Session) (ks2 : List MarkedBuffer) (left : Session) (touched : Touched) → ys ≡ followed called e xs → ((s : Search) → y.state.search ≡ Some s → IsLeft p s ls ks2 y left) → touched ≡ touched_edit called e → IsDone at p h ks ks2 xs (slice_set ys at left) touched
     done_by at xs ys ks2 left touched follow leave told = record {
       left = left;
       done =
           λ s held.
           let s1 = search_after called (edit_of_plan p h) s in
           subst (λ (k : List MarkedBuffer). IsLeft p s1 k ks2 (session_after called (edit_of_plan p h) h) left) edit_is
-          (subst (λ (z : Session). IsLeft p s1 ls ks2 z left) y_so (leave s1 (ap (λ (z : Session). z.own.search) y_so ∙ after_held called (edit_of_plan p h) h s held)));
+          (subst (λ (z : Session). IsLeft p s1 ls ks2 z left) y_so (leave s1 (ap (λ (z : Session). z.state.search) y_so ∙ after_held called (edit_of_plan p h) h s held)));
       sessions = ap (λ (zs : List Session). slice_set zs at left) (follow ∙ ap (λ (q : Option Edited). followed called q xs) e_so);
       tells = told ∙ ap (touched_edit called) e_so ∙ touched_is called p.edit.size edit_done;
     }
@@ -150,7 +151,7 @@ name_is : (n : List ℕ) (e : Option Edited) (s : Search) → (search_after n e 
 name_is n None s = refl
 name_is n (Some e) s = refl
 
-pub session_is : (n : List ℕ) (e : Option Edited) (h : Session) (s : Search) (r : Replacing) → h.own.search ≡ Some (replaces s r) → session_after n e h ≡ searching (replaces (search_after n e s) r) h
+pub session_is : (n : List ℕ) (e : Option Edited) (h : Session) (s : Search) (r : Replacing) → h.state.search ≡ Some (replaces s r) → session_after n e h ≡ searching (replaces (search_after n e s) r) h
 session_is n None h s r held = held_so h (replaces s r) held
 session_is n (Some e) h s r held = ap (session_after n (Some e)) (held_so h (replaces s r) held)
 
@@ -169,7 +170,7 @@ module _ (d : Directory) (ks : List MarkedBuffer) (xs : List Session) (at : ℕ)
   r = planned.r
 
   abbrev c : Change
-  c = change_planned p h.own.search
+  c = change_planned p h.state.search
 
   abbrev e : Option Edited
   e = edit_of_plan p h
@@ -200,7 +201,7 @@ module _ (d : Directory) (ks : List MarkedBuffer) (xs : List Session) (at : ℕ)
   f = finish_met (length r.pattern) p.plan.next (left_at p) (one_met b)
 
   abbrev o : Outcome
-  o = finished (own_of h.own) f (edit_of x.name c)
+  o = finished (state_of h.state) f (edit_of x.name c)
 
   kept : HasBuffer x.name ks
   kept = mark_is_kept x.name x.point ks planned.can.mark
@@ -224,12 +225,12 @@ module _ (d : Directory) (ks : List MarkedBuffer) (xs : List Session) (at : ℕ)
   sound1 = edited_sound x.name c ks xs1 (sound_kept x.name e ks xs sound)
 
   name1 : s1.name ≡ x.name
-  name1 = name_is x.name e s ∙ in_this x.name h.own.search (replaces s r) planned.sought.here planned.held
+  name1 = name_is x.name e s ∙ in_this x.name h.state.search (replaces s r) planned.sought.here planned.held
 
   next1 : IfSome p.plan.next (λ m. m ≤ length (marked_at x.name ks1).buffer.text)
   next1 = by p.plan.next planned.can.next
     where
-      by : (q : Option ℕ) → IfSome q (λ m. m + length (old_of h.own.search) ≤ size_then p (length (marked_at x.name ks).buffer.text)) → IfSome q (λ m. m ≤ length (marked_at x.name ks1).buffer.text)
+      by : (q : Option ℕ) → IfSome q (λ m. m + length (old_of h.state.search) ≤ size_then p (length (marked_at x.name ks).buffer.text)) → IfSome q (λ m. m ≤ length (marked_at x.name ks1).buffer.text)
       by None small = tt
       by (Some m) small = omega (arith, small, size1)
 
@@ -239,8 +240,8 @@ module _ (d : Directory) (ks : List MarkedBuffer) (xs : List Session) (at : ℕ)
   put_sound : IsSound ls (slice_set xs1 at y)
   put_sound = acts_sound ks1 ls xs1 at h1 y sound1 is1 within1 only1
 
-  own_is : own_of h.own ≡ own_of h1.own
-  own_is = ap (λ (z : Session). own_of z.own) (held_so h (replaces s r) planned.held)
+  state_is : state_of h.state ≡ state_of h1.state
+  state_is = ap (λ (z : Session). state_of z.state) (held_so h (replaces s r) planned.held)
 
   module _ (next : Option ℕ) (id : ℕ) (place : at ≡ position_or_len (session_id id) xs) where
     abbrev w : World
@@ -248,14 +249,14 @@ module _ (d : Directory) (ks : List MarkedBuffer) (xs : List Session) (at : ℕ)
 
     put_world : world_of d ls (slice_set xs1 at y) next ≡ apply w id o
     put_world =
-        let g : Outcome = finished (own_of h1.own) f No_effect in
+        let g : Outcome = finished (state_of h1.state) f No_effect in
         only_world nothing_held d ks1 ls xs1 next id at h1 y (session_arranged g) (sound_but ks1 xs1 sound1) (place_followed x.name e xs id at place) is1 within1 only1
         (met_does ks1 h1 x s1 r (session_sound ks1 xs1 at h1 sound1 is1 within1) planned.sought.target.sel name1 (length r.pattern) (left_at p) (count_met b r.count) (one_met b) (count_is b r.count planned.count) p.plan.next next1)
         ∙ same_world d _ _ _ _ (id_after next) (edited_buffers x.name c ks)
         (ap (change_first (has_id id) (session_arranged g))
         (ap (λ (n : ℕ). map (session_of ks1) (followed x.name (edit_told n c) xs)) planned.can.size ∙ sessions_went x.name c ks xs planned.can.order planned.can.within kept)
         ∙ sym (no_quit x.name c id _))
-        ∙ ap (λ (own : Own). apply w id (finished own f (edit_of x.name c))) (sym own_is)
+        ∙ ap (λ (state : State). apply w id (finished state f (edit_of x.name c))) (sym state_is)
 
     -- by what the session holds
     module _ (t : Search) (u : Replacing) (held : search_held at xs ≡ Some t) (aim : t.aim ≡ Replace u) where
@@ -274,11 +275,11 @@ module _ (d : Directory) (ks : List MarkedBuffer) (xs : List Session) (at : ℕ)
       put_tells : touched_by (edit_of x.name c) ≡ touched_in (outcome_in w id (Run (Alter (replacement last)) None u.put) true)
       put_tells = sym (ap touched_in known_held ∙ by (is_change c))
         where
-          by : (q : Bool) → touched_by (finished (own_of h.own) f (cond q (Edit x.name c.a c.b c.put) No_effect)).effect ≡ touched_by (cond q (Edit x.name c.a c.b c.put) No_effect)
+          by : (q : Bool) → touched_by (finished (state_of h.state) f (cond q (Edit x.name c.a c.b c.put) No_effect)).effect ≡ touched_by (cond q (Edit x.name c.a c.b c.put) No_effect)
           by q = refl
 
       pub put_may : is_change c ≡ true → may_be_refused (outcome_in w id (Run (Alter (replacement last)) None u.put) true) ≡ true
-      put_may change = ap may_be_refused known_held ∙ ap (λ (q : Bool). takes_memory (finished (own_of h.own) f (cond q (Edit x.name c.a c.b c.put) No_effect))) change
+      put_may change = ap may_be_refused known_held ∙ ap (λ (q : Bool). takes_memory (finished (state_of h.state) f (cond q (Edit x.name c.a c.b c.put) No_effect))) change
 
   abbrev text : List ℕ
   text = (marked_at x.name ks).buffer.text
@@ -296,11 +297,11 @@ module _ (d : Directory) (ks : List MarkedBuffer) (xs : List Session) (at : ℕ)
       some_so : 0 < length r.pattern
       some_so = subst (λ (q : Search). 0 < length (aim_old q.aim)) (one (replaces s r) (sym before ∙ ap search_or_none found ∙ planned.held)) some
 
-      held_then : search_held at (slice_set xs1 at y) ≡ y.own.search
+      held_then : search_held at (slice_set xs1 at y) ≡ y.state.search
       held_then = ap search_or_none (get_set xs1 at h1 y found1)
 
       size_before : size_named s.name (buffers_of ks) ≡ length text
-      size_before = ap (λ (n : List ℕ). size_named n (buffers_of ks)) (in_this x.name h.own.search (replaces s r) planned.sought.here planned.held) ∙ size_kept x.name ks kept
+      size_before = ap (λ (n : List ℕ). size_named n (buffers_of ks)) (in_this x.name h.state.search (replaces s r) planned.sought.here planned.held) ∙ size_kept x.name ks kept
 
       size_after : size_named s1.name (buffers_of ls) ≡ size_then p (length text)
       size_after =
@@ -316,10 +317,10 @@ module _ (d : Directory) (ks : List MarkedBuffer) (xs : List Session) (at : ℕ)
       no q = cc
 
       by : (q : Option ℕ) → p.plan.next ≡ q → IfSome q (λ m. size_then p (length text) - min m (size_then p (length text)) < length text - min s.anchor (length text)) → remaining_at at ls (slice_set xs1 at y) < remaining_at at ks xs
-      by None next less = absurd (no (sym (held_then ∙ ap (λ (k : Option ℕ). (end k).own.search) next) ∙ now))
+      by None next less = absurd (no (sym (held_then ∙ ap (λ (k : Option ℕ). (end k).state.search) next) ∙ now))
       by (Some m) next less =
           let then_is : remaining_at at ls (slice_set xs1 at y) ≡ size_then p (length text) - min m (size_then p (length text)) =
-          ap (remaining_in ls) (held_then ∙ ap (λ (k : Option ℕ). (end k).own.search) next) ∙ ap (λ (k : ℕ). k - min m k) size_after in
+          ap (remaining_in ls) (held_then ∙ ap (λ (k : Option ℕ). (end k).state.search) next) ∙ ap (λ (k : ℕ). k - min m k) size_after in
           omega (arith, then_is, was, less)
 
   -- AS IT IS DONE
@@ -383,10 +384,10 @@ pub seen_at : (d : Directory) (ks : List MarkedBuffer) (xs : List Session) (at :
 seen_at d ks xs at h g message last is same within all = subst (λ (z : Session). ReplacementFails d ks z last message) (some_same h g (sym (found_at xs at h is within) ∙ found_at xs at g same within)) all
 
 pub fails_sound : (ks : List MarkedBuffer) (xs : List Session) (at : ℕ) (h : Session) (message : Message) → IsSound ks xs → h ≡ get_or xs at h → at < length xs → IsSound ks (slice_set xs at (failed message h))
-fails_sound ks xs at h message sound is within = acts_sound ks ks xs at h (failed message h) sound is within (only_own ks h (failed message h).own)
+fails_sound ks xs at h message sound is within = acts_sound ks ks xs at h (failed message h) sound is within (only_state ks h (failed message h).state)
 
 -- one that is over searches nothing
-pub fails_further : (xs : List Session) (at : ℕ) (h y : Session) (t : Search) → h ≡ get_or xs at h → at < length xs → y.own.search ≡ None → search_held at (slice_set xs at y) ≡ Some t → ⊥
+pub fails_further : (xs : List Session) (at : ℕ) (h y : Session) (t : Search) → h ≡ get_or xs at h → at < length xs → y.state.search ≡ None → search_held at (slice_set xs at y) ≡ Some t → ⊥
 fails_further xs at h y t is within over held = none_some t (sym over ∙ sym (ap search_or_none (get_set xs at h y (found_at xs at h is within))) ∙ held)
 
 module _ (d : Directory) (ks : List MarkedBuffer) (xs : List Session) (at : ℕ) (h : Session) (message : Message) (last : Bool) (all : ReplacementFails d ks h last message) (sound : IsSound ks xs) (is : h ≡ get_or xs at h) (within : at < length xs) (next : Option ℕ) (id : ℕ) (place : at ≡ position_or_len (session_id id) xs) where
@@ -396,17 +397,17 @@ module _ (d : Directory) (ks : List MarkedBuffer) (xs : List Session) (at : ℕ)
   abbrev replaces_with : List ℕ → Act
   replaces_with typed = Run (Alter (replacement last)) None typed
 
-  fails_so : (typed : List ℕ) → IsTyped h.own.search typed → world_of d ks (slice_set xs at (failed message h)) next ≡ act now id (replaces_with typed) true
+  fails_so : (typed : List ℕ) → IsTyped h.state.search typed → world_of d ks (slice_set xs at (failed message h)) next ≡ act now id (replaces_with typed) true
   fails_so typed so =
-      acts d ks ks xs at h (failed message h) sound is within (only_own ks h (failed message h).own) next id place (replaces_with typed)
-      (does_fail d ks h (λ own. own) (session_of ks h).search message (replaces_with typed) as_is refl refl (λ ys n. all ys n typed so))
+      acts d ks ks xs at h (failed message h) sound is within (only_state ks h (failed message h).state) next id place (replaces_with typed)
+      (does_fail d ks h (λ state. state) (session_of ks h).search message (replaces_with typed) as_is refl refl (λ ys n. all ys n typed so))
 
   pub fails_none : (typed : List ℕ) → search_held at xs ≡ None → world_of d ks (slice_set xs at (failed message h)) next ≡ act now id (replaces_with typed) true
-  fails_none typed none = fails_so typed (typed_none h.own.search typed (held_at xs at h None is within none))
+  fails_none typed none = fails_so typed (typed_none h.state.search typed (held_at xs at h None is within none))
 
   module _ (s : Search) (r : Replacing) (held : search_held at xs ≡ Some s) (aim : s.aim ≡ Replace r) where
-    typed : IsTyped h.own.search r.put
-    typed = typed_of h.own.search s r (held_at xs at h (Some s) is within held) aim
+    typed : IsTyped h.state.search r.put
+    typed = typed_of h.state.search s r (held_at xs at h (Some s) is within held) aim
 
     pub fails_act : world_of d ks (slice_set xs at (failed message h)) next ≡ act now id (replaces_with r.put) true
     fails_act = fails_so r.put typed

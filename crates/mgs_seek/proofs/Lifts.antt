@@ -5,13 +5,13 @@ use Rattle.std.specs.List.{position_or_len}
 use Rattle.std.specs.Option.{option_map}
 use Rattle.std.proofs.lemmas.Option.{slice_get-get_or}
 use Rattle.mgs_model.specs.Access.{Directory}
-use Rattle.mgs_model.specs.Acts.{fails, finished, finished_own, outcome}
+use Rattle.mgs_model.specs.Acts.{fails, finished, finished_state, outcome}
 use Rattle.mgs_model.specs.Apply.{act, applied, apply, change_at, change_first, search_after, searches, session_arranged, window_adjusted}
-use Rattle.mgs_model.specs.Events.{own_set, with_own}
+use Rattle.mgs_model.specs.Events.{state_set, with_state}
 use Rattle.mgs_model.specs.Outcome.{Act, At, At_origin, Keep, Keep_mark, No_effect, Outcome, PointPlan, SearchPlan}
 use Rattle.mgs_model.specs.Plans.{Finish, ModePlan, stays}
 use Rattle.mgs_model.specs.View.{view}
-use Rattle.mgs_model.specs.World.{Own, World, has_id}
+use Rattle.mgs_model.specs.World.{State, World, has_id}
 use Rattle.mgs_model.specs.World as model
 use Rattle.mgs_model.specs.declared.message.Message.{Message}
 use Rattle.mgs_model.proofs.Basics.{cons_head}
@@ -21,19 +21,19 @@ use Rattle.mgs_buffers.specs.MarkedBuffer.{IsMark, MarkedBuffer, marked_at}
 use Rattle.mgs_windows.specs.declared.WindowMarks.{WindowMarks}
 use Rattle.mgs_session.specs.Seeking.{is_search_in}
 use Rattle.mgs_session.specs.Sessions.{failed, window_marks_of}
-use Rattle.mgs_session.specs.declared.Own as held
+use Rattle.mgs_session.specs.declared.State as held
 use Rattle.mgs_session.specs.declared.Session.{Session}
 use Rattle.mgs_session.specs.declared.search.Search.{Search}
 use Rattle.mgs_plan.specs.Beginning.{search_held, search_or_none}
 use Rattle.mgs_plan.specs.Actions.{AreMarks, mark_gone}
 use Rattle.mgs_world.specs.Sound.{IsSessionSound, IsSound, session_uses, uses, window_marks_uses, window_uses}
-use Rattle.mgs_world.specs.Worlds.{own_at, idle, buffers_of, own_of, search_of, session_of, session_id, world_of}
+use Rattle.mgs_world.specs.Worlds.{state_at, idle, buffers_of, state_of, search_of, session_of, session_id, world_of}
 use Rattle.mgs_world.proofs.Marks.{mark_unused, same_is}
 use Rattle.mgs_world.proofs.Soundness.{in_use_placed, mark_used, one_if_most, point_used, selected_mark, top_used}
 use Rattle.mgs_world.proofs.Uses.{sum_at}
 use Rattle.mgs_world.proofs.Worlds.{selected_at, selected_window}
 use Rattle.mgs_plan.proofs.Commands.{session_known}
-use Rattle.mgs_plan.proofs.Deeds.{first_twice, fresh_own, gone_buffers, point_by, points_gone}
+use Rattle.mgs_plan.proofs.Deeds.{first_twice, fresh_state, gone_buffers, point_by, points_gone}
 use Rattle.mgs_seek.specs.Acting.{Does, as_is}
 use Rattle.mgs_world.specs.Only.{OnlyThis, nothing_held}
 use Rattle.mgs_world.proofs.Only.{only_sound, only_world, sound_but}
@@ -53,34 +53,34 @@ in_this name o s here is = sym (same_is name s.name (sym (ap (is_search_in name)
 
 -- ONLY THIS SESSION CHANGED: its own record, and where its window's point is
 
-pub only_own : (ks : List MarkedBuffer) (h : Session) (o : held.Own) → (let y : Session = record h { own = o } in OnlyThis nothing_held ks ks h y)
-only_own ks h o = record { buffers = refl; uses = λ m i. omega arith; stay = λ m i own used after. refl; size = refl }
+pub only_state : (ks : List MarkedBuffer) (h : Session) (o : held.State) → (let y : Session = record h { state = o } in OnlyThis nothing_held ks ks h y)
+only_state ks h o = record { buffers = refl; uses = λ m i. omega arith; stay = λ m i state used after. refl; size = refl }
 
-point_own : (h : Session) (x : WindowMarks) → window_marks_of h ≡ Some x → 1 ≤ session_uses x.name x.point h
-point_own h x sel =
+point_state : (h : Session) (x : WindowMarks) → window_marks_of h ≡ Some x → 1 ≤ session_uses x.name x.point h
+point_state h x sel =
     let got = selected_window (slice_get h.windows.windows h.windows.selected) x sel in
     let u : window_uses x.name x.point got.0 ≡ window_marks_uses x.name x.point (Some x) = ap (window_marks_uses x.name x.point) got.2 in
     omega (arith, u, point_used x, sum_at (window_uses x.name x.point) got.0 h.windows.windows h.windows.selected got.1)
 
-pub only_gone : (ks : List MarkedBuffer) (h : Session) (x : WindowMarks) (to : PointPlan) (o : held.Own) → window_marks_of h ≡ Some x → IsMark x.name x.point ks → (let y : Session = record h { own = o } in OnlyThis nothing_held ks (mark_gone x.name x.point to ks) h y)
-only_gone ks h x Keep o sel mark = only_own ks h o
-only_gone ks h x At_origin o sel mark = only_own ks h o
+pub only_gone : (ks : List MarkedBuffer) (h : Session) (x : WindowMarks) (to : PointPlan) (o : held.State) → window_marks_of h ≡ Some x → IsMark x.name x.point ks → (let y : Session = record h { state = o } in OnlyThis nothing_held ks (mark_gone x.name x.point to ks) h y)
+only_gone ks h x Keep o sel mark = only_state ks h o
+only_gone ks h x At_origin o sel mark = only_state ks h o
 only_gone ks h x (At p) o sel mark = record {
   buffers = gone_buffers x.name x.point (At p) ks;
   uses = λ m i. omega (arith, in_use_placed x.name x.point p ks m i mark);
   stay =
-      λ m i own used after.
+      λ m i state used after.
       mark_unused x.name m x.point p ks i
       (λ s e.
       let u : session_uses x.name x.point h ≡ session_uses m i h = ap (λ (n : List ℕ). session_uses n x.point h) (same_is x.name m s) ∙ ap (λ (k : ℕ). session_uses m k h) e in
-      omega (arith, u, own, point_own h x sel));
+      omega (arith, u, state, point_state h x sel));
   size = refl;
 }
 
 -- what it is seen to be then
-module _ (ks : List MarkedBuffer) (h : Session) (x : WindowMarks) (to : PointPlan) (o : held.Own) (sound : IsSessionSound ks h) (sel : window_marks_of h ≡ Some x) where
+module _ (ks : List MarkedBuffer) (h : Session) (x : WindowMarks) (to : PointPlan) (o : held.State) (sound : IsSessionSound ks h) (sel : window_marks_of h ≡ Some x) where
   abbrev y : Session
-  y = record h { own = o }
+  y = record h { state = o }
 
   pub gone_here : session_of (mark_gone x.name x.point to ks) y ≡ selected_at (point_by to) (session_of ks y)
   gone_here =
@@ -94,23 +94,23 @@ module _ (ks : List MarkedBuffer) (h : Session) (x : WindowMarks) (to : PointPla
       ∙ ap (λ (b : Bool). cond b (selected_at (point_by to) s ∷ []) (s ∷ [])) same)
 
   -- by what is left: whatever its record and its search were before
-  pub gone_does : (own : Own) (q : Option model.Search) (p : Own) (sought : SearchPlan) (mode : ModePlan) (n : ℕ)
+  pub gone_does : (state : State) (q : Option model.Search) (p : State) (sought : SearchPlan) (mode : ModePlan) (n : ℕ)
       → ((search : Option model.Search) (w : model.Window) → point_by to w ≡ window_adjusted search to Keep_mark Keep None w)
-      → (let left : Finish = record stays { point = to; sought = sought; mode = mode; replaced = n } in own_of o ≡ finished_own left own
-      → search_of (buffers_of ks) o.search ≡ cond (searches (finished_own left own).mode) (search_after sought q) None
-      → (let z : model.Session = record (session_of ks h) { search = q; own = p } in session_of (mark_gone x.name x.point to ks) y ≡ session_arranged (finished own left No_effect) z))
-  gone_does own q p sought mode n adjusts own_is search_is =
+      → (let left : Finish = record stays { point = to; sought = sought; mode = mode; replaced = n } in state_of o ≡ finished_state left state
+      → search_of (buffers_of ks) o.search ≡ cond (searches (finished_state left state).mode) (search_after sought q) None
+      → (let z : model.Session = record (session_of ks h) { search = q; state = p } in session_of (mark_gone x.name x.point to ks) y ≡ session_arranged (finished state left No_effect) z))
+  gone_does state q p sought mode n adjusts state_is search_is =
       let s = session_of ks h in
-      gone_here ∙ (λ i. record s { windows = change_at s.selected (λ w. adjusts q w i) s.windows; own = own_is i; search = search_is i })
+      gone_here ∙ (λ i. record s { windows = change_at s.selected (λ w. adjusts q w i) s.windows; state = state_is i; search = search_is i })
 
 -- a failure ends any mode
-pub does_fail : (d : Directory) (ks : List MarkedBuffer) (h : Session) (f : Own → Own) (search : Option model.Search) (message : Message) (c : Act) (seen : model.Session → model.Session)
-    → (let s : model.Session = record (session_of ks h) { search = search; own = f (own_of h.own) } in seen (session_of ks h) ≡ s)
-    → session_arranged (fails (f (own_of h.own)) message) (seen (session_of ks h)) ≡ session_of ks (failed message h)
-    → ((xs : List Session) (next : Option ℕ) → (let s : model.Session = record (session_of ks h) { search = search; own = f (own_of h.own) } in outcome (view (world_of d ks xs next) s) c true ≡ fails (f (own_of h.own)) message))
+pub does_fail : (d : Directory) (ks : List MarkedBuffer) (h : Session) (f : State → State) (search : Option model.Search) (message : Message) (c : Act) (seen : model.Session → model.Session)
+    → (let s : model.Session = record (session_of ks h) { search = search; state = f (state_of h.state) } in seen (session_of ks h) ≡ s)
+    → session_arranged (fails (f (state_of h.state)) message) (seen (session_of ks h)) ≡ session_of ks (failed message h)
+    → ((xs : List Session) (next : Option ℕ) → (let s : model.Session = record (session_of ks h) { search = search; state = f (state_of h.state) } in outcome (view (world_of d ks xs next) s) c true ≡ fails (f (state_of h.state)) message))
     → Does d ks ks h (failed message h) seen c
 does_fail d ks h f search message c seen is ends known = record {
-  left = fails (f (own_of h.own)) message;
+  left = fails (f (state_of h.state)) message;
   quiet = refl;
   known = λ xs next. ap (λ (s : model.Session). outcome (view (world_of d ks xs next) s) c true) is ∙ known xs next;
   does = sym ends;
@@ -121,7 +121,7 @@ does_fail d ks h f search message c seen is ends known = record {
 pub found_at : (xs : List Session) (at : ℕ) (h : Session) → h ≡ get_or xs at h → at < length xs → slice_get xs at ≡ Some h
 found_at xs at h is within = slice_get-get_or xs at h within ∙ ap (λ (y : Session). Some y) (sym is)
 
-pub held_at : (xs : List Session) (at : ℕ) (h : Session) (o : Option Search) → h ≡ get_or xs at h → at < length xs → search_held at xs ≡ o → h.own.search ≡ o
+pub held_at : (xs : List Session) (at : ℕ) (h : Session) (o : Option Search) → h ≡ get_or xs at h → at < length xs → search_held at xs ≡ o → h.state.search ≡ o
 held_at xs at h o is within held = ap search_or_none (sym (found_at xs at h is within)) ∙ held
 
 first_as_is : {A : Type 0} (p : A → Bool) (xs : List A) → change_first p (λ x. x) xs ≡ xs
@@ -135,8 +135,8 @@ first_as_is {A = A} p (x ∷ xs) = go (p x) (first_as_is p xs)
 pub acts_sound : (ks ls : List MarkedBuffer) (xs : List Session) (at : ℕ) (h y : Session) → IsSound ks xs → h ≡ get_or xs at h → at < length xs → OnlyThis nothing_held ks ls h y → IsSound ls (slice_set xs at y)
 acts_sound ks ls xs at h y sound is within only = only_sound nothing_held ks ls xs at h y (sound_but ks xs sound) is within only
 
-pub fresh_at : (xs : List Session) (at : ℕ) (h : Session) → h ≡ get_or xs at h → at < length xs → own_at at xs ≡ idle (own_at at xs) → own_of h.own ≡ idle (own_of h.own)
-fresh_at xs at h is within fresh = fresh_own xs at h (found_at xs at h is within) fresh
+pub fresh_at : (xs : List Session) (at : ℕ) (h : Session) → h ≡ get_or xs at h → at < length xs → state_at at xs ≡ idle (state_at at xs) → state_of h.state ≡ idle (state_of h.state)
+fresh_at xs at h is within fresh = fresh_state xs at h (found_at xs at h is within) fresh
 
 module _ (d : Directory) (ks ls : List MarkedBuffer) (xs : List Session) (at : ℕ) (h y : Session) (sound : IsSound ks xs) (is : h ≡ get_or xs at h) (within : at < length xs) (only : OnlyThis nothing_held ks ls h y) where
   module _ (next : Option ℕ) (id : ℕ) (place : at ≡ position_or_len (session_id id) xs) where
@@ -164,5 +164,5 @@ module _ (d : Directory) (ks ls : List MarkedBuffer) (xs : List Session) (at : �
         begun_acts as_is (λ z. refl) c does
         ∙ ap (λ (ss : List model.Session). let v : World = record w { sessions = ss } in act v id c true) (first_as_is (has_id id) (map (session_of ks) xs))
 
-    pub acts_with : (f : Own → Own) (c : Act) → Does d ks ls h y (own_set f) c → world_of d ls (slice_set xs at y) next ≡ act (with_own id f w) id c true
-    acts_with f c does = begun_acts (own_set f) (λ z. refl) c does
+    pub acts_with : (f : State → State) (c : Act) → Does d ks ls h y (state_set f) c → world_of d ls (slice_set xs at y) next ≡ act (with_state id f w) id c true
+    acts_with f c does = begun_acts (state_set f) (λ z. refl) c does

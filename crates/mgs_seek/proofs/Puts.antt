@@ -3,14 +3,13 @@ use Rattle.std.proofs.Common.{◌≡◌, ℕ, ◌+◌, ◌-◌, ◌<◌, ◌≤�
 use Rattle.std.proofs.lemmas.List.{length-take}
 use Rattle.std.specs.Prelude.{Result, Ok}
 use Rattle.std.specs.Char.{eq_ignore_ascii_case}
-use Rattle.mgs_model.specs.Outcome.{Anchor_at, At, Begin, Keep_search, No_search, SearchPlan}
-use Rattle.mgs_model.specs.Plans.{Around, Change, Finish, Over, alteration, goes, next_match, stays}
+use Rattle.mgs_model.specs.Outcome.{Anchor_at, Begin, Keep_search, No_search, SearchPlan}
+use Rattle.mgs_model.specs.Plans.{Around, Change, Finish, Over, alteration, goes, met, next_match, stays}
 use Rattle.mgs_model.specs.Searching.{begins, first_in, first_match, matches_at}
 use Rattle.mgs_model.specs.Text.{edited}
 use Rattle.mgs_model.specs.declared.session.Kind.TheVariants.{Other}
-use Rattle.mgs_model.specs.declared.message.Message.{Message}
-use Rattle.mgs_model.specs.declared.session.Alteration.TheVariants.{ReplaceLast}
-use Rattle.mgs_search.specs.Planned.{met, replacement_read}
+use Rattle.mgs_model.specs.declared.session.Alteration.TheVariants.{ReplaceLast, ReplaceMatch}
+use Rattle.mgs_search.specs.Planned.{IsReplacement, replacement_read}
 use Rattle.mgs_search.specs.declared.replacing.Replacement.{Replacement}
 use Rattle.mgs_session.specs.Replacing.{Replacing}
 use Rattle.mgs_seek.specs.Planning.{IsPlan, one_met, put_by, to_by}
@@ -81,19 +80,11 @@ met_or_over false x from f text = next_match x from f text
 
 found_replaced : (last : Bool) (x : Around) (from : ℕ) (f : Finish) (text : List ℕ) → (met_or_over last x from f text).replaced ≡ f.replaced
 found_replaced true x from f text = refl
-found_replaced false x from f text = by (first_match x.old text from)
-  where
-    by : (o : Option ℕ) → (let g : Finish = elim o [ None ↦ record f { mode = Over } | Some m ↦ record f { point = At (m + length x.old); sought = Anchor_at m } ] in g.replaced ≡ f.replaced)
-    by None = refl
-    by (Some m) = refl
+found_replaced false x from f text = met_replaced (length x.old) f (first_match x.old text from)
 
 found_place : (last : Bool) (x : Around) (from : ℕ) (f : Finish) (text : List ℕ) (m : ℕ) → f.sought ≡ Keep_search → place_of (met_or_over last x from f text).sought ≡ Some m → first_match x.old text from ≡ Some m
 found_place true x from f text m keeps is = (let none : Path (Option ℕ) None (Some m) = sym (ap place_of keeps) ∙ is in cc)
-found_place false x from f text m keeps is = by (first_match x.old text from) is
-  where
-    by : (o : Option ℕ) → (let g : Finish = elim o [ None ↦ record f { mode = Over } | Some p ↦ record f { point = At (p + length x.old); sought = Anchor_at p } ] in place_of g.sought ≡ Some m) → o ≡ Some m
-    by None e = (let none : Path (Option ℕ) None (Some m) = sym (ap place_of keeps) ∙ e in cc)
-    by (Some p) e = e
+found_place false x from f text m keeps is = sym (met_place (length x.old) f (first_match x.old text from) keeps) ∙ is
 
 module _ (last : Bool) (a : ℕ) (r : Replacing) (text : List ℕ) (plan : Replacement) (inside : a ≤ length text) (planned : IsPlan text a r last plan) where
   abbrev old : List ℕ
@@ -184,10 +175,20 @@ module _ (last : Bool) (a : ℕ) (r : Replacing) (text : List ℕ) (plan : Repla
 
 -- the last one, whatever is put in
 pub last_planned : (last : Bool) (a : ℕ) (r : Replacing) (q text : List ℕ) (plan : Replacement) → last ≡ true → q ≡ r.pattern
-    → ((put : List ℕ) (rest : Around) → Path (Result Change Message) (Ok (replacement_read a (length q) put plan)) (alteration ReplaceLast text (record rest { anchor = a; sought_here = true; old = q; typed = put })))
+    → ((put : List ℕ) → IsReplacement ReplaceLast q put text a plan)
     → IsPlan text a r last plan
 last_planned last a r q text plan is eq planned = λ rest.
     sym (ap (λ (k : List ℕ). Ok (replacement_read a (length k) r.put plan)) eq)
     ∙ planned r.put rest
     ∙ ap (λ (k : List ℕ). alteration ReplaceLast text (record rest { anchor = a; sought_here = true; old = k; typed = r.put })) eq
+    ∙ ap (λ (k : Bool). alteration (replacement k) text (record rest { anchor = a; sought_here = true; old = r.pattern; typed = r.put })) (sym is)
+
+-- one that looks for the next match, with what is put in
+pub next_planned : (last : Bool) (a : ℕ) (r : Replacing) (q p text : List ℕ) (plan : Replacement) → last ≡ false → q ≡ r.pattern → p ≡ r.put → IsReplacement ReplaceMatch q p text a plan → IsPlan text a r last plan
+next_planned last a r q p text plan is eq same planned = λ rest.
+    sym (ap (λ (k : List ℕ). Ok (replacement_read a (length k) r.put plan)) eq)
+    ∙ sym (ap (λ (k : List ℕ). Ok (replacement_read a (length q) k plan)) same)
+    ∙ planned rest
+    ∙ ap (λ (k : List ℕ). alteration ReplaceMatch text (record rest { anchor = a; sought_here = true; old = k; typed = p })) eq
+    ∙ ap (λ (k : List ℕ). alteration ReplaceMatch text (record rest { anchor = a; sought_here = true; old = r.pattern; typed = k })) same
     ∙ ap (λ (k : Bool). alteration (replacement k) text (record rest { anchor = a; sought_here = true; old = r.pattern; typed = r.put })) (sym is)

@@ -25,7 +25,7 @@ use Rattle.mgs_session.specs.declared.search.Edited.{Edited}
 use Rattle.mgs_session.specs.declared.search.Search.{Search}
 use Rattle.mgs_plan.specs.Actions.{edit_outcome}
 use Rattle.mgs_plan.specs.Beginning.{seeking}
-use Rattle.mgs_world.specs.Worlds.{buffers_of, own_of, session_of, size_named, world_of}
+use Rattle.mgs_world.specs.Worlds.{buffers_of, state_of, session_of, size_named, world_of}
 use Rattle.mgs_world.proofs.Edits.{size_kept}
 use Rattle.mgs_world.proofs.Soundness.{mark_is_kept}
 use Rattle.mgs_seek.specs.Acting.{IsSought, SearchFails}
@@ -40,7 +40,7 @@ use Rattle.mgs_seek.proofs.Seeks.{held_so}
 use Rattle.mgs_seek.proofs.Skips.{same_replacing}
 
 -- WHAT IT COMES TO, by a session that has this query-replace in the buffer of its window
-module _ (d : Directory) (ks : List MarkedBuffer) (h : Session) (x : WindowMarks) (s : Search) (r : Replacing) (last : Bool) (sought : IsSought d ks h true x) (held : h.own.search ≡ Some (replaces s r)) where
+module _ (d : Directory) (ks : List MarkedBuffer) (h : Session) (x : WindowMarks) (s : Search) (r : Replacing) (last : Bool) (sought : IsSought d ks h true x) (held : h.state.search ≡ Some (replaces s r)) where
   abbrev text : List ℕ
   text = (marked_at x.name ks).buffer.text
 
@@ -51,7 +51,7 @@ module _ (d : Directory) (ks : List MarkedBuffer) (h : Session) (x : WindowMarks
   a = anchor_at x ks s.anchor
 
   name : s.name ≡ x.name
-  name = in_this x.name h.own.search (replaces s r) sought.here held
+  name = in_this x.name h.state.search (replaces s r) sought.here held
 
   kept : HasBuffer x.name ks
   kept = mark_is_kept x.name x.point ks sought.target.marks.point
@@ -69,7 +69,7 @@ module _ (d : Directory) (ks : List MarkedBuffer) (h : Session) (x : WindowMarks
   replaces_it = Run (Alter (replacement last)) None r.put
 
   comes_to : (c : Change) → ((rest : plans.Around) → Path (Result Change Message) (Ok c) (alteration (replacement last) text (record rest { anchor = a; sought_here = true; old = r.pattern; typed = r.put })))
-      → (xs : List Session) (next : Option ℕ) → outcome (view (world_of d ks xs next) (session_of ks h)) replaces_it true ≡ edit_outcome (own_of h.own) x.name (length text) serial (Ok c)
+      → (xs : List Session) (next : Option ℕ) → outcome (view (world_of d ks xs next) (session_of ks h)) replaces_it true ≡ edit_outcome (state_of h.state) x.name (length text) serial (Ok c)
   comes_to c planned xs next =
       let w = world_of d ks xs next in
       let shown = searching (replaces s r) h in
@@ -77,13 +77,13 @@ module _ (d : Directory) (ks : List MarkedBuffer) (h : Session) (x : WindowMarks
       ap (λ (y : Session). outcome (view w (session_of ks y)) replaces_it true) here
       ∙ ap (λ (q : Option model.Search). let y : model.Session = record (session_of ks shown) { search = q } in outcome (view w y) replaces_it true)
       (λ i. Some (record { name = name i; origin = min s.origin (size i); anchor = min s.anchor (size i) }))
-      ∙ come_here d ks xs next shown (own_of shown.own) None r.put true SkipMatch (replacement last) x sought.target.sel kept sought.target.granted places refl (edit_outcome (own_of shown.own) x.name (length text) serial (Ok c))
+      ∙ come_here d ks xs next shown (state_of shown.state) None r.put true SkipMatch (replacement last) x sought.target.sel kept sought.target.granted places refl (edit_outcome (state_of shown.state) x.name (length text) serial (Ok c))
       (λ a name size serial old.
       let seen = seeking a places r.put in
-      (λ i. edit_outcome (own_of shown.own) (name i) (size i) (serial i) (alteration (replacement last) text seen))
-      ∙ ap (edit_outcome (own_of shown.own) x.name (length text) (marked_at x.name ks).buffer.serial)
+      (λ i. edit_outcome (state_of shown.state) (name i) (size i) (serial i) (alteration (replacement last) text seen))
+      ∙ ap (edit_outcome (state_of shown.state) x.name (length text) (marked_at x.name ks).buffer.serial)
       (ap (λ (q : List ℕ). alteration (replacement last) text (record seen { old = q })) old ∙ sym (planned seen)))
-      ∙ ap (λ (y : Session). edit_outcome (own_of y.own) x.name (length text) serial (Ok c)) (sym here)
+      ∙ ap (λ (y : Session). edit_outcome (state_of y.state) x.name (length text) serial (Ok c)) (sym here)
 
   -- the buffer is full
   pub full_fails : (message : Message) → FullAt ks x s.anchor r last message → ReplacementFails d ks h last message
@@ -93,9 +93,9 @@ module _ (d : Directory) (ks : List MarkedBuffer) (h : Session) (x : WindowMarks
       let same : r ≡ t.0 = same_replacing s r (replaces s r) t.0 refl t.1 in
       ap (λ (q : List ℕ). outcome (view (world_of d ks xs next) (session_of ks h)) (Run (Alter (replacement last)) None q) true) (t.2 ∙ ap (λ (v : Replacing). v.put) (sym same))
       ∙ comes_to c full.plan xs next
-      ∙ ap (λ (q : Change). edit_outcome (own_of h.own) x.name (length text) serial (Ok q)) (change_read last a r text full.done anchored full.plan)
-      ∙ ap (λ (q : Bool). cond q (fails (own_of h.own) BufferFull) (finished (own_of h.own) (finish_met (length r.pattern) full.done.next (cond full.done.replaces (Some (a + length (put_by full.done.replaces r.put))) None) (one_met full.done.replaces)) (edit_of x.name (taken a (to_by full.done.replaces a r.pattern) (put_by full.done.replaces r.put))))) full.full
-      ∙ ap (fails (own_of h.own)) (sym full.told)
+      ∙ ap (λ (q : Change). edit_outcome (state_of h.state) x.name (length text) serial (Ok q)) (change_read last a r text full.done anchored full.plan)
+      ∙ ap (λ (q : Bool). cond q (fails (state_of h.state) BufferFull) (finished (state_of h.state) (finish_met (length r.pattern) full.done.next (cond full.done.replaces (Some (a + length (put_by full.done.replaces r.put))) None) (one_met full.done.replaces)) (edit_of x.name (taken a (to_by full.done.replaces a r.pattern) (put_by full.done.replaces r.put))))) full.full
+      ∙ ap (fails (state_of h.state)) (sym full.told)
 
   -- it is planned
   module _ (p : Planned) (planned : PlannedAt ks x s.anchor r last p) where
@@ -105,7 +105,7 @@ module _ (d : Directory) (ks : List MarkedBuffer) (h : Session) (x : WindowMarks
     abbrev e : Edited
     e = edit_planned (length text) a r b
 
-    put_is : (q : Bool) → put_of q h.own.search ≡ put_by q r.put
+    put_is : (q : Bool) → put_of q h.state.search ≡ put_by q r.put
     put_is q = ap (put_of q) held
 
     facts : (m : ℕ) → p.plan.next ≡ Some m → (m + length r.pattern ≤ length text - (e.to - a) + e.added) × (0 < length r.pattern → length text - (e.to - a) + e.added - min m (length text - (e.to - a) + e.added) < length text - a)
@@ -130,17 +130,17 @@ module _ (d : Directory) (ks : List MarkedBuffer) (h : Session) (x : WindowMarks
     left q = cond b (Some (q.from + q.added)) None
 
     known_at : (q : Edited) → q ≡ e → is_full (length text) serial (taken q.from q.to (put_by b r.put)) ≡ false → (xs : List Session) (next : Option ℕ)
-        → outcome (view (world_of d ks xs next) (session_of ks h)) replaces_it true ≡ finished (own_of h.own) (finish_met (length r.pattern) p.plan.next (left q) (one_met b)) (edit_of x.name (taken q.from q.to (put_of b h.own.search)))
+        → outcome (view (world_of d ks xs next) (session_of ks h)) replaces_it true ≡ finished (state_of h.state) (finish_met (length r.pattern) p.plan.next (left q) (one_met b)) (edit_of x.name (taken q.from q.to (put_of b h.state.search)))
     known_at q same room xs next =
-        let own = own_of h.own in
-        let does : Edited → Outcome = λ z. finished own (finish_met (length r.pattern) p.plan.next (left z) (one_met b)) (edit_of x.name (taken z.from z.to (put_by b r.put))) in
+        let state = state_of h.state in
+        let does : Edited → Outcome = λ z. finished state (finish_met (length r.pattern) p.plan.next (left z) (one_met b)) (edit_of x.name (taken z.from z.to (put_by b r.put))) in
         comes_to (replacement_read a (length r.pattern) r.put p.plan) planned.plan xs next
-        ∙ ap (λ (c : Change). edit_outcome own x.name (length text) serial (Ok c)) (change_read last a r text p.plan anchored planned.plan)
-        ∙ ap (λ (z : Edited). cond (is_full (length text) serial (taken z.from z.to (put_by b r.put))) (fails own BufferFull) (does z)) (sym same)
-        ∙ ap (λ (full : Bool). cond full (fails own BufferFull) (does q)) room
-        ∙ ap (λ (put : List ℕ). finished own (finish_met (length r.pattern) p.plan.next (left q) (one_met b)) (edit_of x.name (taken q.from q.to put))) (sym (put_is b))
+        ∙ ap (λ (c : Change). edit_outcome state x.name (length text) serial (Ok c)) (change_read last a r text p.plan anchored planned.plan)
+        ∙ ap (λ (z : Edited). cond (is_full (length text) serial (taken z.from z.to (put_by b r.put))) (fails state BufferFull) (does z)) (sym same)
+        ∙ ap (λ (full : Bool). cond full (fails state BufferFull) (does q)) room
+        ∙ ap (λ (put : List ℕ). finished state (finish_met (length r.pattern) p.plan.next (left q) (one_met b)) (edit_of x.name (taken q.from q.to put))) (sym (put_is b))
 
-pub plans_it : (d : Directory) (ks : List MarkedBuffer) (h : Session) (s : Search) (r : Replacing) (last : Bool) (p : Planned) → IsSought d ks h true p.window_marks → h.own.search ≡ Some (replaces s r) → PlannedAt ks p.window_marks s.anchor r last p → IsPlanned d ks h last p
+pub plans_it : (d : Directory) (ks : List MarkedBuffer) (h : Session) (s : Search) (r : Replacing) (last : Bool) (p : Planned) → IsSought d ks h true p.window_marks → h.state.search ≡ Some (replaces s r) → PlannedAt ks p.window_marks s.anchor r last p → IsPlanned d ks h last p
 plans_it d ks h s r last p sought held planned =
     let x = p.window_marks in
     let size = length (marked_at x.name ks).buffer.text in
@@ -173,8 +173,8 @@ pub sought_fails : (d : Directory) (ks : List MarkedBuffer) (h : Session) (last 
 sought_fails d ks h last message all xs next typed is = all SkipMatch last xs next typed (λ text a. refl)
 
 -- by what the planner answers
-module _ (d : Directory) (ks : List MarkedBuffer) (h : Session) (x : WindowMarks) (s : Search) (r : Replacing) (last : Bool) (sought : IsSought d ks h true x) (is : h.own.search ≡ Some s) (aim : s.aim ≡ Replace r) (result : Result Planned Message) where
-  held_so_far : h.own.search ≡ Some (replaces s r)
+module _ (d : Directory) (ks : List MarkedBuffer) (h : Session) (x : WindowMarks) (s : Search) (r : Replacing) (last : Bool) (sought : IsSought d ks h true x) (is : h.state.search ≡ Some s) (aim : s.aim ≡ Replace r) (result : Result Planned Message) where
+  held_so_far : h.state.search ≡ Some (replaces s r)
   held_so_far = is ∙ ap (λ (a : Aim). let t : Search = record s { aim = a } in Some t) aim
 
   pub planned_ok : IfOk result (λ p. p.window_marks ≡ x) → IfOk result (λ p. PlannedAt ks x s.anchor r last p) → IfOk result (λ p. IsPlanned d ks h last p)

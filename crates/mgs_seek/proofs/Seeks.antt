@@ -1,18 +1,18 @@
 -- An incremental search goes on or is quit: that what is done is the act.
-use Rattle.std.proofs.Common.{◌≡◌, ℕ, zero, suc, ◌+◌, ◌≤◌, min, Bool, true, false, cond, List, [], ◌∷◌, length, map, Option, Some, None, refl, sym, ap, subst, ◌∙◌}
+use Rattle.std.proofs.Common.{◌≡◌, ℕ, zero, suc, ◌+◌, ◌≤◌, min, Bool, true, false, cond, List, [], ◌∷◌, length, map, Option, Some, None, is_none, refl, sym, ap, subst, ◌∙◌}
 use Rattle.std.proofs.Math.Nat.{min-eq_left}
 use Rattle.std.specs.Prelude.{slice_get, Result, Ok}
 use Rattle.std.specs.Option.{option_and_then}
 use Rattle.mgs_model.specs.Access.{Directory}
 use Rattle.mgs_model.specs.Names.{same_name}
-use Rattle.mgs_model.specs.World.{Buffer, Own}
+use Rattle.mgs_model.specs.World.{Buffer, State}
 use Rattle.mgs_model.specs.World as model
 use Rattle.mgs_model.specs.View.{view}
 use Rattle.mgs_model.specs.Outcome.{Anchor_at, Adjust, At, At_origin, Keep, Keep_kill, Keep_mark, No_effect, No_search, Outcome, Run}
 use Rattle.mgs_model.specs.Plans as plans
-use Rattle.mgs_model.specs.Plans.{Failing, Finish, Goes_on, acted_own, failed_own, motion}
-use Rattle.mgs_model.specs.Searching.{Sought, is_looking, is_none, looked_for, places_after}
-use Rattle.mgs_model.specs.Acts.{moved_by, finished, finished_own, mode_left, outcome}
+use Rattle.mgs_model.specs.Plans.{Failing, Finish, Goes_on, acted_state, failed_state, motion}
+use Rattle.mgs_model.specs.Searching.{Sought, is_looking, looked_for, places_after}
+use Rattle.mgs_model.specs.Acts.{moved_by, finished, finished_state, mode_left, outcome}
 use Rattle.mgs_model.specs.Apply.{change_at, change_first, searches, session_arranged, window_adjusted}
 use Rattle.mgs_model.specs.declared.message.Message.{Message}
 use Rattle.mgs_model.specs.declared.message.Message.TheVariants.{Quitting, Silent}
@@ -39,8 +39,8 @@ use Rattle.mgs_seek.specs.Seekers.{gone_back, origin_plan, places_at, search_ste
 use Rattle.mgs_world.specs.Sound.{IsSessionSound}
 use Rattle.mgs_seek.specs.Acting.{Does, IsSought, SearchFails, as_is}
 use Rattle.mgs_world.specs.Only.{OnlyThis, nothing_held}
-use Rattle.mgs_seek.proofs.Lifts.{does_fail, gone_does, gone_here, in_this, marks_held, only_gone, only_own}
-use Rattle.mgs_world.specs.Worlds.{buffers_of, own_of, search_of, session_of, size_named, window_of, window_shown, world_of}
+use Rattle.mgs_seek.proofs.Lifts.{does_fail, gone_does, gone_here, in_this, marks_held, only_gone, only_state}
+use Rattle.mgs_world.specs.Worlds.{buffers_of, state_of, search_of, session_of, size_named, window_of, window_shown, world_of}
 use Rattle.mgs_world.proofs.Edits.{size_kept}
 use Rattle.mgs_world.proofs.Marks.{same_is}
 use Rattle.mgs_world.proofs.Soundness.{mark_is_kept}
@@ -51,16 +51,16 @@ use Rattle.mgs_seek.proofs.Comes.{come_here}
 -- A STEP
 
 -- what the step tells of the search's mode is what the session holds then
-own_left : (b l : Bool) (s : Seeker) (a : ℕ) (h : Session)
+state_left : (b l : Bool) (s : Seeker) (a : ℕ) (h : Session)
     → (let failing : Bool = cond b l s.sought.failing in
-    let own : Own = own_of (searching (sought_by s) h).own in
-    mode_left (cond b (Failing failing) Goes_on) (own.count + 0) own.todo (record (acted_own own) { echo = Silent; kind = Other }) ≡ own_of (session_sought (record s { anchor = a; sought = record s.sought { failing = failing } }) h).own)
-own_left true l s a h = refl
-own_left false l s a h = refl
+    let state : State = state_of (searching (sought_by s) h).state in
+    mode_left (cond b (Failing failing) Goes_on) (state.count + 0) state.todo (record (acted_state state) { echo = Silent; kind = Other }) ≡ state_of (session_sought (record s { anchor = a; sought = record s.sought { failing = failing } }) h).state)
+state_left true l s a h = refl
+state_left false l s a h = refl
 
 -- the session is one that searches
-pub held_so : (h : Session) (s : Search) → h.own.search ≡ Some s → h ≡ searching s h
-held_so h s is = ap (λ (o : Option Search). let x : Session = record h { own = record h.own { search = o } } in x) is
+pub held_so : (h : Session) (s : Search) → h.state.search ≡ Some s → h ≡ searching s h
+held_so h s is = ap (λ (o : Option Search). let x : Session = record h { state = record h.state { search = o } } in x) is
 
 -- two of one session are the same
 same_sought : (s : Seeker) (t : Search) (f : Sought) → Path (Option Search) (Some (sought_by s)) (Some t) → t.aim ≡ Find f → s.sought ≡ f
@@ -69,7 +69,7 @@ same_sought s t f same aim =
     let aims : Path Aim (Find s.sought) (Find f) = ap (λ (v : Search). v.aim) one ∙ aim in
     cc
 
-module _ (directory : Directory) (ks : List MarkedBuffer) (h : Session) (x : WindowMarks) (s : Seeker) (step : SearchStep) (sound : IsSessionSound ks h) (sought : IsSought directory ks h false x) (held : h.own.search ≡ Some (sought_by s)) where
+module _ (directory : Directory) (ks : List MarkedBuffer) (h : Session) (x : WindowMarks) (s : Seeker) (step : SearchStep) (sound : IsSessionSound ks h) (sought : IsSought directory ks h false x) (held : h.state.search ≡ Some (sought_by s)) where
   abbrev b : Buffer
   b = (marked_at x.name ks).buffer
 
@@ -91,11 +91,11 @@ module _ (directory : Directory) (ks : List MarkedBuffer) (h : Session) (x : Win
   abbrev shown : Session
   shown = searching (sought_by s) h
 
-  abbrev own : Own
-  own = own_of shown.own
+  abbrev state : State
+  state = state_of shown.state
 
   name : s.name ≡ x.name
-  name = in_this x.name h.own.search (sought_by s) sought.here held
+  name = in_this x.name h.state.search (sought_by s) sought.here held
 
   kept : HasBuffer x.name ks
   kept = mark_is_kept x.name x.point ks sought.target.marks.point
@@ -103,43 +103,43 @@ module _ (directory : Directory) (ks : List MarkedBuffer) (h : Session) (x : Win
   size : size_named s.name (buffers_of ks) ≡ length b.text
   size = ap (λ (n : List ℕ). size_named n (buffers_of ks)) name ∙ size_kept x.name ks kept
 
-  left_own : finished_own left own ≡ own_of (session_sought new h).own
-  left_own = own_left (is_looking step) (is_none (looked_for step s.sought b.text before)) s after.anchor h
+  left_state : finished_state left state ≡ state_of (session_sought new h).state
+  left_state = state_left (is_looking step) (is_none (looked_for step s.sought b.text before)) s after.anchor h
 
   abbrev found : ℕ → model.Search
   found a = record { name = s.name; origin = min s.origin (size_named s.name (buffers_of ks)); anchor = a }
 
-  step_session : after.anchor ≤ length b.text → session_of placed (session_sought new h) ≡ session_arranged (finished own left No_effect) (session_of ks shown)
+  step_session : after.anchor ≤ length b.text → session_of placed (session_sought new h) ≡ session_arranged (finished state left No_effect) (session_of ks shown)
   step_session small =
-      gone_does ks h x (At after.point) (session_sought new h).own sound sought.target.sel own (Some (found (min s.anchor (size_named s.name (buffers_of ks))))) own (Anchor_at after.anchor) left.mode 0 (λ search w. refl) (sym left_own)
+      gone_does ks h x (At after.point) (session_sought new h).state sound sought.target.sel state (Some (found (min s.anchor (size_named s.name (buffers_of ks))))) state (Anchor_at after.anchor) left.mode 0 (λ search w. refl) (sym left_state)
       (ap (λ (a : ℕ). Some (found a)) (ap (min after.anchor) size ∙ min-eq_left small)
-      ∙ (λ i. cond (searches (sym left_own i).mode) (Some (found after.anchor)) None))
+      ∙ (λ i. cond (searches (sym left_state i).mode) (Some (found after.anchor)) None))
 
   pub only_stepped : OnlyThis nothing_held ks placed h (session_sought new h)
-  only_stepped = only_gone ks h x (At after.point) (session_sought new h).own sought.target.sel sought.target.marks.point
+  only_stepped = only_gone ks h x (At after.point) (session_sought new h).state sought.target.sel sought.target.marks.point
 
   step_known : ((rest : plans.Around) → Path (Result Finish Message) (Ok left) (motion (SearchOn s.sought.direction step) b.text (seeking rest before s.sought.pattern))) → (xs : List Session) (next : Option ℕ)
-      → outcome (view (world_of directory ks xs next) (session_of ks shown)) (Run (Move (SearchOn s.sought.direction step)) None s.sought.pattern) true ≡ finished own left No_effect
+      → outcome (view (world_of directory ks xs next) (session_of ks shown)) (Run (Move (SearchOn s.sought.direction step)) None s.sought.pattern) true ≡ finished state left No_effect
   step_known planned xs next =
       let m = SearchOn s.sought.direction step in
       let w = world_of directory ks xs next in
       ap (λ (r : Option model.Search). let y : model.Session = record (session_of ks shown) { search = r } in outcome (view w y) (Run (Move m) None s.sought.pattern) true)
       (λ i. Some (record { name = name i; origin = min s.origin (size i); anchor = min s.anchor (size i) }))
-      ∙ come_here directory ks xs next shown own None s.sought.pattern false m ReplaceMatch x sought.target.sel kept sought.target.granted before refl (finished own left No_effect) (λ a name size serial old. ap (moved_by own) (sym (planned a)))
+      ∙ come_here directory ks xs next shown state None s.sought.pattern false m ReplaceMatch x sought.target.sel kept sought.target.granted before refl (finished state left No_effect) (λ a name size serial old. ap (moved_by state) (sym (planned a)))
 
-  pub step_does : after.anchor ≤ length b.text → ((rest : plans.Around) → Path (Result Finish Message) (Ok left) (motion (SearchOn s.sought.direction step) b.text (seeking rest before s.sought.pattern))) → (t : Search) (f : Sought) → h.own.search ≡ Some t → t.aim ≡ Find f
+  pub step_does : after.anchor ≤ length b.text → ((rest : plans.Around) → Path (Result Finish Message) (Ok left) (motion (SearchOn s.sought.direction step) b.text (seeking rest before s.sought.pattern))) → (t : Search) (f : Sought) → h.state.search ≡ Some t → t.aim ≡ Find f
       → Does directory ks placed h (session_sought new h) as_is (Run (Move (SearchOn f.direction step)) None f.pattern)
   step_does small planned t f is aim =
       subst (λ (g : Sought). Does directory ks placed h (session_sought new h) as_is (Run (Move (SearchOn g.direction step)) None g.pattern)) (same_sought s t f (sym held ∙ is) aim)
       (subst (λ (y : Session). Does directory ks placed y (session_sought new h) as_is (Run (Move (SearchOn s.sought.direction step)) None s.sought.pattern)) (sym (held_so h (sought_by s) held))
-      (record { left = finished own left No_effect; quiet = refl; known = step_known planned; does = step_session small }))
+      (record { left = finished state left No_effect; quiet = refl; known = step_known planned; does = step_session small }))
 
 -- A STEP THAT FAILS
 
 pub step_fails : (d : Directory) (ks : List MarkedBuffer) (h : Session) (message : Message) (step : SearchStep) (f : Sought) → SearchFails d ks h false message → Does d ks ks h (failed message h) as_is (Run (Move (SearchOn f.direction step)) None f.pattern)
 step_fails d ks h message step f all =
     let m = SearchOn f.direction step in
-    does_fail d ks h (λ own. own) (session_of ks h).search message (Run (Move m) None f.pattern) as_is refl refl (λ xs next. all m false xs next f.pattern (λ text a. refl))
+    does_fail d ks h (λ state. state) (session_of ks h).search message (Run (Move m) None f.pattern) as_is refl refl (λ xs next. all m false xs next f.pattern (λ text a. refl))
 
 -- the incremental search that a session holds
 pub held_seeker : (o : Option Search) (s : Seeker) → seeker_of o ≡ Some s → o ≡ Some (sought_by s)
@@ -195,42 +195,42 @@ module _ (ks : List MarkedBuffer) (x : WindowMarks) (kept : HasBuffer x.name ks)
       by true e = ap shown (ap (min s.origin) (sym (ap (λ (n : List ℕ). size_named n (buffers_of ks)) (same_is s.name x.name e) ∙ size_kept x.name ks kept)))
       by false e = refl
 
-abbrev quit_outcome : Own → Outcome
-quit_outcome own = record { own = failed_own Quitting own; kill = Keep_kill; arrange = Adjust At_origin Keep_mark Keep None No_search; effect = No_effect }
+abbrev quit_outcome : State → Outcome
+quit_outcome state = record { state = failed_state Quitting state; kill = Keep_kill; arrange = Adjust At_origin Keep_mark Keep None No_search; effect = No_effect }
 
 module _ (ks : List MarkedBuffer) (h : Session) (sound : IsSessionSound ks h) where
   abbrev o : Outcome
-  o = quit_outcome (own_of h.own)
+  o = quit_outcome (state_of h.state)
 
   -- each window at the selected place that shows this
   shows_is : (v : Option WindowMarks) → window_marks_of h ≡ v → (w : Window) → slice_get h.windows.windows h.windows.selected ≡ Some w → w.shows ≡ v
   shows_is v sel w is = sym (ap (option_and_then (λ (u : Window). u.shows)) is) ∙ sel
 
-  quit_so : (v : Option WindowMarks) → window_marks_of h ≡ v → session_of (gone_back v h.own.search ks) (failed Quitting h) ≡ session_arranged o (session_of ks h)
+  quit_so : (v : Option WindowMarks) → window_marks_of h ≡ v → session_of (gone_back v h.state.search ks) (failed Quitting h) ≡ session_arranged o (session_of ks h)
   quit_so None sel =
-      let search = search_of (buffers_of ks) h.own.search in
+      let search = search_of (buffers_of ks) h.state.search in
       let windows = sym (unchanged h.windows.selected (map (window_of ks) h.windows.windows))
       ∙ same_there (window_of ks) (λ w. w) (quits search) h.windows.selected h.windows.windows
       (λ w is. ap (λ (s : Option WindowMarks). window_shown ks w.height s w.rows) (shows_is None sel w is) ∙ stays_there search ks w.height w.rows ∙ sym (ap (λ (s : Option WindowMarks). quits search (window_shown ks w.height s w.rows)) (shows_is None sel w is))) in
       λ i. record (session_of ks (failed Quitting h)) { windows = windows i }
   quit_so (Some x) sel =
       let kept = mark_is_kept x.name x.point ks (marks_held ks h x sound sel).point in
-      let plan = origin_plan x.name (length (marked_at x.name ks).buffer.text) h.own.search in
-      let search = search_of (buffers_of ks) h.own.search in
+      let plan = origin_plan x.name (length (marked_at x.name ks).buffer.text) h.state.search in
+      let search = search_of (buffers_of ks) h.state.search in
       let windows = same_there (window_of ks) (point_by plan) (quits search) h.windows.selected h.windows.windows
       (λ w is. ap (λ (s : Option WindowMarks). point_by plan (window_shown ks w.height s w.rows)) (shows_is (Some x) sel w is)
-      ∙ goes_there ks x kept h.own.search w.height w.rows
+      ∙ goes_there ks x kept h.state.search w.height w.rows
       ∙ sym (ap (λ (s : Option WindowMarks). quits search (window_shown ks w.height s w.rows)) (shows_is (Some x) sel w is))) in
-      gone_here ks h x plan (failed Quitting h).own sound sel ∙ (λ i. record (session_of ks (failed Quitting h)) { windows = windows i })
+      gone_here ks h x plan (failed Quitting h).state sound sel ∙ (λ i. record (session_of ks (failed Quitting h)) { windows = windows i })
 
-  pub quit_does : (d : Directory) → Does d ks (gone_back (window_marks_of h) h.own.search ks) h (failed Quitting h) as_is (Run LeaveSearch None [])
+  pub quit_does : (d : Directory) → Does d ks (gone_back (window_marks_of h) h.state.search ks) h (failed Quitting h) as_is (Run LeaveSearch None [])
   unfolding outcome
   quit_does d = record { left = o; quiet = refl; known = λ xs next. refl; does = quit_so (window_marks_of h) refl }
 
-  only_quit : (v : Option WindowMarks) → window_marks_of h ≡ v → OnlyThis nothing_held ks (gone_back v h.own.search ks) h (failed Quitting h)
-  only_quit None sel = only_own ks h (failed Quitting h).own
+  only_quit : (v : Option WindowMarks) → window_marks_of h ≡ v → OnlyThis nothing_held ks (gone_back v h.state.search ks) h (failed Quitting h)
+  only_quit None sel = only_state ks h (failed Quitting h).state
   only_quit (Some x) sel =
-      only_gone ks h x (origin_plan x.name (length (marked_at x.name ks).buffer.text) h.own.search) (failed Quitting h).own sel (marks_held ks h x sound sel).point
+      only_gone ks h x (origin_plan x.name (length (marked_at x.name ks).buffer.text) h.state.search) (failed Quitting h).state sel (marks_held ks h x sound sel).point
 
-  pub quit_only : OnlyThis nothing_held ks (gone_back (window_marks_of h) h.own.search ks) h (failed Quitting h)
+  pub quit_only : OnlyThis nothing_held ks (gone_back (window_marks_of h) h.state.search ks) h (failed Quitting h)
   quit_only = only_quit (window_marks_of h) refl

@@ -3,12 +3,12 @@ use Rattle.std.proofs.Common.{◌≡◌, ℕ, ◌+◌, ◌<◌, ◌≤◌, ◌^�
 use Rattle.std.proofs.Math.Nat.{min-eq_left}
 use Rattle.std.specs.Prelude.{IfSome, Result, Ok}
 use Rattle.mgs_model.specs.Access.{Directory}
-use Rattle.mgs_model.specs.World.{Own}
+use Rattle.mgs_model.specs.World.{State}
 use Rattle.mgs_model.specs.World as model
 use Rattle.mgs_model.specs.View.{view}
 use Rattle.mgs_model.specs.Outcome.{No_effect, Run}
 use Rattle.mgs_model.specs.Plans as plans
-use Rattle.mgs_model.specs.Plans.{Finish, motion, stays}
+use Rattle.mgs_model.specs.Plans.{Finish, met, motion, stays}
 use Rattle.mgs_model.specs.Acts.{moved_by, counted, finished, outcome}
 use Rattle.mgs_model.specs.declared.message.Message.{Message}
 use Rattle.mgs_model.specs.declared.search.SearchPlaces.{SearchPlaces}
@@ -16,7 +16,6 @@ use Rattle.mgs_model.specs.declared.session.Command.TheVariants.{Move}
 use Rattle.mgs_model.specs.declared.session.Motion.TheVariants.{SkipMatch}
 use Rattle.mgs_buffers.specs.MarkedBuffer.{HasBuffer, MarkedBuffer, mark_at, marked_at}
 use Rattle.mgs_windows.specs.declared.WindowMarks.{WindowMarks}
-use Rattle.mgs_search.specs.Planned.{met}
 use Rattle.mgs_session.specs.Seeking.{searching, unsearched}
 use Rattle.mgs_session.specs.Sessions.{failed}
 use Rattle.mgs_session.specs.declared.Session.{Session}
@@ -28,7 +27,7 @@ use Rattle.mgs_plan.specs.Actions.{mark_gone}
 use Rattle.mgs_plan.specs.Beginning.{seeking}
 use Rattle.mgs_seek.specs.Replacing.{finish_met, if_replaces, point_met, replacing_of, session_met}
 use Rattle.mgs_world.specs.Sound.{IsSessionSound}
-use Rattle.mgs_world.specs.Worlds.{aim_count, aim_old, buffers_of, own_of, session_of, size_named, world_of}
+use Rattle.mgs_world.specs.Worlds.{aim_count, aim_old, buffers_of, state_of, session_of, size_named, world_of}
 use Rattle.mgs_world.proofs.Edits.{size_kept}
 use Rattle.mgs_world.proofs.Soundness.{mark_is_kept}
 use Rattle.mgs_seek.specs.Acting.{Does, IsSought, SearchFails, as_is}
@@ -73,9 +72,9 @@ skip_read to q old t text a b eq et ea plan rest =
 -- WHAT IS DONE
 
 -- what the planner answers is what is left
-quiet_met : (len : ℕ) (next left : Option ℕ) (n : ℕ) (own : Own) → (finished own (finish_met len next left n) No_effect).effect ≡ No_effect
-quiet_met len None left n own = refl
-quiet_met len (Some m) left n own = refl
+quiet_met : (len : ℕ) (next left : Option ℕ) (n : ℕ) (state : State) → (finished state (finish_met len next left n) No_effect).effect ≡ No_effect
+quiet_met len None left n state = refl
+quiet_met len (Some m) left n state = refl
 
 met_finish : (len : ℕ) (next : Option ℕ) → met len stays next ≡ finish_met len next None 0
 met_finish len None = refl
@@ -95,29 +94,29 @@ held_replaces (Some t) s is = by t.aim refl is
 
 pub skip_fails : (d : Directory) (ks : List MarkedBuffer) (h : Session) (message : Message) (typed : List ℕ) → SearchFails d ks h false message → Does d ks ks h (failed message h) as_is (Run (Move SkipMatch) None typed)
 skip_fails d ks h message typed all =
-    does_fail d ks h (λ own. own) (session_of ks h).search message (Run (Move SkipMatch) None typed) as_is refl refl (λ xs next. all SkipMatch false xs next typed (λ text a. refl))
+    does_fail d ks h (λ state. state) (session_of ks h).search message (Run (Move SkipMatch) None typed) as_is refl refl (λ xs next. all SkipMatch false xs next typed (λ text a. refl))
 
-module _ (d : Directory) (ks : List MarkedBuffer) (h : Session) (x : WindowMarks) (s : Search) (sound : IsSessionSound ks h) (sought : IsSought d ks h false x) (shown : replacing_of h.own.search ≡ Some s) (few : aim_count s.aim < 2 ^ 64) (to : Option ℕ) (small : IfSome to (λ m. m + length (aim_old s.aim) ≤ length (marked_at x.name ks).buffer.text)) (planned : (rest : plans.Around) → Path (Result Finish Message) (Ok (met (length (aim_old s.aim)) stays to)) (motion SkipMatch (marked_at x.name ks).buffer.text (record rest { anchor = min s.anchor (length (marked_at x.name ks).buffer.text); sought_here = true; old = aim_old s.aim }))) where
+module _ (d : Directory) (ks : List MarkedBuffer) (h : Session) (x : WindowMarks) (s : Search) (sound : IsSessionSound ks h) (sought : IsSought d ks h false x) (shown : replacing_of h.state.search ≡ Some s) (few : aim_count s.aim < 2 ^ 64) (to : Option ℕ) (small : IfSome to (λ m. m + length (aim_old s.aim) ≤ length (marked_at x.name ks).buffer.text)) (planned : (rest : plans.Around) → Path (Result Finish Message) (Ok (met (length (aim_old s.aim)) stays to)) (motion SkipMatch (marked_at x.name ks).buffer.text (record rest { anchor = min s.anchor (length (marked_at x.name ks).buffer.text); sought_here = true; old = aim_old s.aim }))) where
   abbrev text : List ℕ
   text = (marked_at x.name ks).buffer.text
 
   abbrev r : Replacing
-  r = (held_replaces h.own.search s shown).0
+  r = (held_replaces h.state.search s shown).0
 
-  held_is : h.own.search ≡ Some (replaces s r)
-  held_is = (held_replaces h.own.search s shown).1
+  held_is : h.state.search ≡ Some (replaces s r)
+  held_is = (held_replaces h.state.search s shown).1
 
   whole : s ≡ replaces s r
-  whole = (held_replaces h.own.search s shown).2
+  whole = (held_replaces h.state.search s shown).2
 
   name : s.name ≡ x.name
-  name = in_this x.name h.own.search (replaces s r) sought.here held_is
+  name = in_this x.name h.state.search (replaces s r) sought.here held_is
 
   abbrev held : Session
   held = searching (replaces s r) h
 
-  abbrev own : Own
-  own = own_of held.own
+  abbrev state : State
+  state = state_of held.state
 
   abbrev f : Finish
   f = finish_met (length r.pattern) to None 0
@@ -148,12 +147,12 @@ module _ (d : Directory) (ks : List MarkedBuffer) (h : Session) (x : WindowMarks
       ∙ planned (seeking rest places r.put)
       ∙ ap (λ (q : List ℕ). motion SkipMatch text (record (seeking rest places r.put) { old = q })) (old_is ∙ sym old)
 
-  skipped_known : (xs : List Session) (next : Option ℕ) → outcome (view (world_of d ks xs next) (session_of ks held)) (Run (Move SkipMatch) None r.put) true ≡ finished own f No_effect
+  skipped_known : (xs : List Session) (next : Option ℕ) → outcome (view (world_of d ks xs next) (session_of ks held)) (Run (Move SkipMatch) None r.put) true ≡ finished state f No_effect
   skipped_known xs next =
       let w = world_of d ks xs next in
       ap (λ (q : Option model.Search). let y : model.Session = record (session_of ks held) { search = q } in outcome (view w y) (Run (Move SkipMatch) None r.put) true)
       (λ i. Some (record { name = name i; origin = min s.origin (size i); anchor = min s.anchor (size i) }))
-      ∙ come_here d ks xs next held own None r.put false SkipMatch ReplaceMatch x sought.target.sel kept sought.target.granted places refl (finished own f No_effect) (λ a name size serial old. ap (moved_by own) (sym (planned_so a old)))
+      ∙ come_here d ks xs next held state None r.put false SkipMatch ReplaceMatch x sought.target.sel kept sought.target.granted places refl (finished state f No_effect) (λ a name size serial old. ap (moved_by state) (sym (planned_so a old)))
 
   -- as the code leaves it
   abbrev left : Search → Session
@@ -164,13 +163,13 @@ module _ (d : Directory) (ks : List MarkedBuffer) (h : Session) (x : WindowMarks
 
   skipped : Does d ks (placed (replaces s r)) held (session_met to (replaces s r) h) as_is (Run (Move SkipMatch) None r.put)
   skipped = record {
-    left = finished own f No_effect;
-    quiet = quiet_met (length r.pattern) to None 0 own;
+    left = finished state f No_effect;
+    quiet = quiet_met (length r.pattern) to None 0 state;
     known = skipped_known;
     does = met_does ks h x s r sound sought.target.sel name (length r.pattern) None r.count 0 (none_counted r.count few_so) to (within_so to small);
   }
 
-  pub skip_does : (t : Search) (u : Replacing) → h.own.search ≡ Some t → t.aim ≡ Replace u → Does d ks (placed s) h (left s) as_is (Run (Move SkipMatch) None u.put)
+  pub skip_does : (t : Search) (u : Replacing) → h.state.search ≡ Some t → t.aim ≡ Replace u → Does d ks (placed s) h (left s) as_is (Run (Move SkipMatch) None u.put)
   skip_does t u held_t aim =
       subst (λ (v : Replacing). Does d ks (placed s) h (left s) as_is (Run (Move SkipMatch) None v.put)) (same_replacing s r t u (sym held_is ∙ held_t) aim)
       (subst (λ (v : Search). Does d ks (placed v) h (left v) as_is (Run (Move SkipMatch) None r.put)) (sym whole)

@@ -3,10 +3,11 @@ use Rattle.std.specs.Prelude.{◌≡◌, ℕ, Bool, true, false, List, Option, N
 use Rattle.mgs_model.specs.Access.{Directory}
 use Rattle.mgs_model.specs.Acts.{fails, outcome}
 use Rattle.mgs_model.specs.Apply.{session_arranged}
+use Rattle.mgs_model.specs.Events.{state_set}
 use Rattle.mgs_model.specs.Outcome.{Act, No_effect, Outcome, Run}
 use Rattle.mgs_model.specs.Plans.{Around, Finish, motion}
 use Rattle.mgs_model.specs.View.{view}
-use Rattle.mgs_model.specs.World.{Own}
+use Rattle.mgs_model.specs.World.{State}
 use Rattle.mgs_model.specs.World as model
 use Rattle.mgs_model.specs.declared.entry.Decision.TheVariants.{Granted}
 use Rattle.mgs_model.specs.declared.message.Message.{Message}
@@ -15,6 +16,7 @@ use Rattle.mgs_model.specs.declared.session.Alteration.{Alteration}
 use Rattle.mgs_model.specs.declared.session.Command.{Command}
 use Rattle.mgs_model.specs.declared.session.Command.TheVariants.{Alter, Move}
 use Rattle.mgs_model.specs.declared.session.Motion.{Motion}
+use Rattle.mgs_model.specs.declared.session.Motion.TheVariants.{StartReplace}
 use Rattle.mgs_buffers.specs.MarkedBuffer.{MarkedBuffer}
 use Rattle.mgs_windows.specs.declared.WindowMarks.{WindowMarks}
 use Rattle.mgs_session.specs.Seeking.{is_search_in}
@@ -22,8 +24,8 @@ use Rattle.mgs_session.specs.Sessions.{window_marks_of}
 use Rattle.mgs_session.specs.declared.Session.{Session}
 use Rattle.mgs_plan.specs.Actions.{AreMarks}
 use Rattle.mgs_plan.specs.Inserting.{rights_decision}
-use Rattle.mgs_seek.specs.Replacing.{replacement}
-use Rattle.mgs_world.specs.Worlds.{own_of, session_of, world_of}
+use Rattle.mgs_seek.specs.Replacing.{replacement, replacing_state}
+use Rattle.mgs_world.specs.Worlds.{state_of, session_of, world_of}
 
 -- a session as it is seen, and with what begins
 abbrev pub as_is : model.Session → model.Session
@@ -35,6 +37,14 @@ pub record Does (d : Directory) (ks ls : List MarkedBuffer) (x y : Session) (see
   pub quiet : left.effect ≡ No_effect
   pub known : (xs : List Session) (next : Option ℕ) → outcome (view (world_of d ks xs next) (seen (session_of ks x))) c true ≡ left
   pub does : session_of ls y ≡ session_arranged left (seen (session_of ks x))
+
+-- it begins to replace a pattern
+abbrev pub DoesStart : Directory → List MarkedBuffer → List MarkedBuffer → Session → Session → List ℕ → List ℕ → Type 0
+DoesStart d ks ls x y pattern put = Does d ks ls x y (state_set (replacing_state pattern put)) (Run (Move StartReplace) None put)
+
+-- the world is as it was
+abbrev pub IsSameWorld : Directory → List MarkedBuffer → List MarkedBuffer → List Session → List Session → Type 0
+IsSameWorld d ks ls xs ys = (next : Option ℕ) → world_of d ls ys next ≡ world_of d ks xs next
 
 -- WHERE IT ACTS: it reads the text, or writes it too
 abbrev pub mask_of : Bool → ℕ
@@ -52,15 +62,15 @@ pub record IsTarget (d : Directory) (ks : List MarkedBuffer) (h : Session) (writ
 -- its search is there
 pub record IsSought (d : Directory) (ks : List MarkedBuffer) (h : Session) (writes : Bool) (x : WindowMarks) : Type 0 where
   pub target : IsTarget d ks h writes x
-  pub here : is_search_in x.name h.own.search ≡ true
+  pub here : is_search_in x.name h.state.search ≡ true
 
 -- every act fails by which it reads, or writes
 abbrev pub Fails : Directory → List MarkedBuffer → Session → Bool → Message → Type 0
-Fails d ks h writes message = (m : Motion) (k : Alteration) (xs : List Session) (next : Option ℕ) (own : Own) (search : Option model.Search) (n : Option ℕ) (typed : List ℕ)
-    → (let y : model.Session = record (session_of ks h) { search = search; own = own } in outcome (view (world_of d ks xs next) y) (Run (command_of writes m k) n typed) true ≡ fails own message)
+Fails d ks h writes message = (m : Motion) (k : Alteration) (xs : List Session) (next : Option ℕ) (state : State) (search : Option model.Search) (n : Option ℕ) (typed : List ℕ)
+    → (let y : model.Session = record (session_of ks h) { search = search; state = state } in outcome (view (world_of d ks xs next) y) (Run (command_of writes m k) n typed) true ≡ fails state message)
 
 -- every act by which its search goes on, or replaces
 abbrev pub SearchFails : Directory → List MarkedBuffer → Session → Bool → Message → Type 0
 SearchFails d ks h writes message = (m : Motion) (last : Bool) (xs : List Session) (next : Option ℕ) (typed : List ℕ)
     → ((text : List ℕ) (a : Around) → Path (Result Finish Message) (motion m text (record a { sought_here = false })) (Err NoBuffer))
-    → outcome (view (world_of d ks xs next) (session_of ks h)) (Run (command_of writes m (replacement last)) None typed) true ≡ fails (own_of h.own) message
+    → outcome (view (world_of d ks xs next) (session_of ks h)) (Run (command_of writes m (replacement last)) None typed) true ≡ fails (state_of h.state) message

@@ -3,9 +3,10 @@ use Rattle.std.specs.Prelude.{◌≡◌, ℕ, ◌+◌, ◌-◌, ◌<◌, ◌≤�
 use Rattle.std.specs.List.{position_or_len}
 use Rattle.mgs_model.specs.Access.{Directory}
 use Rattle.mgs_model.specs.Acts.{edit_of, fails, finished, is_full, outcome}
-use Rattle.mgs_model.specs.Apart.{touched_by}
+use Rattle.mgs_laws.specs.Apart.{touched_by}
 use Rattle.mgs_model.specs.Apply.{act, outcome_in}
-use Rattle.mgs_model.specs.Events.{may_be_refused, with_own}
+use Rattle.mgs_model.specs.Events.{with_state}
+use Rattle.mgs_laws.specs.Refusals.{may_be_refused}
 use Rattle.mgs_model.specs.Outcome.{Run}
 use Rattle.mgs_model.specs.Plans as plans
 use Rattle.mgs_model.specs.Plans.{alteration}
@@ -32,9 +33,9 @@ use Rattle.mgs_plan.specs.Beginning.{search_held}
 use Rattle.mgs_plan.specs.Following.{edit_told, followed}
 use Rattle.mgs_plan.specs.Inserting.{rights_decision}
 use Rattle.mgs_plan.specs.Tells.{touched_in}
-use Rattle.mgs_world.specs.Worlds.{aim_input, aim_old, own_of, session_id, session_of, world_of}
+use Rattle.mgs_world.specs.Worlds.{aim_input, aim_old, state_of, session_id, session_of, world_of}
 use Rattle.mgs_seek.specs.Acting.{Does, IsSought, as_is}
-use Rattle.mgs_seek.specs.Replacing.{finish_met, point_met, remaining_at, replacement, replacing_own, search_counted, session_met, taken}
+use Rattle.mgs_seek.specs.Replacing.{finish_met, point_met, remaining_at, replacement, replacing_state, search_counted, session_met, taken}
 use Rattle.mgs_seek.specs.declared.replacing.Planned.{Planned}
 
 -- WHAT IS TAKEN OUT, AND PUT IN, where there is a match or none
@@ -66,7 +67,7 @@ change_planned p o = taken p.edit.from p.edit.to (put_of p.plan.replaces o)
 
 -- what is done for a session is the act of its query-replace that skips a match
 abbrev pub SkipDone : Directory → List MarkedBuffer → List MarkedBuffer → Session → Session → Type 0
-SkipDone d ks ls x y = (s : Search) (r : Replacing) → x.own.search ≡ Some s → s.aim ≡ Replace r → Does d ks ls x y as_is (Run (Move SkipMatch) None r.put)
+SkipDone d ks ls x y = (s : Search) (r : Replacing) → x.state.search ≡ Some s → s.aim ≡ Replace r → Does d ks ls x y as_is (Run (Move SkipMatch) None r.put)
 
 -- whether a change finds the buffer of a name full
 abbrev pub is_full_in : List MarkedBuffer → List ℕ → plans.Change → Bool
@@ -109,10 +110,10 @@ pub record CanPerform (d : Directory) (ks : List MarkedBuffer) (h : Session) (p 
   pub order : p.edit.from ≤ p.edit.to
   pub within : p.edit.to ≤ length (marked_at p.window_marks.name ks).buffer.text
   pub size : p.edit.size ≡ length (marked_at p.window_marks.name ks).buffer.text
-  pub added : length (put_of p.plan.replaces h.own.search) ≡ p.edit.added
+  pub added : length (put_of p.plan.replaces h.state.search) ≡ p.edit.added
   pub few : p.edit.added ≤ 120
-  pub room : is_full_in ks p.window_marks.name (change_planned p h.own.search) ≡ false
-  pub next : IfSome p.plan.next (λ m. m + length (old_of h.own.search) ≤ size_then p (length (marked_at p.window_marks.name ks).buffer.text))
+  pub room : is_full_in ks p.window_marks.name (change_planned p h.state.search) ≡ false
+  pub next : IfSome p.plan.next (λ m. m + length (old_of h.state.search) ≤ size_then p (length (marked_at p.window_marks.name ks).buffer.text))
 
 -- where the point is without a next match
 abbrev pub left_at : Planned → Option ℕ
@@ -132,9 +133,9 @@ pub record IsPlanned (d : Directory) (ks : List MarkedBuffer) (h : Session) (las
   pub can : CanPerform d ks h p
   pub s : Search
   pub r : Replacing
-  pub held : (let t : Search = record s { aim = Replace r } in h.own.search ≡ Some t)
+  pub held : (let t : Search = record s { aim = Replace r } in h.state.search ≡ Some t)
   pub count : r.count < 2 ^ 64
-  pub known : (xs : List Session) (next : Option ℕ) → outcome (view (world_of d ks xs next) (session_of ks h)) (Run (Alter (replacement last)) None r.put) true ≡ finished (own_of h.own) (finish_met (length r.pattern) p.plan.next (left_at p) (one_met p.plan.replaces)) (edit_of p.window_marks.name (change_planned p h.own.search))
+  pub known : (xs : List Session) (next : Option ℕ) → outcome (view (world_of d ks xs next) (session_of ks h)) (Run (Alter (replacement last)) None r.put) true ≡ finished (state_of h.state) (finish_met (length r.pattern) p.plan.next (left_at p) (one_met p.plan.replaces)) (edit_of p.window_marks.name (change_planned p h.state.search))
   pub less : 0 < length r.pattern → (let size = length (marked_at p.window_marks.name ks).buffer.text in IsLess p size (min s.anchor size))
 
 -- the next match lies within the text
@@ -145,7 +146,7 @@ NextFits ks o p = IfSome p.plan.next (λ m. m + length (old_of o) ≤ length (ma
 abbrev pub IsStarted : Directory → List MarkedBuffer → List MarkedBuffer → List Session → List Session → ℕ → List ℕ → List ℕ → Type 0
 IsStarted d ks ls xs ys at pattern put =
     (id : ℕ) (next : Option ℕ) → at ≡ position_or_len (session_id id) xs
-    → world_of d ls ys next ≡ act (with_own id (replacing_own pattern put) (world_of d ks xs next)) id (Run (Move StartReplace) None put) true
+    → world_of d ls ys next ≡ act (with_state id (replacing_state pattern put) (world_of d ks xs next)) id (Run (Move StartReplace) None put) true
 
 abbrev pub IsSkipped : Directory → List MarkedBuffer → List MarkedBuffer → List Session → List Session → ℕ → Type 0
 IsSkipped d ks ls xs ys at =
@@ -157,8 +158,8 @@ abbrev pub IsTyped : Option Search → List ℕ → Type 0
 IsTyped o typed = (s : Search) → o ≡ Some s → (r : Replacing) × (s.aim ≡ Replace r) × (typed ≡ r.put)
 
 abbrev pub ReplacementFails : Directory → List MarkedBuffer → Session → Bool → Message → Type 0
-ReplacementFails d ks h last message = (xs : List Session) (next : Option ℕ) (typed : List ℕ) → IsTyped h.own.search typed
-    → outcome (view (world_of d ks xs next) (session_of ks h)) (Run (Alter (replacement last)) None typed) true ≡ fails (own_of h.own) message
+ReplacementFails d ks h last message = (xs : List Session) (next : Option ℕ) (typed : List ℕ) → IsTyped h.state.search typed
+    → outcome (view (world_of d ks xs next) (session_of ks h)) (Run (Alter (replacement last)) None typed) true ≡ fails (state_of h.state) message
 
 -- WHAT IS DONE: in its session, which was taken this search
 abbrev pub counted_if : Bool → Search → Search
@@ -183,13 +184,13 @@ touched_edit name None = Nowhere
 touched_edit name (Some e) = In name
 
 abbrev pub edit_of_plan : Planned → Session → Option Edited
-edit_of_plan p h = edit_told p.edit.size (change_planned p h.own.search)
+edit_of_plan p h = edit_told p.edit.size (change_planned p h.state.search)
 
 pub record IsDone (at : ℕ) (p : Planned) (h : Session) (ks ls : List MarkedBuffer) (xs ys : List Session) (touched : Touched) : Type 0 where
   pub left : Session
-  pub done : (s : Search) → h.own.search ≡ Some s → IsLeft p (search_after p.window_marks.name (edit_of_plan p h) s) (edited_by p.window_marks.name (change_planned p h.own.search) ks) ls (session_after p.window_marks.name (edit_of_plan p h) h) left
+  pub done : (s : Search) → h.state.search ≡ Some s → IsLeft p (search_after p.window_marks.name (edit_of_plan p h) s) (edited_by p.window_marks.name (change_planned p h.state.search) ks) ls (session_after p.window_marks.name (edit_of_plan p h) h) left
   pub sessions : ys ≡ slice_set (followed p.window_marks.name (edit_of_plan p h) xs) at left
-  pub tells : touched ≡ touched_by (edit_of p.window_marks.name (change_planned p h.own.search))
+  pub tells : touched ≡ touched_by (edit_of p.window_marks.name (change_planned p h.state.search))
 
 -- and the same of the session at an index
 abbrev pub IsDoneAt : ℕ → Planned → List MarkedBuffer → List MarkedBuffer → List Session → List Session → Touched → Type 0

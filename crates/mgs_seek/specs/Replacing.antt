@@ -5,7 +5,7 @@ use Rattle.mgs_model.specs.Acts.{counted, without_all}
 use Rattle.mgs_model.specs.Outcome.{Anchor_at, At, Keep, Keep_search, PointPlan, SearchPlan}
 use Rattle.mgs_model.specs.Plans as plans
 use Rattle.mgs_model.specs.Plans.{stays}
-use Rattle.mgs_model.specs.World.{Own}
+use Rattle.mgs_model.specs.World.{State}
 use Rattle.mgs_model.specs.declared.message.Message.TheVariants.{Replaced}
 use Rattle.mgs_model.specs.declared.session.Alteration.{Alteration}
 use Rattle.mgs_model.specs.declared.session.Alteration.TheVariants.{ReplaceMatch, ReplaceLast}
@@ -22,8 +22,8 @@ use Rattle.mgs_plan.specs.Beginning.{search_held}
 use Rattle.mgs_world.specs.Worlds.{aim_count, buffers_of, size_named}
 
 -- it begins with this text, which comes in the place of that one
-abbrev pub replacing_own : List ℕ → List ℕ → Own → Own
-replacing_own old put own = record own { mode = Replacing; input = put; old = old; count = 0 }
+abbrev pub replacing_state : List ℕ → List ℕ → State → State
+replacing_state old put state = record state { mode = Replacing; input = put; old = old; count = 0 }
 
 -- one more is replaced, and whether the next match is looked for
 abbrev pub replacement : Bool → Alteration
@@ -67,7 +67,7 @@ is_change c = is_edit c.a c.b c.put
 
 -- it is over after so many replacements
 abbrev pub session_over : ℕ → Session → Session
-session_over n h = playing_as (record h.own.player { todo = without_all h.own.player.todo }) (told (Replaced n) (acted Other (resting h)))
+session_over n h = playing_as (record h.state.player { todo = without_all h.state.player.todo }) (told (Replaced n) (acted Other (resting h)))
 
 abbrev pub session_met : Option ℕ → Search → Session → Session
 session_met None s h = session_over (aim_count s.aim) h

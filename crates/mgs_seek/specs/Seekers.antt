@@ -3,7 +3,7 @@ use Rattle.std.specs.Prelude.{◌≡◌, ℕ, true, min, List, [], length, Optio
 use Rattle.std.specs.List.{position_or_len}
 use Rattle.mgs_model.specs.Access.{Directory}
 use Rattle.mgs_model.specs.Apply.{act}
-use Rattle.mgs_model.specs.Events.{own_set, with_own}
+use Rattle.mgs_model.specs.Events.{state_set, with_state}
 use Rattle.mgs_model.specs.Names.{same_name}
 use Rattle.mgs_model.specs.Outcome.{PointPlan, Keep, At, Run}
 use Rattle.mgs_model.specs.Plans.{Around, Finish, motion}
@@ -13,7 +13,7 @@ use Rattle.mgs_model.specs.declared.search.Direction.{Direction}
 use Rattle.mgs_model.specs.declared.session.Command.TheVariants.{LeaveSearch, Move}
 use Rattle.mgs_model.specs.declared.session.Motion.TheVariants.{SearchOn, StartSearch}
 use Rattle.mgs_search.specs.Planned.{stepped}
-use Rattle.mgs_plan.specs.Beginning.{search_held, searching_own, seeking}
+use Rattle.mgs_plan.specs.Beginning.{search_held, searching_state, seeking}
 use Rattle.mgs_seek.specs.Acting.{Does, as_is}
 use Rattle.mgs_model.specs.declared.search.SearchPlaces.{SearchPlaces}
 use Rattle.mgs_model.specs.declared.search.SearchStep.{SearchStep}
@@ -62,7 +62,7 @@ IsStep ks x s step = (rest : Around)
 
 -- what is done for a session is the act of its incremental search
 abbrev pub StepDone : Directory → List MarkedBuffer → List MarkedBuffer → Session → Session → SearchStep → Type 0
-StepDone d ks ls x y step = (s : Search) (f : Sought) → x.own.search ≡ Some s → s.aim ≡ Find f → Does d ks ls x y as_is (Run (Move (SearchOn f.direction step)) None f.pattern)
+StepDone d ks ls x y step = (s : Search) (f : Sought) → x.state.search ≡ Some s → s.aim ≡ Find f → Does d ks ls x y as_is (Run (Move (SearchOn f.direction step)) None f.pattern)
 
 -- the incremental search that a session holds
 abbrev pub seeker_of : Option Search → Option Seeker
@@ -92,12 +92,12 @@ point_sought x s step ks = mark_gone x.name x.point (At (step_ends ks x s step).
 
 -- THE ACTS by which an incremental search begins: in a session, and in the world
 abbrev pub Begins : Directory → List MarkedBuffer → Session → Session → Direction → Type 0
-Begins d ks x y direction = (n : Option ℕ) → Does d ks ks x y (own_set (searching_own direction)) (Run (Move (StartSearch direction)) n [])
+Begins d ks x y direction = (n : Option ℕ) → Does d ks ks x y (state_set (searching_state direction)) (Run (Move (StartSearch direction)) n [])
 
 abbrev pub IsBegun : Directory → List MarkedBuffer → List Session → List Session → ℕ → Direction → Type 0
 IsBegun d ks xs ys at direction =
     (id : ℕ) (next n : Option ℕ) → at ≡ position_or_len (session_id id) xs
-    → world_of d ks ys next ≡ act (with_own id (searching_own direction) (world_of d ks xs next)) id (Run (Move (StartSearch direction)) n []) true
+    → world_of d ks ys next ≡ act (with_state id (searching_state direction) (world_of d ks xs next)) id (Run (Move (StartSearch direction)) n []) true
 
 -- and by which it goes on, and is quit
 abbrev pub IsSoughtOn : Directory → List MarkedBuffer → List MarkedBuffer → List Session → List Session → ℕ → SearchStep → Type 0

@@ -1,11 +1,7 @@
 // A query-replace: it begins, a match is skipped or replaced, and it is over where no match is left.
 ghost use Rattle.std.specs.Prelude.{IfErr, Ok, ◌≡◌, ℕ, ◌+◌, ◌<◌, ◌≤◌, ◌^◌, List, length, Option, Some, None, IfOk, IfSome, OnOk, OnErr, true, false, slice_get};
 ghost use Rattle.mgs_model.specs.Acts.{is_full};
-ghost use Rattle.mgs_model.specs.Events.{own_set};
-ghost use Rattle.mgs_model.specs.Outcome.{Run};
 ghost use Rattle.mgs_model.specs.Text.{is_edit};
-ghost use Rattle.mgs_model.specs.declared.session.Command.TheVariants.{Move};
-ghost use Rattle.mgs_model.specs.declared.session.Motion.TheVariants.{StartReplace};
 ghost use Rattle.mgs_model.specs.declared.touched.Touched.TheVariants.{Nowhere};
 ghost use Rattle.mgs_buffers.specs.MarkedBuffer.{HasBuffer, IsMark, marked_at};
 ghost use Rattle.mgs_session.specs.Seeking.{unsearched};
@@ -16,12 +12,12 @@ ghost use Rattle.mgs_session.specs.declared.search.Search.{Search};
 ghost use Rattle.mgs_plan.specs.Actions.{edited_by, mark_gone};
 ghost use Rattle.mgs_plan.specs.Beginning.{search_held};
 ghost use Rattle.mgs_plan.specs.Following.{CanFollow, edit_told};
-ghost use Rattle.mgs_seek.specs.Replacing.{if_replaces, is_change, point_met, replacing_of, replacing_own, search_counted, session_met, session_over, taken};
+ghost use Rattle.mgs_seek.specs.Replacing.{if_replaces, is_change, point_met, replacing_of, search_counted, session_met, session_over, taken};
 ghost use Rattle.mgs_seek.specs.Planning.{CanPerform, FullAt, IsDoneAt, IsFurther, IsLeft, IsRefusable, IsReplaced, IsSkipped, IsStarted, IsToldBy, IsUnsought, MayWrite, NextFits, IsPlan, IsPlanned, PlannedAt, ReplacementFails, SkipDone, change_planned, counted_if, edit_planned, is_full_in, put_of, touched_edit};
-ghost use Rattle.mgs_seek.specs.Acting.{Does};
+ghost use Rattle.mgs_seek.specs.Acting.{DoesStart, IsSameWorld};
 ghost use Rattle.mgs_world.specs.Only.{OnlyThis, nothing_held};
 ghost use Rattle.mgs_world.specs.Sound.{IsSessionSound, IsSound};
-ghost use Rattle.mgs_world.specs.Worlds.{aim_count, aim_input, aim_old, idle, own_at, own_of, world_of};
+ghost use Rattle.mgs_world.specs.Worlds.{aim_count, aim_input, aim_old, idle, state_at, state_of};
 
 use crate::target::{go_on, mask, sought, target};
 use mgs_buffers::{Buffers, EditFault};
@@ -31,8 +27,8 @@ use mgs_plan::follow;
 use mgs_policy::Directory;
 use mgs_search::{Replacement, begin_replacing, replace_last, replace_match, skip_match};
 use mgs_session::{
-    Aim, Edited, Replacing, Search, SearchString, Session, fail, hold_search, rest,
-    selected_window_marks, set_echo, set_kind, take_search,
+    Aim, Edited, Replacing, Search, SearchString, Session, fail, rest, set_echo, set_kind,
+    take_search,
 };
 use mgs_text::Text;
 use mgs_windows::WindowMarks;
@@ -92,7 +88,7 @@ fn if_replaces(search: Search) -> Option<Search>
 
 /// The query-replace of a session, which is taken out.
 fn take_replacing(session: &mut Session) -> Option<Search>
-    ensures search { result ≡ replacing_of session.old.own.search }
+    ensures search { result ≡ replacing_of session.old.state.search }
     ensures rest { session.new ≡ unsearched session.old }
 {
     match take_search(session) {
@@ -108,7 +104,7 @@ fn end(session: &mut Session, search: &Search)
     rest(session);
     set_kind(session, Kind::Other);
     set_echo(session, Message::Replaced(replaced_count(search)));
-    session.own.player.end_replacing();
+    session.state.player.end_replacing();
 }
 
 /// It is at its next match, or over where there is none.
@@ -253,7 +249,7 @@ fn plan_in<T: Marked + Drop>(
 {
     match sought(buffers, directory, session, true) {
         Err(message) => Err(message),
-        Ok(window_marks) => match &session.own.search {
+        Ok(window_marks) => match &session.state.search {
             None => Err(Message::NoBuffer),
             Some(search) => match &search.aim {
                 Aim::Find(_) => Err(Message::NoBuffer),
@@ -314,9 +310,9 @@ fn if_edit(edit: Edited) -> Option<Edited>
 
 /// What comes in: what the query-replace of a session puts, where there was a match.
 fn put_of(session: &Session, replaces: bool) -> &[char]
-    ensures { result.now ≡ put_of replaces session.now.own.search }
+    ensures { result.now ≡ put_of replaces session.now.state.search }
 {
-    match &session.own.search {
+    match &session.state.search {
         Some(search) => { if replaces { put_text(search) } else { &[] } }
         None => &[],
     }
@@ -337,8 +333,8 @@ fn count_if(search: Search, replaces: bool) -> Search
 fn leave<T: Marked + Drop>(buffers: &mut Buffers<T>, session: &mut Session, planned: &Planned)
     requires mark { IsMark planned.now.window_marks.name planned.now.window_marks.point buffers.old }
     requires behind { planned.now.edit.from + planned.now.edit.added ≤ length (marked_at planned.now.window_marks.name buffers.old).buffer.text }
-    requires next { NextFits buffers.old session.old.own.search planned.now }
-    ensures { (s : Search) → session.old.own.search ≡ Some s → IsLeft planned.now s buffers.old buffers.new session.old session.new }
+    requires next { NextFits buffers.old session.old.state.search planned.now }
+    ensures { (s : Search) → session.old.state.search ≡ Some s → IsLeft planned.now s buffers.old buffers.new session.old session.new }
 {
     // For the limit of a text.
     let _size = buffers.text_len(&planned.window_marks.name);
@@ -380,7 +376,7 @@ fn perform<T: Marked + Drop>(
     requires can { (h : Session) → slice_get sessions.old at ≡ Some h → CanPerform directory.now buffers.old h planned.now }
     ensures done { IfOk result (IsDoneAt at planned.now buffers.old buffers.new sessions.old sessions.new) }
     ensures err { OnErr result ((buffers.new ≡ buffers.old) × (sessions.new ≡ sessions.old)) }
-    ensures may { OnErr result ((h : Session) → slice_get sessions.old at ≡ Some h → is_change (change_planned planned.now h.own.search) ≡ true) }
+    ensures may { OnErr result ((h : Session) → slice_get sessions.old at ≡ Some h → is_change (change_planned planned.now h.state.search) ≡ true) }
 {
     let name = &planned.window_marks.name;
     // For the limit of a text.
@@ -407,9 +403,9 @@ fn start_in<T: Marked + Drop>(
     put: SearchString,
 )
     requires sound { IsSessionSound buffers.old session.old }
-    requires fresh { own_of session.old.own ≡ idle (own_of session.old.own) }
+    requires fresh { state_of session.old.state ≡ idle (state_of session.old.state) }
     ensures only { OnlyThis nothing_held buffers.old buffers.new session.old session.new }
-    ensures does { Does directory.now buffers.old buffers.new session.old session.new (own_set (replacing_own pattern put)) (Run (Move StartReplace) None put) }
+    ensures does { DoesStart directory.now buffers.old buffers.new session.old session.new pattern put }
 {
     match target(buffers, directory, session, false) {
         Err(message) => fail(session, message),
@@ -445,7 +441,7 @@ pub fn start_replacing<T: Marked + Drop>(
 )
     requires sound { IsSound buffers.old sessions.old }
     requires within { at < length sessions.old }
-    requires fresh { own_at at sessions.old ≡ idle (own_at at sessions.old) }
+    requires fresh { state_at at sessions.old ≡ idle (state_at at sessions.old) }
     ensures sound { IsSound buffers.new sessions.new }
     ensures world { IsStarted directory.now buffers.old buffers.new sessions.old sessions.new at pattern put }
 {
@@ -508,7 +504,7 @@ pub fn replace<T: Marked + Drop>(
     ensures none { OnOk result (IsUnsought directory.now buffers.old buffers.new sessions.old sessions.new at last) }
     ensures tells { IfOk result (IsToldBy directory.now buffers.old sessions.old at last) }
     ensures quiet { IfOk result (λ touched. search_held at sessions.old ≡ None → touched ≡ Nowhere) }
-    ensures err { OnErr result ((next : Option ℕ) → world_of directory.now buffers.new sessions.new next ≡ world_of directory.now buffers.old sessions.old next) }
+    ensures err { OnErr result (IsSameWorld directory.now buffers.old buffers.new sessions.old sessions.new) }
     ensures may { OnErr result (IsRefusable directory.now buffers.old sessions.old at last) }
     ensures held { OnErr result (search_held at sessions.old ≡ None → ⊥) }
     ensures further { OnOk result (IsFurther buffers.old buffers.new sessions.old sessions.new at) }

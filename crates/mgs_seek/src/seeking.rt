@@ -15,7 +15,7 @@ ghost use Rattle.mgs_seek.specs.Seekers.{Begins, IsBegun, IsQuit, IsSoughtOn, go
 ghost use Rattle.mgs_seek.specs.Acting.{Does, as_is};
 ghost use Rattle.mgs_world.specs.Only.{OnlyThis, nothing_held};
 ghost use Rattle.mgs_world.specs.Sound.{IsSessionSound, IsSound};
-ghost use Rattle.mgs_world.specs.Worlds.{idle, own_at, own_of};
+ghost use Rattle.mgs_world.specs.Worlds.{idle, state_at, state_of};
 
 use crate::target::{go_on, sought, target};
 use mgs_buffers::Buffers;
@@ -43,7 +43,7 @@ fn begin_in<T: Marked + Drop>(
     direction: Direction,
 )
     requires sound { IsSessionSound buffers.now session.old }
-    requires fresh { own_of session.old.own ≡ idle (own_of session.old.own) }
+    requires fresh { state_of session.old.state ≡ idle (state_of session.old.state) }
     ensures only { OnlyThis nothing_held buffers.now buffers.now session.old session.new }
     ensures does { Begins directory.now buffers.now session.old session.new direction }
 {
@@ -69,7 +69,7 @@ pub fn start_search<T: Marked + Drop>(
 )
     requires sound { IsSound buffers.now sessions.old }
     requires within { at < length sessions.old }
-    requires fresh { own_at at sessions.old ≡ idle (own_at at sessions.old) }
+    requires fresh { state_at at sessions.old ≡ idle (state_at at sessions.old) }
     ensures sound { IsSound buffers.now sessions.new }
     ensures world { IsBegun directory.now buffers.now sessions.old sessions.new at direction }
 {
@@ -151,7 +151,7 @@ fn seek_in(search: Search) -> Option<Seeker>
 
 /// The incremental search of a session, which is taken out.
 fn take_seeker(session: &mut Session) -> Option<Seeker>
-    ensures search { result ≡ seeker_of session.old.own.search }
+    ensures search { result ≡ seeker_of session.old.state.search }
     ensures rest { session.new ≡ unsearched session.old }
 {
     match take_search(session) {
@@ -200,10 +200,10 @@ pub fn search_on<T: Marked + Drop>(
 
 /// Where the origin of a session's search stands, where that is in the buffer of this name, whose text has `size` characters.
 fn origin(session: &Session, name: &Name, size: usize) -> Option<usize>
-    ensures value { top_read result ≡ origin_plan name.now size session.now.own.search }
+    ensures value { top_read result ≡ origin_plan name.now size session.now.state.search }
     ensures within { IsWithin size result }
 {
-    match &session.own.search {
+    match &session.state.search {
         Some(search) => {
             if search.name == *name {
                 return Some(search.origin.min(size));
@@ -221,7 +221,7 @@ fn go_back_in<T: Marked + Drop>(
     window_marks: &WindowMarks,
 )
     requires { AreMarks buffers.old window_marks.now }
-    ensures { buffers.new ≡ gone_back_in window_marks.now session.now.own.search buffers.old }
+    ensures { buffers.new ≡ gone_back_in window_marks.now session.now.state.search buffers.old }
 {
     let name = &window_marks.name;
     match origin(session, name, buffers.text_len(name)) {
@@ -233,7 +233,7 @@ fn go_back_in<T: Marked + Drop>(
 /// The same of the selected window.
 fn go_back<T: Marked + Drop>(buffers: &mut Buffers<T>, session: &Session)
     requires { (x : WindowMarks) → window_marks_of session.now ≡ Some x → AreMarks buffers.old x }
-    ensures { buffers.new ≡ gone_back (window_marks_of session.now) session.now.own.search buffers.old }
+    ensures { buffers.new ≡ gone_back (window_marks_of session.now) session.now.state.search buffers.old }
 {
     match selected_window_marks(session) {
         None => {}

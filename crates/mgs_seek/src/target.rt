@@ -48,9 +48,9 @@ pub(crate) fn target<T: Marked + Drop>(
 
 /// Whether the search of a session is in the buffer of this name.
 fn is_sought(session: &Session, name: &Name) -> bool
-    ensures { result ≡ is_search_in name.now session.now.own.search }
+    ensures { result ≡ is_search_in name.now session.now.state.search }
 {
-    match &session.own.search {
+    match &session.state.search {
         Some(search) => *name == search.name,
         None => false,
     }

@@ -1,9 +1,9 @@
 use Rattle.std.proofs.Common.{get_or}
 use Rattle.std.proofs.lemmas.Option.{slice_get-get_or}
 use Rattle.mgs_buffers.proofs.MarkedLemmas.{OnErr-map}
-use Rattle.mgs_plan.proofs.Deeds.{fresh_own}
+use Rattle.mgs_plan.proofs.Deeds.{fresh_state}
 use Rattle.mgs_plan.specs.Searching.{answer_act}
-use Rattle.mgs_world.specs.Worlds.{own_at}
+use Rattle.mgs_world.specs.Worlds.{state_at}
 use Rattle.mgs_act.proofs.Done.{asked_at, can_here, did, marks_here, may_decided}
 use Rattle.mgs_act.proofs.Switches.{when_ok}
 use Rattle.mgs_act.proofs.acts.answer.Goals as goal
@@ -15,7 +15,7 @@ pub plan_answer-outcome-requires-clause-fresh : goal.plan_answer-outcome-require
 plan_answer-outcome-requires-clause-fresh g c =
     let xs = c.args.sessions.now in
     let r = c.index-sessions-at.result in
-    fresh_own xs c.args.at (get_or xs c.args.at r) (slice_get-get_or xs c.args.at r c.requires.within) c.requires.fresh
+    fresh_state xs c.args.at (get_or xs c.args.at r) (slice_get-get_or xs c.args.at r c.requires.within) c.requires.fresh
 
 pub do_decided-requires-clause-can : goal.do_decided-requires-clause-can
 do_decided-requires-clause-can g c =
@@ -23,11 +23,11 @@ do_decided-requires-clause-can g c =
 
 pub returns-clause-ok : goal.returns-clause-ok
 returns-clause-ok g c =
-    when_ok c.do_decided.result (did c.args.directory.now c.args.at (answer_act c.args.question c.args.argument c.args.typed.now (own_at c.args.at c.args.sessions.now)) c.args.buffers.now c.args.sessions.now c.requires.within c.plan_answer-outcome.result c.index-sessions-at.result (asked_at c.args.directory.now c.args.buffers.now c.args.sessions.now c.args.at c.index-sessions-at.result c.args.question c.args.argument c.args.typed.now c.plan_answer-outcome.result c.requires.within (c.plan_answer-outcome.ensures.value c.args.sessions.now)) _ _ _ _) c.do_decided.ensures.done
+    when_ok c.do_decided.result (did c.args.directory.now c.args.at (answer_act c.args.question c.args.argument c.args.typed.now (state_at c.args.at c.args.sessions.now)) c.args.buffers.now c.args.sessions.now c.requires.within c.plan_answer-outcome.result c.index-sessions-at.result (asked_at c.args.directory.now c.args.buffers.now c.args.sessions.now c.args.at c.index-sessions-at.result c.args.question c.args.argument c.args.typed.now c.plan_answer-outcome.result c.requires.within (c.plan_answer-outcome.ensures.value c.args.sessions.now)) _ _ _ _) c.do_decided.ensures.done
 
 pub returns-clause-err : goal.returns-clause-err
 returns-clause-err g c = OnErr-map c.do_decided.result (λ same. same c.args.directory.now) c.do_decided.ensures.err
 
 pub returns-clause-may : goal.returns-clause-may
 returns-clause-may g c =
-    OnErr-map c.do_decided.result (may_decided c.args.directory.now c.args.at (answer_act c.args.question c.args.argument c.args.typed.now (own_at c.args.at c.args.sessions.now)) c.args.buffers.now c.args.sessions.now c.requires.within c.plan_answer-outcome.result c.index-sessions-at.result (asked_at c.args.directory.now c.args.buffers.now c.args.sessions.now c.args.at c.index-sessions-at.result c.args.question c.args.argument c.args.typed.now c.plan_answer-outcome.result c.requires.within (c.plan_answer-outcome.ensures.value c.args.sessions.now))) c.do_decided.ensures.may
+    OnErr-map c.do_decided.result (may_decided c.args.directory.now c.args.at (answer_act c.args.question c.args.argument c.args.typed.now (state_at c.args.at c.args.sessions.now)) c.args.buffers.now c.args.sessions.now c.requires.within c.plan_answer-outcome.result c.index-sessions-at.result (asked_at c.args.directory.now c.args.buffers.now c.args.sessions.now c.args.at c.index-sessions-at.result c.args.question c.args.argument c.args.typed.now c.plan_answer-outcome.result c.requires.within (c.plan_answer-outcome.ensures.value c.args.sessions.now))) c.do_decided.ensures.may

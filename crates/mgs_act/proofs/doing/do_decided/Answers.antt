@@ -1,7 +1,7 @@
 use Rattle.std.proofs.Common.{get_or, refl, ap, subst, sym, [], true, ◌∙◌}
 use Rattle.std.specs.Prelude.{slice_set}
 use Rattle.mgs_model.specs.Apply.{applied}
-use Rattle.mgs_model.specs.Events.{may_be_refused}
+use Rattle.mgs_laws.specs.Refusals.{may_be_refused}
 use Rattle.mgs_model.specs.Outcome.{Run}
 use Rattle.mgs_model.specs.declared.session.Command.TheVariants.{Rearrange}
 use Rattle.mgs_model.specs.declared.session.Kind.TheVariants.{Other}
@@ -11,10 +11,10 @@ use Rattle.mgs_plan.specs.Deciding.{view_at}
 use Rattle.mgs_plan.specs.Rows.{session_rows}
 use Rattle.mgs_plan.specs.Setting.{session_set}
 use Rattle.mgs_plan.specs.declared.outcome.Outcome.TheVariants.{Arranges, Asks, Fails, Lists, Scrolls, Sets, Shows}
-use Rattle.mgs_world.specs.Worlds.{own_of, world_of}
+use Rattle.mgs_world.specs.Worlds.{state_of, world_of}
 use Rattle.mgs_world.proofs.Soundness.{sound_set}
 use Rattle.mgs_plan.proofs.Commands.{asked_done, outcome_answered, set_done}
-use Rattle.mgs_plan.proofs.Deeds.{failed_so, fresh_own}
+use Rattle.mgs_plan.proofs.Deeds.{failed_so, fresh_state}
 use Rattle.mgs_plan.proofs.Quiet.{arrangement_quiet, question_quiet, setting_quiet}
 use Rattle.mgs_act.specs.Doing.{CanDo, TakesMemory}
 use Rattle.mgs_act.proofs.Done.{done_as, got, here_is, nowhere_saves_none, quietly}
@@ -41,7 +41,7 @@ returns-in-Fails-clause-done g c =
     done_as d c.args.at c.args.outcome.now _ ks _ xs _ _ _ _ c.in-Fails.is
     (quietly d c.args.at (Fails c.in-Fails.message) ks _ xs _ Nowhere (λ id next h place found. (
       ap (λ y. world_of d ks (slice_set xs c.args.at y) next) (c.fail.ensures ∙ ap (failed c.in-Fails.message) (here_is xs c.args.at c.index-sessions-at.result h c.requires.within found))
-          ∙ failed_so d ks xs next id c.args.at h c.in-Fails.message place c.requires.within found (fresh_own xs c.args.at h found c.requires.fresh),
+          ∙ failed_so d ks xs next id c.args.at h c.in-Fails.message place c.requires.within found (fresh_state xs c.args.at h found c.requires.fresh),
       refl,
       refl,
     )) _)
@@ -66,21 +66,21 @@ pub returns-in-Kills-clause-done : goal.returns-in-Kills-clause-done
 returns-in-Kills-clause-done g c =
     done_as c.args.directory.now c.args.at c.args.outcome.now _ c.args.buffers.now _ c.args.sessions.now _ _ _ _ c.in-Kills.is (c.kill.ensures.done _)
 
-pub reown-requires-clause-can : goal.reown-requires-clause-can
-reown-requires-clause-can g c =
-    subst (CanDo c.args.directory.now c.args.at c.args.buffers.now c.args.sessions.now) c.in-Reowns.is c.requires.can
+pub assign-requires-clause-can : goal.assign-requires-clause-can
+assign-requires-clause-can g c =
+    subst (CanDo c.args.directory.now c.args.at c.args.buffers.now c.args.sessions.now) c.in-SetsOwners.is c.requires.can
 
-pub returns-in-Reowns-clause-done : goal.returns-in-Reowns-clause-done
-returns-in-Reowns-clause-done g c =
-    done_as c.args.directory.now c.args.at c.args.outcome.now _ c.args.buffers.now _ c.args.sessions.now _ _ _ _ c.in-Reowns.is (c.reown.ensures.done _)
+pub returns-in-SetsOwners-clause-done : goal.returns-in-SetsOwners-clause-done
+returns-in-SetsOwners-clause-done g c =
+    done_as c.args.directory.now c.args.at c.args.outcome.now _ c.args.buffers.now _ c.args.sessions.now _ _ _ _ c.in-SetsOwners.is (c.assign.ensures.done _)
 
-pub relist-requires-clause-can : goal.relist-requires-clause-can
-relist-requires-clause-can g c =
-    subst (CanDo c.args.directory.now c.args.at c.args.buffers.now c.args.sessions.now) c.in-Relists.is c.requires.can
+pub set_list-requires-clause-can : goal.set_list-requires-clause-can
+set_list-requires-clause-can g c =
+    subst (CanDo c.args.directory.now c.args.at c.args.buffers.now c.args.sessions.now) c.in-SetsList.is c.requires.can
 
-pub returns-in-Relists-clause-done : goal.returns-in-Relists-clause-done
-returns-in-Relists-clause-done g c =
-    done_as c.args.directory.now c.args.at c.args.outcome.now _ c.args.buffers.now _ c.args.sessions.now _ _ _ _ c.in-Relists.is (c.relist.ensures.done _)
+pub returns-in-SetsList-clause-done : goal.returns-in-SetsList-clause-done
+returns-in-SetsList-clause-done g c =
+    done_as c.args.directory.now c.args.at c.args.outcome.now _ c.args.buffers.now _ c.args.sessions.now _ _ _ _ c.in-SetsList.is (c.set_list.ensures.done _)
 
 pub returns-in-Lists-clause-done : goal.returns-in-Lists-clause-done
 returns-in-Lists-clause-done g c =
@@ -162,9 +162,9 @@ returns-in-Scrolls-clause-done g c =
     done_as d c.args.at c.args.outcome.now _ ks _ xs _ _ _ _ c.in-Scrolls.is
     (quietly d c.args.at (Scrolls c.in-Scrolls.rows) ks _ xs _ Nowhere (λ id next h place found. (
       ap (λ y. world_of d ks (slice_set xs c.args.at y) next) (c.scroll.ensures ∙ ap (λ y. acted Other (session_rows c.in-Scrolls.rows y)) (here_is xs c.args.at c.index-sessions-at-in-Scrolls.result h c.requires.within found))
-          ∙ scrolled_so d ks xs next id c.args.at h place c.requires.within found (fresh_own xs c.args.at h found c.requires.fresh) c.in-Scrolls.rows (can h found),
-      rows_touch_nothing (own_of h.own) c.in-Scrolls.rows,
-      rows_save_nothing (own_of h.own) c.in-Scrolls.rows,
+          ∙ scrolled_so d ks xs next id c.args.at h place c.requires.within found (fresh_state xs c.args.at h found c.requires.fresh) c.in-Scrolls.rows (can h found),
+      rows_touch_nothing (state_of h.state) c.in-Scrolls.rows,
+      rows_save_nothing (state_of h.state) c.in-Scrolls.rows,
     )) _)
 
 pub returns-in-Sets-clause-sound : goal.returns-in-Sets-clause-sound

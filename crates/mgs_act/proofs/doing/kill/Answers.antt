@@ -8,7 +8,7 @@ use Rattle.mgs_plan.specs.declared.outcome.Outcome.TheVariants.{Kills}
 use Rattle.mgs_world.specs.Killing.{world_without}
 use Rattle.mgs_world.specs.Worlds.{world_of}
 use Rattle.mgs_world.proofs.Soundness.{sound_set}
-use Rattle.mgs_plan.proofs.Deeds.{fresh_own}
+use Rattle.mgs_plan.proofs.Deeds.{fresh_state}
 use Rattle.mgs_act.proofs.Kills.{killed_so}
 use Rattle.mgs_act.proofs.Done.{granted_done, here_is, quietly}
 use Rattle.mgs_act.proofs.doing.kill.Goals as goal
@@ -38,7 +38,7 @@ returns-clause-done g c =
     (λ id next h place found. (
       without d next
           ∙ ap (λ y. world_without name (world_of d ks (slice_set xs c.args.at y) next)) (c.set_kind.ensures ∙ ap (acted Other) (here_is xs c.args.at c.index-sessions-at-2.result h c.requires.within found))
-          ∙ killed_so d ks xs next id c.args.at h name place c.requires.within found (fresh_own xs c.args.at h found c.requires.fresh),
+          ∙ killed_so d ks xs next id c.args.at h name place c.requires.within found (fresh_state xs c.args.at h found c.requires.fresh),
       refl,
       refl,
     ))

@@ -7,7 +7,7 @@ use Rattle.mgs_buffers.specs.MarkedBuffer.{marked_at}
 use Rattle.mgs_session.specs.Sessions.{acted, failed, told}
 use Rattle.mgs_world.proofs.Soundness.{sound_set}
 use Rattle.mgs_world.proofs.Unmodified.{sound_unmodified}
-use Rattle.mgs_plan.proofs.Deeds.{failed_so, fresh_own}
+use Rattle.mgs_plan.proofs.Deeds.{failed_so, fresh_state}
 use Rattle.mgs_act.proofs.Done.{here_is}
 use Rattle.mgs_act.proofs.Saves.{stored_as, wrote_so}
 use Rattle.mgs_act.proofs.doing.save.Goals as goal
@@ -37,7 +37,7 @@ returns-in-Ok-clause-done g c =
       does = λ id next h place found.
           let same = c.finish.ensures ∙ ap (λ y. told (Wrote name) (acted Other y)) (here_is xs c.args.at c.index-sessions-at-in-Ok.result h c.requires.within found) in
           record {
-            world = rw (c.in-Ok.ensures.ok, same) (wrote_so d ks xs next id c.args.at h name text place c.requires.within found (fresh_own xs c.args.at h found c.requires.fresh));
+            world = rw (c.in-Ok.ensures.ok, same) (wrote_so d ks xs next id c.args.at h name text place c.requires.within found (fresh_state xs c.args.at h found c.requires.fresh));
             touches = refl;
             saves = stored_as _ _ name text _ _ c.save_as.ensures.saved c.in-Ok.is;
           };
@@ -61,7 +61,7 @@ returns-in-Store-clause-done g c =
       does = λ id next h place found.
           let same = c.fail.ensures ∙ ap (failed SaveFailed) (here_is xs c.args.at c.index-sessions-at-in-Store.result h c.requires.within found) in
           record {
-            world = rw (c.in-Err.ensures.err, same) (failed_so d ks xs next id c.args.at h SaveFailed place c.requires.within found (fresh_own xs c.args.at h found c.requires.fresh));
+            world = rw (c.in-Err.ensures.err, same) (failed_so d ks xs next id c.args.at h SaveFailed place c.requires.within found (fresh_state xs c.args.at h found c.requires.fresh));
             touches = refl;
             saves = stored_as _ _ name text _ _ c.save_as.ensures.saved c.in-Err.is;
           };

@@ -1,13 +1,13 @@
 use Rattle.std.proofs.Common.{ℕ, List, Option, length, ◌∙◌, sym, ap, subst}
 use Rattle.std.specs.Option.{option_and_then}
-use Rattle.mgs_model.specs.Apart.{touched_by}
+use Rattle.mgs_laws.specs.Apart.{touched_by}
 use Rattle.mgs_model.specs.Apply.{apply}
-use Rattle.mgs_model.specs.World.{Own}
+use Rattle.mgs_model.specs.World.{State}
 use Rattle.mgs_buffers.specs.MarkedBuffer.{marked_at}
 use Rattle.mgs_session.specs.Sessions.{window_marks_of}
 use Rattle.mgs_session.specs.declared.Session.{Session}
 use Rattle.mgs_session.specs.declared.search.Edited.{Edited}
-use Rattle.mgs_world.specs.Worlds.{own_at, world_of}
+use Rattle.mgs_world.specs.Worlds.{state_at, world_of}
 use Rattle.mgs_world.proofs.Soundness.{mark_is_kept}
 use Rattle.mgs_plan.specs.Following.{edit_told, followed}
 use Rattle.mgs_plan.specs.Inserting.{CanPut, insertion_of, put_outcome}
@@ -61,5 +61,5 @@ returns-clause-done g c =
     ∙ ap (λ (o : Option Edited). followed x.name o c.insert_unfollowed.new.sessions)
     (c.edit_of_insertion-edit.ensures.value ∙ ap (λ (put : List ℕ). edit_told size (insertion_of c.args.place put)) (sym same)))
     ∙ c.in_ok-insert_unfollowed.ensures.ok d id next place
-    ∙ ap (λ (put : List ℕ). apply (world_of d ks xs next) id (put_outcome (own_at c.args.at xs) x.name c.args.place put)) (c.deref-2.ensures.value ∙ c.in_ok-put.ensures))
-    (λ (own : Own). c.touched_by_insertion.ensures own c.args.place ∙ ap (λ (put : List ℕ). touched_by (put_outcome own x.name c.args.place put).effect) (c.deref-3.ensures.value ∙ c.in_ok-put.ensures))
+    ∙ ap (λ (put : List ℕ). apply (world_of d ks xs next) id (put_outcome (state_at c.args.at xs) x.name c.args.place put)) (c.deref-2.ensures.value ∙ c.in_ok-put.ensures))
+    (λ (state : State). c.touched_by_insertion.ensures state c.args.place ∙ ap (λ (put : List ℕ). touched_by (put_outcome state x.name c.args.place put).effect) (c.deref-3.ensures.value ∙ c.in_ok-put.ensures))

@@ -2,7 +2,7 @@ use Rattle.std.proofs.Common.{ℕ, List, Option, length, get_or, ◌∙◌, sym,
 use Rattle.std.proofs.lemmas.Option.{slice_get-get_or}
 use Rattle.mgs_session.specs.declared.Session.{Session}
 use Rattle.mgs_session.specs.declared.search.Edited.{Edited}
-use Rattle.mgs_world.specs.Worlds.{own_of, world_of}
+use Rattle.mgs_world.specs.Worlds.{state_of, world_of}
 use Rattle.mgs_world.proofs.Soundness.{mark_is_kept}
 use Rattle.mgs_plan.specs.Following.{edit_through, followed}
 use Rattle.mgs_plan.specs.Actions.{kill_or_none}
@@ -47,7 +47,7 @@ returns-clause-done g c =
     ∙ ap (λ (o : Option Edited). followed x.name o c.perform_unfollowed.new.sessions)
     (c.edit_of-edit.ensures.value ∙ ap (λ (k : List ℕ). edit_through x ks k c.args.action.now) (c.as_slice-kill.ensures ∙ sym (ap kill_or_none found))))
     ∙ c.in_ok-perform_unfollowed.ensures.ok d id next place)
-    (λ h there. c.touched_by-touched.ensures (own_of h.own) ks h.kill
+    (λ h there. c.touched_by-touched.ensures (state_of h.state) ks h.kill
     (sym (ap (λ (k : List ℕ). length k) c.as_slice-kill.ensures ∙ ap (λ (y : Session). length y.kill) (here_is xs c.args.at r h c.requires.within there)))
     (c.requires.can h there).can)
 

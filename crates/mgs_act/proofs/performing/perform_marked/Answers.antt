@@ -39,4 +39,4 @@ returns-clause-err g c =
 
 pub returns-clause-may : goal.returns-clause-may
 returns-clause-may g c =
-    when_refused c.carry_out_marked.result (λ own. marking_takes own c.args.window_marks.now c.args.buffers.now (kill_at c.args.at c.args.sessions.now) c.args.action.now c.args.position (can_through c.args.directory.now c.args.at c.args.buffers.now c.args.sessions.now c.index-sessions-at.result c.args.window_marks.now c.args.action.now c.requires.within c.requires.can) c.requires.told)
+    when_refused c.carry_out_marked.result (λ state. marking_takes state c.args.window_marks.now c.args.buffers.now (kill_at c.args.at c.args.sessions.now) c.args.action.now c.args.position (can_through c.args.directory.now c.args.at c.args.buffers.now c.args.sessions.now c.index-sessions-at.result c.args.window_marks.now c.args.action.now c.requires.within c.requires.can) c.requires.told)

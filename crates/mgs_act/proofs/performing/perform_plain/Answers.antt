@@ -1,7 +1,7 @@
 use Rattle.std.proofs.Common.{◌≡◌, get_or, sym, subst, true}
 use Rattle.std.specs.Prelude.{OnErr}
-use Rattle.mgs_model.specs.Outcome.{takes_memory}
-use Rattle.mgs_model.specs.World.{Own}
+use Rattle.mgs_laws.specs.Refusals.{takes_memory}
+use Rattle.mgs_model.specs.World.{State}
 use Rattle.std.proofs.lemmas.Option.{slice_get-get_or}
 use Rattle.mgs_buffers.specs.MarkedBuffer.{marked_at}
 use Rattle.mgs_plan.specs.Actions.{kill_or_none, outcome_through}
@@ -40,4 +40,4 @@ returns-clause-err g c =
 pub returns-clause-may : goal.returns-clause-may
 returns-clause-may g c =
     let x = c.args.window_marks.now in
-    subst (λ o. OnErr c.carry_out.result ((own : Own) → takes_memory (outcome_through own x c.args.buffers.now (kill_or_none o) c.args.action.now) ≡ true)) (sym (slice_get-get_or c.args.sessions.now c.args.at c.index-sessions-at.result c.requires.within)) c.carry_out.ensures.may
+    subst (λ o. OnErr c.carry_out.result ((state : State) → takes_memory (outcome_through state x c.args.buffers.now (kill_or_none o) c.args.action.now) ≡ true)) (sym (slice_get-get_or c.args.sessions.now c.args.at c.index-sessions-at.result c.requires.within)) c.carry_out.ensures.may

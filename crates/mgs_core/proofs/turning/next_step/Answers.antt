@@ -1,5 +1,5 @@
 use Rattle.std.proofs.Common.{refl}
-use Rattle.mgs_world.specs.Worlds.{own_of}
+use Rattle.mgs_world.specs.Worlds.{state_of}
 use Rattle.mgs_core.proofs.Turns.{first_replace_turn, first_turn, played_turn, replace_turn, typed_turn}
 use Rattle.mgs_core.proofs.turning.next_step.Goals as goal
 
@@ -13,7 +13,7 @@ returns-in-Played-clause-step g c =
 
 pub returns-in-First-clause-step : goal.returns-in-First-clause-step
 returns-in-First-clause-step g c =
-    first_turn c.args.directory.now c.args.buffers.now c.args.session.now c.next_task.new.session c.step_first.new.session c.next_task.ensures.rest c.in-First.byte c.step_first.new.before c.step_first.result c.in-First.ensures.next (c.step_first.ensures.step (own_of c.args.session.now.own))
+    first_turn c.args.directory.now c.args.buffers.now c.args.session.now c.next_task.new.session c.step_first.new.session c.next_task.ensures.rest c.in-First.byte c.step_first.new.before c.step_first.result c.in-First.ensures.next (c.step_first.ensures.step (state_of c.args.session.now.state))
 
 pub returns-in-FirstReplacement-clause-step : goal.returns-in-FirstReplacement-clause-step
 returns-in-FirstReplacement-clause-step g c =

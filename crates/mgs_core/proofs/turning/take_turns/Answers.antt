@@ -2,9 +2,9 @@ use Rattle.std.proofs.Common.{◌∙◌, ℕ, ◌≤◌, ◌<◌, length, refl, 
 use Rattle.std.proofs.lemmas.Bool.{and_parts}
 use Rattle.mgs_model.specs.declared.touched.Touched.{Touched}
 use Rattle.mgs_model.specs.declared.touched.Touched.TheVariants.{Nowhere}
-use Rattle.mgs_model.specs.Apart.{Apart}
+use Rattle.mgs_laws.specs.Apart.{Apart}
 use Rattle.mgs_laws.proofs.Apart.{apart_same}
-use Rattle.mgs_world.specs.Worlds.{own_at, world_of}
+use Rattle.mgs_world.specs.Worlds.{state_at, world_of}
 use Rattle.mgs_core.proofs.Joined.{apart_both}
 use Rattle.mgs_core.proofs.Sizes.{place_same}
 use Rattle.mgs_core.proofs.Still.{alone_none, alone_then}
@@ -19,8 +19,8 @@ loop-keyed-init g c = record {
   judged = c.requires.judged;
   sound = c.requires.sound;
   sizes = refl;
-  event = λ next. starts c.args.id _ _ (remaining_at c.args.at c.args.buffers.now c.args.sessions.now) _ (subst (λ (w : ℕ). w ≤ 53689341958) (none_weight 0 (remaining_at c.args.at c.args.buffers.now c.args.sessions.now) (own_at c.args.at c.args.sessions.now).todo c.requires.none) c.requires.weight);
-  fit = λ e. fit_none (own_at c.args.at c.args.sessions.now) c.requires.none;
+  event = λ next. starts c.args.id _ _ (remaining_at c.args.at c.args.buffers.now c.args.sessions.now) _ (subst (λ (w : ℕ). w ≤ 53689341958) (none_weight 0 (remaining_at c.args.at c.args.buffers.now c.args.sessions.now) (state_at c.args.at c.args.sessions.now).todo c.requires.none) c.requires.weight);
+  fit = λ e. fit_none (state_at c.args.at c.args.sessions.now) c.requires.none;
   stands = λ still rests. rests;
   alone = λ still. alone_none c.args.at c.args.buffers.now c.args.sessions.now c.requires.within;
   touched = λ next. apart_same Nowhere c.args.id _;
@@ -30,7 +30,7 @@ pub take_turn-next-requires-clause-place : goal.take_turn-next-requires-clause-p
 take_turn-next-requires-clause-place g c = place_same c.args.id c.args.at c.args.sessions.now c.loop-keyed.sessions c.requires.place c.loop-keyed.invariant.sizes
 
 pub take_turn-next-requires-clause-fit : goal.take_turn-next-requires-clause-fit
-take_turn-next-requires-clause-fit g c = c.loop-keyed.invariant.fit (goes_done c.loop-keyed.keyed (own_at c.args.at c.loop-keyed.sessions).todo (sym c.goes_on.ensures ∙ c.loop-keyed-test.true))
+take_turn-next-requires-clause-fit g c = c.loop-keyed.invariant.fit (goes_done c.loop-keyed.keyed (state_at c.args.at c.loop-keyed.sessions).todo (sym c.goes_on.ensures ∙ c.loop-keyed-test.true))
 
 pub loop-keyed-preserved : goal.loop-keyed-preserved
 loop-keyed-preserved g c =
@@ -65,4 +65,4 @@ returns-clause-event g c next =
     let place = place_same c.args.id c.args.at c.args.sessions.now l.sessions c.requires.place l.invariant.sizes in
     let within : c.args.at < length l.sessions = omega (arith, c.requires.within, l.auto.sessions) in
     let x = open_at d l.buffers l.sessions next c.args.id c.args.at place within in
-    event_over c.args.id _ _ _ _ (remaining_at c.args.at l.buffers l.sessions) (own_at c.args.at l.sessions).todo x.0 x.1 x.2 l.keyed (none_on l.keyed (own_at c.args.at l.sessions).todo off) (l.invariant.event next)
+    event_over c.args.id _ _ _ _ (remaining_at c.args.at l.buffers l.sessions) (state_at c.args.at l.sessions).todo x.0 x.1 x.2 l.keyed (none_on l.keyed (state_at c.args.at l.sessions).todo off) (l.invariant.event next)

@@ -3,23 +3,23 @@ use Rattle.std.specs.Prelude.{◌&&◌, is_some, slice_set}
 use Rattle.std.proofs.lemmas.Bool.{and_parts}
 use Rattle.std.proofs.lemmas.List.{get_or_default}
 use Rattle.mgs_buffers.specs.Judging.{AreJudged}
-use Rattle.mgs_model.specs.Apart.{Apart, Rules, rules_in}
-use Rattle.mgs_model.specs.Events.{begun_own, with_own}
+use Rattle.mgs_laws.specs.Apart.{Apart, Rules, rules_in}
+use Rattle.mgs_model.specs.Events.{begun_state, with_state}
 use Rattle.mgs_model.specs.World.{World}
-use Rattle.mgs_laws.proofs.Apart.{apart_own, apart_then}
+use Rattle.mgs_laws.proofs.Apart.{apart_state, apart_then}
 use Rattle.mgs_session.specs.declared.Session.{Session}
 use Rattle.mgs_world.specs.Sound.{session_uses}
 use Rattle.mgs_world.specs.Worlds.{IsUnique, session_of, size_in, world_of}
 use Rattle.mgs_world.proofs.Sessions.{session_some}
 use Rattle.mgs_world.proofs.Sizes.{sizes_of_world}
 use Rattle.mgs_world.proofs.Soundness.{sound_set, sizes_set}
-use Rattle.mgs_core.specs.Calls.{IsBare, OwnAlone}
-use Rattle.mgs_core.specs.Steps.{closed}
+use Rattle.mgs_core.specs.AtPlace.{IsBare, StateAlone}
+use Rattle.mgs_core.specs.Calls.{closed}
 use Rattle.mgs_core.proofs.Apart.{apart_rests}
-use Rattle.mgs_core.proofs.Begun.{begun_none, begun_same, begun_weight, begun_world, closed_own}
+use Rattle.mgs_core.proofs.Begun.{begun_none, begun_same, begun_weight, begun_world, closed_state}
 use Rattle.mgs_core.proofs.Quits.{event_ends, event_keyed, event_quits, typed_ends}
 use Rattle.mgs_core.proofs.Sizes.{place_same}
-use Rattle.mgs_core.proofs.Stays.{own_rests, settled_as}
+use Rattle.mgs_core.proofs.Stays.{state_rests, settled_as}
 use Rattle.mgs_core.proofs.Steps.{open_still}
 use Rattle.mgs_core.proofs.Still.{alone_then, alone_written, begun_alone, still_again}
 use Rattle.mgs_core.proofs.Taken.{within_still}
@@ -52,11 +52,11 @@ settle_unless-requires g c =
     let at = c.args.at in
     let h = get_or xs at c.index-sessions-at-2.result in
     let y = c.begin.new.session in
-    let begun : (next : Option ℕ) → world_of d ks (slice_set xs at y) next ≡ with_own id (begun_own c.args.byte) (world_of d ks xs next) =
+    let begun : (next : Option ℕ) → world_of d ks (slice_set xs at y) next ≡ with_state id (begun_state c.args.byte) (world_of d ks xs next) =
     λ next. begun_world d ks xs next id at c.args.byte h y c.requires.place c.requires.within (ap (get_or xs at) c.index-sessions-at-2.is) c.begin.ensures in
     record {
       sound = c.take_turns-keyed.ensures.sound;
-      stands = λ still. c.take_turns-keyed.ensures.stands still (λ next. settled_as _ _ (begun next) (own_rests (world_of d ks xs next) id (begun_own c.args.byte) (c.requires.settles next)));
+      stands = λ still. c.take_turns-keyed.ensures.stands still (λ next. settled_as _ _ (begun next) (state_rests (world_of d ks xs next) id (begun_state c.args.byte) (c.requires.settles next)));
     }
 
 pub returns-in-Quit : goal.returns-in-Quit
@@ -73,12 +73,12 @@ returns-in-Quit g c =
     let ys = slice_set xs at y in
     let t = c.take_turns-keyed in
     let same = sizes_set xs at h y is_h (begun_same size_in byte h y refl refl c.begin.ensures) in
-    let begun : (next : Option ℕ) → world_of d ks ys next ≡ with_own id (begun_own byte) (world_of d ks xs next) = λ next. begun_world d ks xs next id at byte h y c.requires.place c.requires.within is_h c.begin.ensures in
+    let begun : (next : Option ℕ) → world_of d ks ys next ≡ with_state id (begun_state byte) (world_of d ks xs next) = λ next. begun_world d ks xs next id at byte h y c.requires.place c.requires.within is_h c.begin.ensures in
     record {
       judged = t.ensures.judged;
       sound = t.ensures.sound;
       sizes = t.ensures.sizes ∙ same;
-      gone = λ quits next. (event_quits id _ _ _ _ t.result.0 quits (t.ensures.event next)).gone ∙ ap (λ (v : World). closed v id) (begun next) ∙ closed_own (world_of d ks xs next) id (begun_own byte);
+      gone = λ quits next. (event_quits id _ _ _ _ t.result.0 quits (t.ensures.event next)).gone ∙ ap (λ (v : World). closed v id) (begun next) ∙ closed_state (world_of d ks xs next) id (begun_state byte);
       still = λ stays. cc;
       left = λ quits. (event_quits id _ _ _ _ t.result.0 quits (t.ensures.event None)).left;
       keyed = λ next.
@@ -87,7 +87,7 @@ returns-in-Quit g c =
           (subst IsUnique (sym (sizes_of_world d ks ys next ∙ same)) c.requires.unique) (c.requires.settles next) (event_quits id _ _ _ _ t.result.0 c.in-Quit.is (t.ensures.event next)));
       touched = λ next.
           apart_then t.result.1 id (world_of d ks xs next) (world_of d ks ys next) (world_of d t.new.buffers t.new.sessions next)
-          (subst (Apart t.result.1 id (world_of d ks xs next)) (sym (begun next)) (apart_own t.result.1 id (begun_own byte) (world_of d ks xs next))) (t.ensures.touched next);
+          (subst (Apart t.result.1 id (world_of d ks xs next)) (sym (begun next)) (apart_state t.result.1 id (begun_state byte) (world_of d ks xs next))) (t.ensures.touched next);
     }
 
 pub returns-in_default : goal.returns-in_default
@@ -106,7 +106,7 @@ returns-in_default g c =
     let begun = begun_world d ks xs next c.args.id c.args.at c.args.byte h c.begin.new.session c.requires.place c.requires.within is_h c.begin.ensures in
     apart_rests t.result.1 c.args.id w (world_of d t.new.buffers t.new.sessions next) (world_of d L t.new.sessions next) (c.requires.settles next)
     (apart_then t.result.1 c.args.id w (world_of d ks ys next) (world_of d t.new.buffers t.new.sessions next)
-    (subst (Apart t.result.1 c.args.id w) (sym begun) (apart_own t.result.1 c.args.id (begun_own c.args.byte) w))
+    (subst (Apart t.result.1 c.args.id w) (sym begun) (apart_state t.result.1 c.args.id (begun_state c.args.byte) w))
     (t.ensures.touched next))
     (c.settle_unless.ensures.world next) in
     record {
@@ -125,9 +125,9 @@ returns-in_default g c =
       still = λ stays next.
           let both = and_parts t.result.2 (c.is_bare-was.result && c.is_bare-now.result) stays in
           let bare = and_parts c.is_bare-was.result c.is_bare-now.result both.1 in
-          let a : OwnAlone c.args.at ks t.new.buffers xs t.new.sessions = alone_then c.args.at ks ks t.new.buffers xs ys t.new.sessions (alone_written c.args.at ks xs h c.begin.new.session is_h (begun_alone c.args.byte h c.begin.new.session c.begin.ensures)) (t.ensures.alone both.0) in
-          let b : OwnAlone c.args.at ks L xs t.new.sessions = record { buffers = c.settle_unless.ensures.still both.0 ∙ a.buffers; own = a.own; is = a.is } in
-          let was : IsBare h.own = subst (λ (s : Session). IsBare s.own) (get_or_default xs c.args.at c.index-sessions-at.result c.index-sessions-at-2.result c.requires.within) (c.is_bare-was.ensures bare.0) in
+          let a : StateAlone c.args.at ks t.new.buffers xs t.new.sessions = alone_then c.args.at ks ks t.new.buffers xs ys t.new.sessions (alone_written c.args.at ks xs h c.begin.new.session is_h (begun_alone c.args.byte h c.begin.new.session c.begin.ensures)) (t.ensures.alone both.0) in
+          let b : StateAlone c.args.at ks L xs t.new.sessions = record { buffers = c.settle_unless.ensures.still both.0 ∙ a.buffers; state = a.state; is = a.is } in
+          let was : IsBare h.state = subst (λ (s : Session). IsBare s.state) (get_or_default xs c.args.at c.index-sessions-at.result c.index-sessions-at-2.result c.requires.within) (c.is_bare-was.ensures bare.0) in
           let z = get_or t.new.sessions c.args.at c.index-sessions-at-in_default.result in
           still_again d ks L xs t.new.sessions next c.args.id c.args.at h z c.requires.place c.requires.within is_h b (ap (get_or t.new.sessions c.args.at) c.index-sessions-at-in_default.is) was (c.is_bare-now.ensures bare.1);
     }

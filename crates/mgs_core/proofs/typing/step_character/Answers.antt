@@ -4,9 +4,9 @@ use Rattle.mgs_model.specs.declared.sequence.Sequence.TheVariants.{Whole, Begun,
 use Rattle.mgs_session.specs.Seeking.{searching}
 use Rattle.mgs_session.specs.Sessions.{told, unbound}
 use Rattle.mgs_session.specs.declared.Session.{Session}
-use Rattle.mgs_core.specs.declared.deeds.Deed.TheVariants as deeds
+use Rattle.mgs_core.specs.declared.byte_acts.ByteAct.TheVariants as byte_acts
 use Rattle.mgs_core.specs.declared.keying.ByteStep.TheVariants.{Kept, Acts}
-use Rattle.mgs_core.specs.Stepped.{finding}
+use Rattle.mgs_core.specs.ByteSteps.{finding}
 use Rattle.mgs_core.proofs.Sought.{character_held, search_breaks, search_puts, search_reads, still_search}
 use Rattle.mgs_core.proofs.typing.step_character.Goals as goal
 
@@ -28,7 +28,7 @@ returns-in-Whole c before directory ks =
     let f = c.args.sought in
     let g = c.put-step.new.self in
     let e = Whole c.in-Whole.c in
-    still_search directory ks y c.hold_sought-in-Whole.new.session (finding c.args.name c.args.origin c.args.anchor f) c.args.byte before (Acts (deeds.Seek c.put-step.result)) c.requires.still
+    still_search directory ks y c.hold_sought-in-Whole.new.session (finding c.args.name c.args.origin c.args.anchor f) c.args.byte before (Acts (byte_acts.Seek c.put-step.result)) c.requires.still
     (search_puts directory ks y c.hold_sought-in-Whole.new.session c.args.name c.args.origin c.args.anchor f g c.args.byte before c.requires.alone c.in-Whole.c c.put-step.result c.requires.past
     (sym c.feed_character-sequence.ensures.read ∙ c.in-Whole.is) c.put-step.ensures.step c.put-step.ensures.sought
     (c.hold_sought-in-Whole.ensures

@@ -3,9 +3,9 @@ use Rattle.mgs_model.specs.declared.message.Message.TheVariants.{Silent}
 use Rattle.mgs_session.specs.Seeking.{search_left, searching}
 use Rattle.mgs_session.specs.Sessions.{told}
 use Rattle.mgs_session.specs.declared.Session.{Session}
-use Rattle.mgs_core.specs.declared.deeds.Deed.TheVariants as deeds
+use Rattle.mgs_core.specs.declared.byte_acts.ByteAct.TheVariants as byte_acts
 use Rattle.mgs_core.specs.declared.keying.ByteStep.TheVariants.{Kept, Acts}
-use Rattle.mgs_core.specs.Stepped.{finding}
+use Rattle.mgs_core.specs.ByteSteps.{finding}
 use Rattle.mgs_core.proofs.Sought.{foreign_step, read_again, read_at, search_ends, search_on, search_quits, still_search}
 use Rattle.mgs_core.proofs.typing.step_find.Goals as goal
 
@@ -20,8 +20,8 @@ step_foreign-requires-clause-ascii c = sym c.is_character_byte.ensures ∙ c.if-
 
 pub step_foreign-requires-clause-leaves : goal.step_foreign-requires-clause-leaves
 step_foreign-requires-clause-leaves c =
-    read_again c.args.session.now.own.pattern c.args.sought c.feed.new.self c.args.byte
-    (read_at c.args.session.now.own.pattern _ c.args.sought c.feed.new.self c.args.byte _ _ c.as_slice.ensures.value c.feed.ensures c.in-Leaves.is)
+    read_again c.args.session.now.state.pattern c.args.sought c.feed.new.self c.args.byte
+    (read_at c.args.session.now.state.pattern _ c.args.sought c.feed.new.self c.args.byte _ _ c.as_slice.ensures.value c.feed.ensures c.in-Leaves.is)
 
 pub returns-in-Ends : goal.returns-in-Ends
 returns-in-Ends c directory ks =
@@ -31,13 +31,13 @@ returns-in-Ends c directory ks =
     still_search directory ks y c.leave_search.new.session (finding c.args.name c.args.origin c.args.anchor f) c.args.byte c.args.before.now Kept c.requires.still
     (search_ends directory ks y c.leave_search.new.session c.args.name c.args.origin c.args.anchor f g c.args.byte c.args.before.now c.requires.alone
     (sym c.is_character_byte.ensures ∙ c.if-is_character_byte.false)
-    (read_at y.own.pattern _ f g c.args.byte _ _ c.as_slice.ensures.value c.feed.ensures c.in-Ends.is)
+    (read_at y.state.pattern _ f g c.args.byte _ _ c.as_slice.ensures.value c.feed.ensures c.in-Ends.is)
     (c.leave_search.ensures ∙ ap (search_left g.pattern) c.requires.still))
 
 pub returns-in-Leaves : goal.returns-in-Leaves
 returns-in-Leaves c directory ks =
     foreign_step directory ks c.args.session.now c.step_foreign.new.session c.args.name c.args.origin c.args.anchor c.args.sought c.feed.new.self c.args.byte c.step_foreign.new.before c.step_foreign.result
-    (read_at c.args.session.now.own.pattern _ c.args.sought c.feed.new.self c.args.byte _ _ c.as_slice.ensures.value c.feed.ensures c.in-Leaves.is)
+    (read_at c.args.session.now.state.pattern _ c.args.sought c.feed.new.self c.args.byte _ _ c.as_slice.ensures.value c.feed.ensures c.in-Leaves.is)
     (c.step_foreign.ensures directory ks)
 
 pub returns-in-Quits : goal.returns-in-Quits
@@ -45,10 +45,10 @@ returns-in-Quits c directory ks =
     let y = c.args.session.now in
     let f = c.args.sought in
     let g = c.feed.new.self in
-    still_search directory ks y c.hold_sought.new.session (finding c.args.name c.args.origin c.args.anchor f) c.args.byte c.args.before.now (Acts deeds.QuitSearch) c.requires.still
+    still_search directory ks y c.hold_sought.new.session (finding c.args.name c.args.origin c.args.anchor f) c.args.byte c.args.before.now (Acts byte_acts.QuitSearch) c.requires.still
     (search_quits directory ks y c.hold_sought.new.session c.args.name c.args.origin c.args.anchor f g c.args.byte c.args.before.now c.requires.alone
     (sym c.is_character_byte.ensures ∙ c.if-is_character_byte.false)
-    (read_at y.own.pattern _ f g c.args.byte _ _ c.as_slice.ensures.value c.feed.ensures c.in-Quits.is)
+    (read_at y.state.pattern _ f g c.args.byte _ _ c.as_slice.ensures.value c.feed.ensures c.in-Quits.is)
     (c.hold_sought.ensures ∙ ap (λ (z : Session). searching (finding c.args.name c.args.origin c.args.anchor g) (told Silent z)) c.requires.still))
 
 pub returns-in_default : goal.returns-in_default
@@ -56,7 +56,7 @@ returns-in_default c directory ks =
     let y = c.args.session.now in
     let f = c.args.sought in
     let g = c.feed.new.self in
-    still_search directory ks y c.hold_sought-in_default.new.session (finding c.args.name c.args.origin c.args.anchor f) c.args.byte c.args.before.now (Acts (deeds.Seek c.feed.result)) c.requires.still
+    still_search directory ks y c.hold_sought-in_default.new.session (finding c.args.name c.args.origin c.args.anchor f) c.args.byte c.args.before.now (Acts (byte_acts.Seek c.feed.result)) c.requires.still
     (search_on directory ks y c.hold_sought-in_default.new.session c.args.name c.args.origin c.args.anchor f g c.args.byte c.args.before.now c.requires.alone c.feed.result (sym c.is_character_byte.ensures ∙ c.if-is_character_byte.false) c.in_default.not-Ends c.in_default.not-Quits c.in_default.not-Leaves
-    (read_at y.own.pattern _ f g c.args.byte _ _ c.as_slice.ensures.value c.feed.ensures refl)
+    (read_at y.state.pattern _ f g c.args.byte _ _ c.as_slice.ensures.value c.feed.ensures refl)
     (c.hold_sought-in_default.ensures ∙ ap (λ (z : Session). searching (finding c.args.name c.args.origin c.args.anchor g) (told Silent z)) c.requires.still))

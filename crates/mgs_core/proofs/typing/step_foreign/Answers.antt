@@ -1,6 +1,6 @@
 use Rattle.std.proofs.Common.{◌∙◌, ap}
 use Rattle.mgs_session.specs.Seeking.{search_left}
-use Rattle.mgs_core.specs.Stepped.{finding}
+use Rattle.mgs_core.specs.ByteSteps.{finding}
 use Rattle.mgs_core.proofs.Sought.{search_leaves, still_search}
 use Rattle.mgs_core.proofs.typing.step_foreign.Goals as goal
 

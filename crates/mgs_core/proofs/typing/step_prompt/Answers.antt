@@ -14,7 +14,7 @@ pub returns-in-Completes-clause-step : goal.returns-in-Completes-clause-step
 returns-in-Completes-clause-step g c =
     still_step c.args.directory.now c.args.buffers.now c.args.session.now c.complete.new.session c.args.byte c.args.before.now Kept c.requires.still
     (completes c.args.directory.now c.args.buffers.now c.args.session.now c.take_prompt.new.session c.complete.new.session c.in-Some.prompt c.feed.new.self c.args.byte c.requires.alone
-    (sym c.take_prompt.ensures.prompt ∙ c.in-Some.is) c.feed.ensures.question c.feed.ensures.first c.in-Completes.ensures.turn (c.take_prompt.ensures.rest ∙ ap unprompted c.requires.still) c.complete.ensures.own c.complete.ensures.rest)
+    (sym c.take_prompt.ensures.prompt ∙ c.in-Some.is) c.feed.ensures.question c.feed.ensures.first c.in-Completes.ensures.turn (c.take_prompt.ensures.rest ∙ ap unprompted c.requires.still) c.complete.ensures.state c.complete.ensures.rest)
 
 pub returns-in-Quit-clause-step : goal.returns-in-Quit-clause-step
 returns-in-Quit-clause-step g c =

@@ -4,9 +4,9 @@ use Rattle.mgs_session.specs.Sessions.{told, unprompted}
 use Rattle.mgs_session.specs.Seeking.{searching}
 use Rattle.mgs_session.specs.declared.Session.{Session}
 use Rattle.mgs_model.specs.declared.message.Message.TheVariants.{Silent}
-use Rattle.mgs_core.specs.declared.deeds.Deed.TheVariants as deeds
+use Rattle.mgs_core.specs.declared.byte_acts.ByteAct.TheVariants as byte_acts
 use Rattle.mgs_core.specs.declared.keying.ByteStep.TheVariants.{Acts, Kept}
-use Rattle.mgs_core.specs.Stepped.{replacing_at}
+use Rattle.mgs_core.specs.ByteSteps.{replacing_at}
 use Rattle.mgs_core.proofs.Replaced.{replace_ends, replace_last, replace_one, replace_skips}
 use Rattle.mgs_core.proofs.Sought.{still_search}
 use Rattle.mgs_core.proofs.typing.step_replace.Goals as goal
@@ -23,7 +23,7 @@ returns-in-Replaces c before directory ks =
     let y = c.args.session.now in
     let r = c.args.replacing in
     let s = replacing_at c.args.name c.args.origin c.args.anchor r in
-    still_search directory ks y c.hold_replacing.new.session s c.args.byte before (Acts (deeds.Replace false)) c.requires.still
+    still_search directory ks y c.hold_replacing.new.session s c.args.byte before (Acts (byte_acts.Replace false)) c.requires.still
     (replace_one directory ks y c.hold_replacing.new.session c.args.name c.args.origin c.args.anchor r c.args.byte c.requires.alone before c.replace_key.result c.replace_key.ensures c.in-Replaces.is (c.hold_replacing.ensures ∙ ap (λ (w : Session). searching s (told Silent w)) c.requires.still))
 
 pub returns-in-ReplacesLast : goal.returns-in-ReplacesLast
@@ -31,7 +31,7 @@ returns-in-ReplacesLast c before directory ks =
     let y = c.args.session.now in
     let r = c.args.replacing in
     let s = replacing_at c.args.name c.args.origin c.args.anchor r in
-    still_search directory ks y c.hold_replacing-in-ReplacesLast.new.session s c.args.byte before (Acts (deeds.Replace true)) c.requires.still
+    still_search directory ks y c.hold_replacing-in-ReplacesLast.new.session s c.args.byte before (Acts (byte_acts.Replace true)) c.requires.still
     (replace_last directory ks y c.hold_replacing-in-ReplacesLast.new.session c.args.name c.args.origin c.args.anchor r c.args.byte c.requires.alone before c.replace_key.result c.replace_key.ensures c.in-ReplacesLast.is (c.hold_replacing-in-ReplacesLast.ensures ∙ ap (λ (w : Session). searching s (told Silent w)) c.requires.still))
 
 pub returns-in-Skips : goal.returns-in-Skips
@@ -39,5 +39,5 @@ returns-in-Skips c before directory ks =
     let y = c.args.session.now in
     let r = c.args.replacing in
     let s = replacing_at c.args.name c.args.origin c.args.anchor r in
-    still_search directory ks y c.hold_replacing-in-Skips.new.session s c.args.byte before (Acts deeds.Skip) c.requires.still
+    still_search directory ks y c.hold_replacing-in-Skips.new.session s c.args.byte before (Acts byte_acts.Skip) c.requires.still
     (replace_skips directory ks y c.hold_replacing-in-Skips.new.session c.args.name c.args.origin c.args.anchor r c.args.byte c.requires.alone before c.replace_key.result c.replace_key.ensures c.in-Skips.is (c.hold_replacing-in-Skips.ensures ∙ ap (λ (w : Session). searching s (told Silent w)) c.requires.still))

@@ -1,6 +1,6 @@
 use Rattle.std.proofs.Common.{subst, sym}
-use Rattle.mgs_core.specs.declared.deeds.Before.{Before}
-use Rattle.mgs_core.specs.Stepped.{IsByteStep}
+use Rattle.mgs_core.specs.declared.byte_acts.Before.{Before}
+use Rattle.mgs_core.specs.ByteSteps.{IsByteStep}
 use Rattle.mgs_core.proofs.typing.step_still.Goals as goal
 
 pub returns-in-None-clause-step : goal.returns-in-None-clause-step

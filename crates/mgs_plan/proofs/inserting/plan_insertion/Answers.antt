@@ -25,7 +25,7 @@ returns-in-Fails-clause-value g c = λ n xs next.
     let ks = c.args.buffers.now in
     let sel = sym c.selected_window_marks.ensures ∙ c.in-Some.is in
     insert_planned c.args.directory.now ks xs next n c.args.session.now c.args.typed.now x c.decide_insertion.result (Fails c.in-Fails.message) sel (subst (λ s. IfSome s (AreMarks ks)) sel c.requires.marks) c.decide_insertion.ensures.value
-    (λ v stored. ap (decided_outcome ks v.session.own x.name) c.in-Fails.is)
+    (λ v stored. ap (decided_outcome ks v.session.state x.name) c.in-Fails.is)
 
 pub returns-in-Copies-clause-value : goal.returns-in-Copies-clause-value
 returns-in-Copies-clause-value g c = λ n xs next.
@@ -33,7 +33,7 @@ returns-in-Copies-clause-value g c = λ n xs next.
     let ks = c.args.buffers.now in
     let sel = sym c.selected_window_marks.ensures ∙ c.in-Some.is in
     insert_planned c.args.directory.now ks xs next n c.args.session.now c.args.typed.now x c.decide_insertion.result (Copies x c.in-Copies.source c.in-Copies.place) sel (subst (λ s. IfSome s (AreMarks ks)) sel c.requires.marks) c.decide_insertion.ensures.value
-    (λ v stored. ap (decided_outcome ks v.session.own x.name) c.in-Copies.is)
+    (λ v stored. ap (decided_outcome ks v.session.state x.name) c.in-Copies.is)
 
 pub returns-in-Copies-clause-can : goal.returns-in-Copies-clause-can
 returns-in-Copies-clause-can g c = record {

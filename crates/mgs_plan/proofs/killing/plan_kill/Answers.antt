@@ -1,9 +1,6 @@
 use Rattle.std.proofs.Common.{◌≡◌, ℕ, ◌∙◌, List, Option, ap, subst}
-use Rattle.mgs_model.specs.Access.{Directory}
-use Rattle.mgs_model.specs.Acts.{fails}
-use Rattle.mgs_model.specs.World.{Own}
 use Rattle.mgs_plan.specs.Deciding.{IsGranted}
-use Rattle.mgs_plan.specs.Killing.{kill_outcome, name_meant}
+use Rattle.mgs_plan.specs.Killing.{IsKillRefused, name_meant}
 use Rattle.mgs_plan.proofs.Kills.{kill_planned, kill_refused}
 use Rattle.mgs_plan.proofs.killing.plan_kill.Goals as goal
 
@@ -18,7 +15,7 @@ returns-in-Err-clause-value g c = λ n xs next.
     let ks = c.args.buffers.now in
     let typed = c.args.typed.now in
     kill_refused c.args.directory.now ks xs next n c.args.session.now typed c.in-Err.message
-    (subst (λ (s : Option (List ℕ)). (directory : Directory) (own : Own) (user : List ℕ) → kill_outcome directory ks own user s typed ≡ fails own c.in-Err.message) c.subject.ensures c.in-Err.ensures.none)
+    (subst (λ (s : Option (List ℕ)). IsKillRefused ks s typed c.in-Err.message) c.subject.ensures c.in-Err.ensures.none)
 
 pub returns-in-Ok-clause-can : goal.returns-in-Ok-clause-can
 returns-in-Ok-clause-can g c = c.judged.ensures.can c.args.session.now (λ granted. record {

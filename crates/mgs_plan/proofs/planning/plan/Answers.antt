@@ -29,7 +29,7 @@ returns-in-None-clause-value g c =
     ∙ ap (decision c.args.directory.now b.owners c.args.user.now b.entries)
     (c.needs-mask.ensures ∙ ap (λ (a : Around). mask_at c.args.command a.place c.text_len-size.result) c.around-around.ensures.value ∙ ap (mask_at c.args.command given_here.place) c.text_len-size.ensures.value) in
     subst (λ (f : Named). IsActionFor c.args.directory.now f.all c.args.user.now (marks_in f.name c.args.window_marks.now) c.args.given.now c.args.kill.now c.args.command [] c.plan_granted.result) c.find-found.ensures
-    (λ own. granted c.args.directory.now ks c.args.user.now x c.args.given.now c.args.command [] c.args.kill.now c.around-around.result c.plan_granted.result own
+    (λ state. granted c.args.directory.now ks c.args.user.now x c.args.given.now c.args.command [] c.args.kill.now c.around-around.result c.plan_granted.result state
     c.around-around.ensures.value (sym decided ∙ c.in-None.ensures.granted refl) c.plan_granted.ensures.value)
 
 pub returns-in-None-clause-can : goal.returns-in-None-clause-can
@@ -53,5 +53,5 @@ returns-in-Some-clause-value g c =
     ∙ ap (decision c.args.directory.now b.owners c.args.user.now b.entries)
     (c.needs-mask.ensures ∙ ap (λ (a : Around). mask_at c.args.command a.place c.text_len-size.result) c.around-around.ensures.value ∙ ap (mask_at c.args.command given_here.place) c.text_len-size.ensures.value) in
     subst (λ (f : Named). IsActionFor c.args.directory.now f.all c.args.user.now (marks_in f.name c.args.window_marks.now) c.args.given.now c.args.kill.now c.args.command [] (Fails c.in-Some.message)) c.find-found.ensures
-    (λ own. denied c.args.directory.now ks c.args.user.now x c.args.given.now c.args.command [] c.args.kill.now c.in-Some.message own
+    (λ state. denied c.args.directory.now ks c.args.user.now x c.args.given.now c.args.command [] c.args.kill.now c.in-Some.message state
     (subst (λ (d : Decision). Refuses d c.in-Some.message) decided c.in-Some.ensures.denied))

@@ -36,18 +36,18 @@ pub returns-in-NotModified-clause-by : goal.returns-in-NotModified-clause-by
 returns-in-NotModified-clause-by g c = three_so c.args.mask c.args.around.now.place _ c.args.command NotModified c.requires.mask c.in-NotModified.is refl
 
 pub returns-in-Insert-clause-value : goal.returns-in-Insert-clause-value
-returns-in-Insert-clause-value g c = λ own rest.
+returns-in-Insert-clause-value g c = λ state rest.
     let name = c.args.found.now.name in
     let b = (marked_at name c.args.found.now.all).buffer in
     let text = g.T.Text.text c.text-text.result.now in
     let serial = c.serial-serial.result in
     let known : ℕ → plans.Around = λ n. record rest { name = name; kill = c.args.kill.now; serial = n } in
-    at_buffer (λ t n. action_outcome own name t b.items c.args.kill.now c.edits.result ≡ granted_outcome own c.args.command t b.items (surrounded c.args.around.now (length t) (known n)))
+    at_buffer (λ t n. action_outcome state name t b.items c.args.kill.now c.edits.result ≡ granted_outcome state c.args.command t b.items (surrounded c.args.around.now (length t) (known n)))
     text b.text serial b.serial c.text-text.ensures.text c.serial-serial.ensures
-    (c.edits.ensures.value own name b.items
-    ∙ ap (edit_outcome own name (length text) serial) (c.insertion.ensures.plan text (known serial) c.requires.killed)
-    ∙ ap (λ size. edit_outcome own name (length text) serial (insertion c.in-Insert.by (surrounded c.args.around.now size (known serial)))) (c.text_len-size.ensures.value ∙ sym (ap (λ (t : List ℕ). length t) c.text-text.ensures.text))
-    ∙ sym (ap (λ (k : Command). granted_outcome own k text b.items (surrounded c.args.around.now (length text) (known serial))) c.in-Insert.is))
+    (c.edits.ensures.value state name b.items
+    ∙ ap (edit_outcome state name (length text) serial) (c.insertion.ensures.plan text (known serial) c.requires.killed)
+    ∙ ap (λ size. edit_outcome state name (length text) serial (insertion c.in-Insert.by (surrounded c.args.around.now size (known serial)))) (c.text_len-size.ensures.value ∙ sym (ap (λ (t : List ℕ). length t) c.text-text.ensures.text))
+    ∙ sym (ap (λ (k : Command). granted_outcome state k text b.items (surrounded c.args.around.now (length text) (known serial))) c.in-Insert.is))
 
 pub returns-in-Insert-clause-can : goal.returns-in-Insert-clause-can
 returns-in-Insert-clause-can g c =
@@ -57,17 +57,17 @@ returns-in-Insert-clause-can g c =
     (c.edits.ensures.can b.items)
 
 pub returns-in-InsertReading-clause-value : goal.returns-in-InsertReading-clause-value
-returns-in-InsertReading-clause-value g c = λ own rest.
+returns-in-InsertReading-clause-value g c = λ state rest.
     let name = c.args.found.now.name in
     let b = (marked_at name c.args.found.now.all).buffer in
     let text = g.T.Text.text c.text-text.result.now in
     let serial = c.serial-serial.result in
     let known : ℕ → plans.Around = λ n. record rest { name = name; kill = c.args.kill.now; serial = n } in
-    at_buffer (λ t n. action_outcome own name t b.items c.args.kill.now c.edits_so.result ≡ granted_outcome own c.args.command t b.items (surrounded c.args.around.now (length t) (known n)))
+    at_buffer (λ t n. action_outcome state name t b.items c.args.kill.now c.edits_so.result ≡ granted_outcome state c.args.command t b.items (surrounded c.args.around.now (length t) (known n)))
     text b.text serial b.serial c.text-text.ensures.text c.serial-serial.ensures
-    (c.edits_so.ensures.value own name b.items
-    ∙ ap (edit_outcome own name (length text) serial) (c.reading_insertion.ensures.plan (known serial))
-    ∙ sym (ap (λ (k : Command). granted_outcome own k text b.items (surrounded c.args.around.now (length text) (known serial))) c.in-InsertReading.is))
+    (c.edits_so.ensures.value state name b.items
+    ∙ ap (edit_outcome state name (length text) serial) (c.reading_insertion.ensures.plan (known serial))
+    ∙ sym (ap (λ (k : Command). granted_outcome state k text b.items (surrounded c.args.around.now (length text) (known serial))) c.in-InsertReading.is))
 
 pub returns-in-InsertReading-clause-can : goal.returns-in-InsertReading-clause-can
 returns-in-InsertReading-clause-can g c =
@@ -81,17 +81,17 @@ motion-requires-clause-short g c =
     omega (arith, ap (λ (t : List ℕ). length t) c.text-text.ensures.text, c.text_len-size.ensures.value, c.text_len-size.ensures.limit)
 
 pub returns-in-Move-clause-value : goal.returns-in-Move-clause-value
-returns-in-Move-clause-value g c = λ own rest.
+returns-in-Move-clause-value g c = λ state rest.
     let name = c.args.found.now.name in
     let b = (marked_at name c.args.found.now.all).buffer in
     let text = g.T.Text.text c.text-text.result.now in
     let serial = c.serial-serial.result in
     let known : ℕ → plans.Around = λ n. record rest { name = name; kill = c.args.kill.now; serial = n } in
-    at_buffer (λ t n. action_outcome own name t b.items c.args.kill.now c.moves.result ≡ granted_outcome own c.args.command t b.items (surrounded c.args.around.now (length t) (known n)))
+    at_buffer (λ t n. action_outcome state name t b.items c.args.kill.now c.moves.result ≡ granted_outcome state c.args.command t b.items (surrounded c.args.around.now (length t) (known n)))
     text b.text serial b.serial c.text-text.ensures.text c.serial-serial.ensures
-    (c.moves.ensures.value own name b.items
-    ∙ ap (moved_by own) (c.motion.ensures.plan (known serial))
-    ∙ sym (ap (λ (k : Command). granted_outcome own k text b.items (surrounded c.args.around.now (length text) (known serial))) c.in-Move.is))
+    (c.moves.ensures.value state name b.items
+    ∙ ap (moved_by state) (c.motion.ensures.plan (known serial))
+    ∙ sym (ap (λ (k : Command). granted_outcome state k text b.items (surrounded c.args.around.now (length text) (known serial))) c.in-Move.is))
 
 pub returns-in-Move-clause-can : goal.returns-in-Move-clause-can
 returns-in-Move-clause-can g c =
@@ -101,17 +101,17 @@ returns-in-Move-clause-can g c =
     (c.moves.ensures.can b.items c.serial-serial.result)
 
 pub returns-in-Alter-clause-value : goal.returns-in-Alter-clause-value
-returns-in-Alter-clause-value g c = λ own rest.
+returns-in-Alter-clause-value g c = λ state rest.
     let name = c.args.found.now.name in
     let b = (marked_at name c.args.found.now.all).buffer in
     let text = g.T.Text.text c.text-text.result.now in
     let serial = c.serial-serial.result in
     let known : ℕ → plans.Around = λ n. record rest { name = name; kill = c.args.kill.now; serial = n } in
-    at_buffer (λ t n. action_outcome own name t b.items c.args.kill.now c.edits-in-Alter.result ≡ granted_outcome own c.args.command t b.items (surrounded c.args.around.now (length t) (known n)))
+    at_buffer (λ t n. action_outcome state name t b.items c.args.kill.now c.edits-in-Alter.result ≡ granted_outcome state c.args.command t b.items (surrounded c.args.around.now (length t) (known n)))
     text b.text serial b.serial c.text-text.ensures.text c.serial-serial.ensures
-    (c.edits-in-Alter.ensures.value own name b.items
-    ∙ ap (edit_outcome own name (length text) serial) (c.alteration.ensures.plan (known serial))
-    ∙ sym (ap (λ (k : Command). granted_outcome own k text b.items (surrounded c.args.around.now (length text) (known serial))) c.in-Alter.is))
+    (c.edits-in-Alter.ensures.value state name b.items
+    ∙ ap (edit_outcome state name (length text) serial) (c.alteration.ensures.plan (known serial))
+    ∙ sym (ap (λ (k : Command). granted_outcome state k text b.items (surrounded c.args.around.now (length text) (known serial))) c.in-Alter.is))
 
 pub returns-in-Alter-clause-can : goal.returns-in-Alter-clause-can
 returns-in-Alter-clause-can g c =
@@ -121,17 +121,17 @@ returns-in-Alter-clause-can g c =
     (c.edits-in-Alter.ensures.can b.items)
 
 pub returns-in-Scroll-clause-value : goal.returns-in-Scroll-clause-value
-returns-in-Scroll-clause-value g c = λ own rest.
+returns-in-Scroll-clause-value g c = λ state rest.
     let name = c.args.found.now.name in
     let b = (marked_at name c.args.found.now.all).buffer in
     let text = g.T.Text.text c.text-text.result.now in
     let serial = c.serial-serial.result in
     let known : ℕ → plans.Around = λ n. record rest { name = name; kill = c.args.kill.now; serial = n } in
-    at_buffer (λ t n. action_outcome own name t b.items c.args.kill.now c.moves-in-Scroll.result ≡ granted_outcome own c.args.command t b.items (surrounded c.args.around.now (length t) (known n)))
+    at_buffer (λ t n. action_outcome state name t b.items c.args.kill.now c.moves-in-Scroll.result ≡ granted_outcome state c.args.command t b.items (surrounded c.args.around.now (length t) (known n)))
     text b.text serial b.serial c.text-text.ensures.text c.serial-serial.ensures
-    (c.moves-in-Scroll.ensures.value own name b.items
-    ∙ ap (moved_by own) (c.scroll.ensures.plan (known serial))
-    ∙ sym (ap (λ (k : Command). granted_outcome own k text b.items (surrounded c.args.around.now (length text) (known serial))) c.in-Scroll.is))
+    (c.moves-in-Scroll.ensures.value state name b.items
+    ∙ ap (moved_by state) (c.scroll.ensures.plan (known serial))
+    ∙ sym (ap (λ (k : Command). granted_outcome state k text b.items (surrounded c.args.around.now (length text) (known serial))) c.in-Scroll.is))
 
 pub returns-in-Scroll-clause-can : goal.returns-in-Scroll-clause-can
 returns-in-Scroll-clause-can g c =
@@ -141,12 +141,12 @@ returns-in-Scroll-clause-can g c =
     (c.moves-in-Scroll.ensures.can b.items c.serial-serial.result)
 
 pub returns-in-UndoEdit-clause-value : goal.returns-in-UndoEdit-clause-value
-returns-in-UndoEdit-clause-value g c = λ own rest.
+returns-in-UndoEdit-clause-value g c = λ state rest.
     let name = c.args.found.now.name in
     let b = (marked_at name c.args.found.now.all).buffer in
     let known : plans.Around = record rest { name = name; kill = c.args.kill.now; serial = b.serial } in
-    c.undoes.ensures.value own c.args.kill.now (surrounded c.args.around.now (length b.text) known)
-    ∙ sym (ap (λ (k : Command). granted_outcome own k b.text b.items (surrounded c.args.around.now (length b.text) known)) c.in-UndoEdit.is)
+    c.undoes.ensures.value state c.args.kill.now (surrounded c.args.around.now (length b.text) known)
+    ∙ sym (ap (λ (k : Command). granted_outcome state k b.text b.items (surrounded c.args.around.now (length b.text) known)) c.in-UndoEdit.is)
 
 pub returns-in-UndoEdit-clause-can : goal.returns-in-UndoEdit-clause-can
 returns-in-UndoEdit-clause-can g c = c.undoes.ensures.can c.args.kill.now

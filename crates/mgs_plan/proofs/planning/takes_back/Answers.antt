@@ -16,19 +16,19 @@ returned : (serial target : ℕ) (items : List Item) (item : Item) → serial �
 returned serial target items item same found = ap (λ n. removed_by n items) same ∙ ap removed_or_none found
 
 pub returns-clause-value : goal.returns-clause-value
-returns-clause-value g c = λ own items kill kind rest found.
+returns-clause-value g c = λ state items kill kind rest found.
     let text = g.T.Text.text c.args.text.now in
     let name = c.args.name.now in
     let u = c.undo.result in
     let item = item_of c.args.target c.args.edit.now in
     let back = returned u.serial c.args.target items item c.undo.ensures.serial found in
     let len : length (removed_by u.serial items) ≡ u.len = ap (λ (t : List ℕ). length t) back ∙ sym c.undo.ensures.len in
-    let said : plans.Change → _ = λ change. edit_outcome own name (length text) c.args.serial (Ok change) in
-    c.undoes_so.ensures.value own name items kill len
+    let said : plans.Change → _ = λ change. edit_outcome state name (length text) c.args.serial (Ok change) in
+    c.undoes_so.ensures.value state name items kill len
     ∙ ap (λ (t : List ℕ). said (undone_read text kill t u)) back
     ∙ ap said (c.undo.ensures.plan text kill kind rest)
     ∙ ap (λ (n : ℕ). said (taken_back (undoing kind name c.args.serial (record rest { size = n })) item)) c.len.ensures.value
-    ∙ sym (ap (λ (full : Bool). edit_outcome own name (length text) c.args.serial (if full then Err BufferFull else Ok (taken_back (undoing kind name c.args.serial (record rest { size = length text })) item))) (ne_eqb c.args.serial 18446744073709551615 c.if-serial-eq18446744073709551615.false))
+    ∙ sym (ap (λ (full : Bool). edit_outcome state name (length text) c.args.serial (if full then Err BufferFull else Ok (taken_back (undoing kind name c.args.serial (record rest { size = length text })) item))) (ne_eqb c.args.serial 18446744073709551615 c.if-serial-eq18446744073709551615.false))
 
 pub returns-clause-can : goal.returns-clause-can
 returns-clause-can g c = λ items kill found.

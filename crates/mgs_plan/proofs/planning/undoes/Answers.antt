@@ -14,28 +14,28 @@ use Rattle.mgs_plan.proofs.Plans.{at_buffer}
 use Rattle.mgs_plan.proofs.planning.undoes.Goals as goal
 
 pub returns-in-None-clause-value : goal.returns-in-None-clause-value
-returns-in-None-clause-value g c = λ own kill rest.
+returns-in-None-clause-value g c = λ state kill rest.
     let b = (marked_at c.args.found.now.name c.args.found.now.all).buffer in
     let name = c.name-name.result.now in
     let known : plans.Around = record rest { size = length b.text } in
     let target = c.undo_target-target.ensures known ∙ ap (λ n. undo_target (undoing c.args.kind name n known)) c.serial-serial.ensures in
-    subst (λ (m : List ℕ). action_outcome own m b.text b.items kill (Fails NoFurtherUndo) ≡ edit_outcome own m (length b.text) b.serial (model_undo b.items (undoing c.args.kind m b.serial known))) c.name-name.ensures.value
-    (ap (λ (o : Option Item). edit_outcome own name (length b.text) b.serial (undone (undoing c.args.kind name b.serial known) o))
+    subst (λ (m : List ℕ). action_outcome state m b.text b.items kill (Fails NoFurtherUndo) ≡ edit_outcome state m (length b.text) b.serial (model_undo b.items (undoing c.args.kind m b.serial known))) c.name-name.ensures.value
+    (ap (λ (o : Option Item). edit_outcome state name (length b.text) b.serial (undone (undoing c.args.kind name b.serial known) o))
     (c.in-None.ensures ∙ ap (λ n. find (has_serial n) b.items) target))
 
 pub returns-in-Some-clause-value : goal.returns-in-Some-clause-value
-returns-in-Some-clause-value g c = λ own kill rest.
+returns-in-Some-clause-value g c = λ state kill rest.
     let b = (marked_at c.args.found.now.name c.args.found.now.all).buffer in
     let name = c.name-name.result.now in
     let known : plans.Around = record rest { size = length b.text } in
     let found = c.in-Some.ensures in
     let item = item_of c.undo_target-target.result c.in-Some.edit.now in
     let target = c.undo_target-target.ensures known ∙ ap (λ n. undo_target (undoing c.args.kind name n known)) c.serial-serial.ensures in
-    subst (λ (m : List ℕ). action_outcome own m b.text b.items kill c.takes_back.result ≡ edit_outcome own m (length b.text) b.serial (model_undo b.items (undoing c.args.kind m b.serial known))) c.name-name.ensures.value
-    (at_buffer (λ t n. action_outcome own name t b.items kill c.takes_back.result ≡ edit_outcome own name (length t) n (undone (undoing c.args.kind name n (record rest { size = length t })) (Some item)))
+    subst (λ (m : List ℕ). action_outcome state m b.text b.items kill c.takes_back.result ≡ edit_outcome state m (length b.text) b.serial (model_undo b.items (undoing c.args.kind m b.serial known))) c.name-name.ensures.value
+    (at_buffer (λ t n. action_outcome state name t b.items kill c.takes_back.result ≡ edit_outcome state name (length t) n (undone (undoing c.args.kind name n (record rest { size = length t })) (Some item)))
     (g.T.Text.text c.text.result.now) b.text c.serial-serial.result b.serial c.text.ensures.text c.serial-serial.ensures
-    (c.takes_back.ensures.value own b.items kill c.args.kind rest (sym found))
-    ∙ ap (λ (o : Option Item). edit_outcome own name (length b.text) b.serial (undone (undoing c.args.kind name b.serial known) o))
+    (c.takes_back.ensures.value state b.items kill c.args.kind rest (sym found))
+    ∙ ap (λ (o : Option Item). edit_outcome state name (length b.text) b.serial (undone (undoing c.args.kind name b.serial known) o))
     (found ∙ ap (λ n. find (has_serial n) b.items) target))
 
 pub returns-in-Some-clause-can : goal.returns-in-Some-clause-can

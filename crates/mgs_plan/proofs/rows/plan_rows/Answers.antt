@@ -8,7 +8,7 @@ pub returns-in-Some-clause-value : goal.returns-in-Some-clause-value
 returns-in-Some-clause-value c = λ ks v stored.
     let ws = c.args.session.now.windows in
     let o = slice_get ws.windows ws.selected in
-    scrolled_some v.session.own (scroll_in c.args.command) o c.in-Some.rows (sym (c.rows_scrolled.ensures ∙ ap (λ s. rows_scrolled s o) c.scroll_in.ensures) ∙ c.in-Some.is)
+    scrolled_some v.session.state (scroll_in c.args.command) o c.in-Some.rows (sym (c.rows_scrolled.ensures ∙ ap (λ s. rows_scrolled s o) c.scroll_in.ensures) ∙ c.in-Some.is)
 
 pub returns-in-Some-clause-can : goal.returns-in-Some-clause-can
 returns-in-Some-clause-can c = λ directory ks none.
@@ -20,4 +20,4 @@ pub returns-in-None-clause-value : goal.returns-in-None-clause-value
 returns-in-None-clause-value c = λ ks v stored.
     let ws = c.args.session.now.windows in
     let o = slice_get ws.windows ws.selected in
-    scrolled_none v.session.own (scroll_in c.args.command) o (sym (c.rows_scrolled.ensures ∙ ap (λ s. rows_scrolled s o) c.scroll_in.ensures) ∙ c.in-None.is)
+    scrolled_none v.session.state (scroll_in c.args.command) o (sym (c.rows_scrolled.ensures ∙ ap (λ s. rows_scrolled s o) c.scroll_in.ensures) ∙ c.in-None.is)

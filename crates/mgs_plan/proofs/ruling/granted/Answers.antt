@@ -9,20 +9,20 @@ use Rattle.mgs_plan.proofs.ruling.granted.Goals as goal
 pub returns-in-Owner-clause-value : goal.returns-in-Owner-clause-value
 returns-in-Owner-clause-value g c = λ v stored.
     let b = (marked_at c.args.name c.args.buffers.now).buffer in
-    c.owner_ruled.ensures.value c.args.buffers.now b.entries c.args.argument v stored
-    ∙ ap (λ (k : Ruling). effects v.session.own (ruling_plan c.args.directory.now c.args.name b.entries k c.args.argument c.args.typed.now)) (sym c.in-Owner.is)
+    c.owner_ruled.ensures.value c.args.buffers.now v stored
+    ∙ ap (λ (k : Ruling). effects v.session.state (ruling_plan c.args.directory.now c.args.name b.entries k c.args.argument c.args.typed.now)) (sym c.in-Owner.is)
 
 pub returns-in-Group-clause-value : goal.returns-in-Group-clause-value
 returns-in-Group-clause-value g c = λ v stored.
     let b = (marked_at c.args.name c.args.buffers.now).buffer in
-    c.group_ruled.ensures.value c.args.buffers.now b.entries c.args.argument v stored
-    ∙ ap (λ (k : Ruling). effects v.session.own (ruling_plan c.args.directory.now c.args.name b.entries k c.args.argument c.args.typed.now)) (sym c.in-Group.is)
+    c.group_ruled.ensures.value c.args.buffers.now v stored
+    ∙ ap (λ (k : Ruling). effects v.session.state (ruling_plan c.args.directory.now c.args.name b.entries k c.args.argument c.args.typed.now)) (sym c.in-Group.is)
 
 pub returns-in-Entries-clause-value : goal.returns-in-Entries-clause-value
 returns-in-Entries-clause-value g c = λ v stored.
     let b = (marked_at c.args.name c.args.buffers.now).buffer in
     c.entries_ruled.ensures.value v stored
-    ∙ ap (λ (k : Ruling). effects v.session.own (ruling_plan c.args.directory.now c.args.name b.entries k c.args.argument c.args.typed.now)) (sym c.in-Entries.is)
+    ∙ ap (λ (k : Ruling). effects v.session.state (ruling_plan c.args.directory.now c.args.name b.entries k c.args.argument c.args.typed.now)) (sym c.in-Entries.is)
 
 pub returns-in-Owner-clause-can : goal.returns-in-Owner-clause-can
 returns-in-Owner-clause-can g c = λ h granted.

@@ -25,7 +25,7 @@ returns-in-None-clause-value g c =
     let decided : c.decide_all.result ≡ needed c.args.directory.now ks c.args.user.now x c.args.given.now k (length c.args.kill.now) =
     c.decide_all.ensures ∙ ap (decision c.args.directory.now b.owners c.args.user.now b.entries) c.needs.ensures in
     subst (λ (f : Named). IsActionFor c.args.directory.now f.all c.args.user.now (marks_in f.name c.args.window_marks.now) c.args.given.now c.args.kill.now k c.args.pattern.now c.plan_granted.result) c.find-found.ensures
-    (λ own. granted c.args.directory.now ks c.args.user.now x c.args.given.now k c.args.pattern.now c.args.kill.now c.around-place.result c.plan_granted.result own
+    (λ state. granted c.args.directory.now ks c.args.user.now x c.args.given.now k c.args.pattern.now c.args.kill.now c.around-place.result c.plan_granted.result state
     c.around-place.ensures.value (sym decided ∙ c.in-None.ensures.granted refl) c.plan_granted.ensures.value)
 
 pub returns-in-None-clause-can : goal.returns-in-None-clause-can
@@ -47,5 +47,5 @@ returns-in-Some-clause-value g c =
     let decided : c.decide_all.result ≡ needed c.args.directory.now ks c.args.user.now x c.args.given.now k (length c.args.kill.now) =
     c.decide_all.ensures ∙ ap (decision c.args.directory.now b.owners c.args.user.now b.entries) c.needs.ensures in
     subst (λ (f : Named). IsActionFor c.args.directory.now f.all c.args.user.now (marks_in f.name c.args.window_marks.now) c.args.given.now c.args.kill.now k c.args.pattern.now (Fails c.in-Some.message)) c.find-found.ensures
-    (λ own. denied c.args.directory.now ks c.args.user.now x c.args.given.now k c.args.pattern.now c.args.kill.now c.in-Some.message own
+    (λ state. denied c.args.directory.now ks c.args.user.now x c.args.given.now k c.args.pattern.now c.args.kill.now c.in-Some.message state
     (subst (λ (d : Decision). Refuses d c.in-Some.message) decided c.in-Some.ensures.denied))

@@ -7,14 +7,14 @@ use Rattle.mgs_plan.specs.Actions.{CanDo, action_outcome}
 use Rattle.mgs_plan.proofs.searching.plan_granted.Goals as goal
 
 pub returns-clause-value : goal.returns-clause-value
-returns-clause-value g c = λ own rest.
+returns-clause-value g c = λ state rest.
     let name = c.args.found.now.name in
     let b = (marked_at name c.args.found.now.all).buffer in
     let text = g.T.Text.text c.text-text.result.now in
-    subst (λ (t : List ℕ). action_outcome own name t b.items c.args.kill.now c.moves.result ≡ moved_by own (motion (SearchFor c.args.direction) t (record rest { place = c.args.place; typed = c.args.pattern.now })))
+    subst (λ (t : List ℕ). action_outcome state name t b.items c.args.kill.now c.moves.result ≡ moved_by state (motion (SearchFor c.args.direction) t (record rest { place = c.args.place; typed = c.args.pattern.now })))
     c.text-text.ensures.text
-    (c.moves.ensures.value own name b.items
-    ∙ ap (moved_by own) (c.goes.ensures.plan text c.args.kill.now ∙ c.search_for.ensures.plan rest))
+    (c.moves.ensures.value state name b.items
+    ∙ ap (moved_by state) (c.goes.ensures.plan text c.args.kill.now ∙ c.search_for.ensures.plan rest))
 
 pub returns-clause-can : goal.returns-clause-can
 returns-clause-can g c =

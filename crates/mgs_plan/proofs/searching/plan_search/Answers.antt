@@ -2,7 +2,7 @@ use Rattle.std.proofs.Common.{refl, subst, sym, ◌∙◌}
 use Rattle.std.specs.Prelude.{IfSome}
 use Rattle.mgs_model.specs.declared.session.Command.TheVariants.{Move}
 use Rattle.mgs_model.specs.declared.session.Motion.TheVariants.{SearchFor}
-use Rattle.mgs_world.specs.Worlds.{own_of}
+use Rattle.mgs_world.specs.Worlds.{state_of}
 use Rattle.mgs_plan.specs.Searching.{sought}
 use Rattle.mgs_model.specs.declared.message.Message.TheVariants.{NoBuffer}
 use Rattle.mgs_plan.specs.Actions.{AreMarks}
@@ -12,7 +12,7 @@ use Rattle.mgs_plan.proofs.searching.plan_search.Goals as goal
 
 pub returns-in_default-clause-value : goal.returns-in_default-clause-value
 returns-in_default-clause-value g c = λ xs next.
-    text_unshown c.args.directory.now c.args.buffers.now xs next c.args.session.now (Move (SearchFor c.args.direction)) c.args.argument (sought (own_of c.args.session.now.own).pattern c.args.typed.now) refl (Fails NoBuffer) (sym c.selected_window_marks.ensures ∙ c.in_default.is) (λ ks v stored. refl)
+    text_unshown c.args.directory.now c.args.buffers.now xs next c.args.session.now (Move (SearchFor c.args.direction)) c.args.argument (sought (state_of c.args.session.now.state).pattern c.args.typed.now) refl (Fails NoBuffer) (sym c.selected_window_marks.ensures ∙ c.in_default.is) (λ ks v stored. refl)
 
 pub plan_meant-action-requires-clause-marks : goal.plan_meant-action-requires-clause-marks
 plan_meant-action-requires-clause-marks g c = subst (λ s. IfSome s (AreMarks c.args.buffers.now)) (sym c.selected_window_marks.ensures ∙ c.in-Some.is) c.requires.marks
@@ -20,7 +20,7 @@ plan_meant-action-requires-clause-marks g c = subst (λ s. IfSome s (AreMarks c.
 pub returns-clause-value : goal.returns-clause-value
 returns-clause-value g c = λ xs next.
     let sel = sym c.selected_window_marks.ensures ∙ c.in-Some.is in
-    text_planned c.args.directory.now c.args.buffers.now xs next c.args.session.now (Move (SearchFor c.args.direction)) c.args.argument (sought (own_of c.args.session.now.own).pattern c.args.typed.now) refl c.in-Some.window_marks c.plan_meant-action.result sel
+    text_planned c.args.directory.now c.args.buffers.now xs next c.args.session.now (Move (SearchFor c.args.direction)) c.args.argument (sought (state_of c.args.session.now.state).pattern c.args.typed.now) refl c.in-Some.window_marks c.plan_meant-action.result sel
     (subst (λ s. IfSome s (AreMarks c.args.buffers.now)) sel c.requires.marks) c.requires.fresh c.plan_meant-action.ensures.value
 
 pub returns-clause-can : goal.returns-clause-can

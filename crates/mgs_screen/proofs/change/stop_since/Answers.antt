@@ -1,5 +1,5 @@
 use Rattle.std.proofs.Common.{◌≡◌, ◌+◌, ap, arith}
-use Rattle.mgs_model.specs.Apart.{IsEditedOnce}
+use Rattle.mgs_laws.specs.Apart.{IsEditedOnce}
 use Rattle.mgs_model.specs.World.{Buffer, Item}
 use Rattle.mgs_buffers.specs.MarkedBuffer.{marked_at}
 use Rattle.mgs_undo.specs.Numbered.{item_of}

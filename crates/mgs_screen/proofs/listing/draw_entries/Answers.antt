@@ -1,5 +1,6 @@
 use Rattle.std.proofs.Common.{ℕ, List, [], ◌∷◌, ◌++◌, Option, sym, ap, subst, ◌∙◌, arith}
-use Rattle.mgs_model.specs.Rows.{Row, rows_put, mode_row}
+use Rattle.mgs_model.specs.Rows.{Row, mode_row}
+use Rattle.mgs_grid.specs.Cells.{rows_put}
 use Rattle.mgs_model.specs.Picture.{Picture}
 use Rattle.mgs_model.specs.Draw.{rows_from, entries_shown}
 use Rattle.mgs_buffers.specs.Found.{Named}

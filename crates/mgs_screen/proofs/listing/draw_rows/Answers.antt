@@ -1,6 +1,7 @@
 use Rattle.std.proofs.Common.{ℕ, Bool, List, sym, ap, ◌∙◌}
 use Rattle.mgs_model.specs.Access.{Directory}
-use Rattle.mgs_model.specs.Rows.{Row, rows_put}
+use Rattle.mgs_model.specs.Rows.{Row}
+use Rattle.mgs_grid.specs.Cells.{rows_put}
 use Rattle.mgs_model.specs.Picture.{Picture}
 use Rattle.mgs_model.specs.Draw.{pane_rows}
 use Rattle.mgs_buffers.specs.MarkedBuffer.{MarkedBuffer}

@@ -4,7 +4,7 @@ use Rattle.std.specs.Prelude.{Option, IfSome}
 use Rattle.std.proofs.lemmas.List.{length-take-le}
 use Rattle.std.proofs.lemmas.List.Sums.{count_by-le-length}
 use Rattle.std.proofs.lemmas.Option.{same_Some}
-use Rattle.mgs_model.specs.Apart.{Follows}
+use Rattle.mgs_laws.specs.Apart.{Follows}
 use Rattle.mgs_model.specs.Lines.{is_feed}
 use Rattle.mgs_model.specs.Picture.{Picture}
 use Rattle.mgs_model.specs.World.{Buffer}
@@ -12,9 +12,9 @@ use Rattle.mgs_buffers.specs.MarkedBuffer.{MarkedBuffer, marked_at}
 use Rattle.mgs_world.specs.Worlds.{buffers_of}
 use Rattle.mgs_world.proofs.Found.{found_buffer}
 use Rattle.mgs_screen.specs.Changes.{IsChange}
-use Rattle.mgs_screen.specs.Sketches.{Stands, text_then}
-use Rattle.mgs_screen.specs.declared.sketch.DrawnText.{DrawnText}
-use Rattle.mgs_screen.specs.declared.sketch.Earlier.{Earlier}
+use Rattle.mgs_screen.specs.TextsDrawn.{Stands, text_then}
+use Rattle.mgs_screen.specs.declared.drawn_texts.DrawnText.{DrawnText}
+use Rattle.mgs_screen.specs.declared.drawn_texts.Earlier.{Earlier}
 use Rattle.mgs_screen.proofs.redrawing.redraw_pane.Goals as goal
 
 pub returns-clause-grid : goal.returns-clause-grid

@@ -1,7 +1,7 @@
 use Rattle.std.proofs.Common.{◌≡◌, ◌≤◌, ℕ, List, length, subst, arith}
 use Rattle.mgs_model.specs.Picture.{Picture}
 use Rattle.mgs_grid.proofs.RowSets.{same_then}
-use Rattle.mgs_screen.specs.Sketches.{showing}
+use Rattle.mgs_screen.specs.TextsDrawn.{showing}
 use Rattle.mgs_screen.proofs.Redrawn.{shown_over, shown_there, shown_unshifted}
 use Rattle.mgs_screen.proofs.redrawing.shift_rows.Goals as goal
 

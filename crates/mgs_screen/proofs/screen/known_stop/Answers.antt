@@ -1,13 +1,13 @@
 use Rattle.std.proofs.Common.{◌≡◌, ℕ, List, sym, ◌∙◌, subst}
 use Rattle.std.specs.Prelude.{Option, IfSome}
 use Rattle.std.proofs.lemmas.Option.{same_Some}
-use Rattle.mgs_model.specs.Apart.{Follows}
+use Rattle.mgs_laws.specs.Apart.{Follows}
 use Rattle.mgs_model.specs.World.{Buffer}
 use Rattle.mgs_buffers.specs.MarkedBuffer.{MarkedBuffer, marked_at}
 use Rattle.mgs_world.specs.Worlds.{buffers_of}
 use Rattle.mgs_world.proofs.Found.{found_buffer}
-use Rattle.mgs_screen.specs.Sketches.{Stands, text_then}
-use Rattle.mgs_screen.specs.declared.sketch.Earlier.{Earlier}
+use Rattle.mgs_screen.specs.TextsDrawn.{Stands, text_then}
+use Rattle.mgs_screen.specs.declared.drawn_texts.Earlier.{Earlier}
 use Rattle.mgs_screen.proofs.screen.known_stop.Goals as goal
 
 pub returns-in-Some : goal.returns-in-Some

@@ -2,11 +2,11 @@ use Rattle.std.proofs.Common.{◌≡◌, ℕ, List, [], ◌∷◌, refl, ap, sub
 use Rattle.std.specs.Prelude.{Option, Some, IfSome}
 use Rattle.mgs_model.specs.Picture.{Picture}
 use Rattle.mgs_model.specs.Rows.{buffer_mode, mode_row}
-use Rattle.mgs_screen.specs.Sketches.{DoesShowMode}
-use Rattle.mgs_screen.specs.declared.sketch.Earlier.{Earlier}
-use Rattle.mgs_screen.specs.declared.sketch.ModeLine.{ModeLine}
+use Rattle.mgs_screen.specs.TextsDrawn.{DoesShowMode}
+use Rattle.mgs_screen.specs.declared.drawn_texts.Earlier.{Earlier}
+use Rattle.mgs_screen.specs.declared.drawn_texts.ModeLine.{ModeLine}
 use Rattle.mgs_screen.proofs.Redrawn.{row_apart}
-use Rattle.mgs_screen.proofs.Sketches.{mode_there}
+use Rattle.mgs_screen.proofs.TextsDrawn.{mode_there}
 use Rattle.mgs_screen.proofs.screen.redraw_mode.Goals as goal
 
 pub returns-then-is_same_mode-clause-grid : goal.returns-then-is_same_mode-clause-grid

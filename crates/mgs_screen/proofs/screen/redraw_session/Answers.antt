@@ -3,21 +3,22 @@ use Rattle.std.specs.Prelude.{nat_eq, if◌then◌else◌}
 use Rattle.std.proofs.lemmas.Bool.{ne_eqb}
 use Rattle.std.proofs.lemmas.List.{drop_more}
 use Rattle.mgs_model.specs.Access.{Directory}
-use Rattle.mgs_model.specs.Rows.{Row, rows_put, echo_row}
+use Rattle.mgs_model.specs.Rows.{Row, echo_row}
+use Rattle.mgs_grid.specs.Cells.{rows_put}
 use Rattle.mgs_model.specs.Picture.{Picture}
-use Rattle.mgs_model.specs.Draw.{window_rows, windows_rows, window_cursor, own_line}
+use Rattle.mgs_model.specs.Draw.{window_rows, windows_rows, window_cursor, state_line}
 use Rattle.mgs_buffers.specs.MarkedBuffer.{MarkedBuffer}
 use Rattle.mgs_windows.specs.declared.Window.{Window}
 use Rattle.mgs_windows.specs.Panes.{room_of}
 use Rattle.mgs_session.specs.declared.Session.{Session}
 use Rattle.mgs_world.specs.Sound.{IsWindowSound}
-use Rattle.mgs_world.specs.Worlds.{own_of}
+use Rattle.mgs_world.specs.Worlds.{state_of}
 use Rattle.mgs_screen.specs.Screens.{window_to, windows_to}
 use Rattle.mgs_world.proofs.Soundness.{window_sound}
 use Rattle.mgs_world.specs.Worlds.{buffers_of}
 use Rattle.mgs_grid.proofs.Pictures.{length-rows_put}
 use Rattle.mgs_grid.proofs.RowSets.{same_then}
-use Rattle.mgs_screen.proofs.Sketches.{IsPut, from_stay, above_stay, above_all}
+use Rattle.mgs_screen.proofs.TextsDrawn.{IsPut, from_stay, above_stay, above_all}
 use Rattle.mgs_screen.proofs.Drawings.{rows_more, cursor_more, cursor_in, cursor_all, rows_all, session_drawn}
 use Rattle.mgs_screen.proofs.RowPanes.{length_window}
 use Rattle.mgs_screen.proofs.screen.redraw_session.Goals as goal
@@ -86,7 +87,7 @@ loop-i-preserved g c =
       col_within = col;
       lines_are = rows_more d user ks cols selected i first ws w old c.redraw_window-row.new.grid.lines _ c.window-item.is c.loop-i-test.true (omega (arith, inv.room, inv.count, next)) size put inv.lines_are;
       cursor_is = cursor_more d user ks cols selected i first ws w c.loop-i.cursor c.if-i-selected.cursor _ shown c.window-item.is c.loop-i-test.true refl cursor inv.cursor_is;
-      stands = from_stay (buffers_of ks) c.loop-i.grid c.redraw_window-row.new.grid first (first + (w.height + 1)) mine c.args.sketch.now whole (omega (arith, size)) inv.stands;
+      stands = from_stay (buffers_of ks) c.loop-i.grid c.redraw_window-row.new.grid first (first + (w.height + 1)) mine c.args.drawn_texts.now whole (omega (arith, size)) inv.stands;
       above = c.redraw_window-row.ensures.texts;
       apart = same_then c.loop-i.rows c.redraw_window-row.new.rows c.args.grid.now.lines old c.redraw_window-row.new.grid.lines inv.apart c.redraw_window-row.ensures.apart c.redraw_window-row.ensures.more;
     }
@@ -103,15 +104,15 @@ returns-clause-grid g c = λ sessions. λ next.
     let ws : List Window = c.as_slice-window-items.result.now in
     let inv = c.loop-i.invariant in
     let rows : List Row = windows_rows 0 selected old.cols (windows_to d x.user ks ws) in
-    let echo : ℕ → Row = λ n. echo_row n (own_line (own_of x.own)) x.own.echo in
+    let echo : ℕ → Row = λ n. echo_row n (state_line (state_of x.state)) x.state.echo in
     let v : ws ≡ x.windows.windows = c.as_slice-window-items.ensures.value in
     let within : selected < length ws = omega (arith, c.selected-selected.ensures.within, c.selected-selected.ensures.value, ap (λ (vs : List Window). length vs) v) in
     let lines : p.lines ≡ rows ++ echo old.cols ∷ [] =
     ap (λ (q : Picture). q.lines) c.redraw_last_row.ensures.grid
     ∙ ap (λ (n : ℕ). rows_put c.loop-i.first (echo n ∷ []) drawn.lines) inv.cols_stay
     ∙ rows_all d x.user ks old.cols selected c.loop-i.i c.loop-i.first ws drawn.lines rows (echo old.cols) c.loop-i-test.false (inv.room ∙ sym inv.count) inv.lines_are in
-    let cursor : cursor_in x.own drawn.rows drawn.cols c.loop-i.cursor ≡ cursor_in x.own old.rows old.cols c.loop-i.cursor =
-    ap (λ (n : ℕ). cursor_in x.own n drawn.cols c.loop-i.cursor) inv.rows_stay ∙ ap (λ (n : ℕ). cursor_in x.own old.rows n c.loop-i.cursor) inv.cols_stay in
+    let cursor : cursor_in x.state drawn.rows drawn.cols c.loop-i.cursor ≡ cursor_in x.state old.rows old.cols c.loop-i.cursor =
+    ap (λ (n : ℕ). cursor_in x.state n drawn.cols c.loop-i.cursor) inv.rows_stay ∙ ap (λ (n : ℕ). cursor_in x.state old.rows n c.loop-i.cursor) inv.cols_stay in
     session_drawn d ks x sessions next ws selected old.rows old.cols c.loop-i.cursor p v c.selected-selected.ensures.value (sym c.requires.rows) (sym c.requires.cols)
     (ap (λ (q : Picture). q.rows) c.redraw_last_row.ensures.grid ∙ inv.rows_stay)
     (ap (λ (q : Picture). q.cols) c.redraw_last_row.ensures.grid ∙ inv.cols_stay)
@@ -127,7 +128,7 @@ returns-clause-stands g c =
     let p : Picture = c.loop-i.grid in
     let q : Picture = c.redraw_last_row.new.grid in
     let inv = c.loop-i.invariant in
-    let echo : Row = echo_row p.cols (own_line (own_of x.own)) x.own.echo in
+    let echo : Row = echo_row p.cols (state_line (state_of x.state)) x.state.echo in
     let put : IsPut c.loop-i.first (echo ∷ []) p q = record {
       lines = ap (λ (r : Picture). r.lines) c.redraw_last_row.ensures.grid;
       wide = ap (λ (r : Picture). r.cols) c.redraw_last_row.ensures.grid;

@@ -10,8 +10,8 @@ use Rattle.mgs_windows.specs.Panes.{room_of}
 use Rattle.mgs_grid.specs.RowSets.{AreSameApart}
 use Rattle.mgs_world.specs.Worlds.{buffers_of}
 use Rattle.mgs_screen.specs.Screens.{windows_to}
-use Rattle.mgs_screen.specs.Sketches.{AreStandingAbove, AreStandingFrom}
-use Rattle.mgs_screen.specs.declared.sketch.DrawnText.{DrawnText}
+use Rattle.mgs_screen.specs.TextsDrawn.{AreStandingAbove, AreStandingFrom}
+use Rattle.mgs_screen.specs.declared.drawn_texts.DrawnText.{DrawnText}
 use Rattle.mgs_screen.proofs.Drawings.{cursor_from}
 use Rattle.mgs_screen.proofs.screen.redraw_session.Given as goal
 
@@ -32,4 +32,4 @@ pub record Drawing (d : Directory) (user : List ℕ) (ks : List MarkedBuffer) (s
   pub apart : AreSameApart rows old.lines new.lines
 
 abbrev pub invariant-loop-i : goal.invariant-loop-i
-invariant-loop-i g l = Drawing l.directory l.session.user l.buffers l.selected l.i l.first l.window-items l.cursor l.judge l.sketch l.texts l.rows l.initial.grid l.grid
+invariant-loop-i g l = Drawing l.directory l.session.user l.buffers l.selected l.i l.first l.window-items l.cursor l.judge l.drawn_texts l.texts l.rows l.initial.grid l.grid

@@ -2,7 +2,8 @@ use Rattle.std.proofs.Common.{◌≡◌, ◌+◌, ◌++◌, ℕ, Bool, List, [],
 use Rattle.std.specs.Prelude.{Option, IfSome}
 use Rattle.mgs_model.specs.Picture.{Picture}
 use Rattle.mgs_model.specs.World.{Buffer, find_buffer}
-use Rattle.mgs_model.specs.Rows.{Row, buffer_mode, mode_row, rows_put, text_rows, shift_at}
+use Rattle.mgs_model.specs.Rows.{Row, buffer_mode, mode_row, text_rows, shift_at}
+use Rattle.mgs_grid.specs.Cells.{rows_put}
 use Rattle.mgs_marks.specs.Marks.{position_in}
 use Rattle.mgs_buffers.specs.MarkedBuffer.{MarkedBuffer, marked_at}
 use Rattle.mgs_grid.proofs.Pictures.{length-text_rows}
@@ -10,12 +11,12 @@ use Rattle.mgs_grid.proofs.RowSets.{same_then}
 use Rattle.mgs_world.specs.Worlds.{buffers_of}
 use Rattle.mgs_world.proofs.Found.{found_buffer}
 use Rattle.mgs_screen.specs.Screens as screens
-use Rattle.mgs_screen.specs.Sketches.{DoesShowMode, Stands, mode_text, text_then, told_as}
+use Rattle.mgs_screen.specs.TextsDrawn.{DoesShowMode, Stands, mode_text, text_then, told_as}
 use Rattle.mgs_screen.specs.TabStops.{IsTabStop}
-use Rattle.mgs_screen.specs.declared.sketch.DrawnText.{DrawnText}
-use Rattle.mgs_screen.specs.declared.sketch.Earlier.{Earlier}
+use Rattle.mgs_screen.specs.declared.drawn_texts.DrawnText.{DrawnText}
+use Rattle.mgs_screen.specs.declared.drawn_texts.Earlier.{Earlier}
 use Rattle.mgs_screen.proofs.Drawings.{pane_put, text_drawn, window_marks_drawn}
-use Rattle.mgs_screen.proofs.Sketches.{IsPut, found_stands, mode_stands, mode_stays, texts_kept}
+use Rattle.mgs_screen.proofs.TextsDrawn.{IsPut, found_stands, mode_stands, mode_stays, texts_kept}
 use Rattle.mgs_screen.proofs.screen.redraw_text.Goals as goal
 
 pub redraw_pane-requires-clause-short : goal.redraw_pane-requires-clause-short
@@ -28,7 +29,7 @@ measure-measures-requires-clause-known g c =
     let name : List ℕ = c.args.found.now.name in
     let bs : List Buffer = buffers_of c.args.found.now.all in
     let o : Option Earlier = c.drawn-earlier.result in
-    let stands : IfSome o (λ e. Stands bs p (text_then name first c.args.height e)) = found_stands bs p c.args.sketch.now c.args.place.index c.name-name.result.now name first c.args.height o c.requires.stands c.name-name.ensures.value c.drawn-earlier.ensures in
+    let stands : IfSome o (λ e. Stands bs p (text_then name first c.args.height e)) = found_stands bs p c.args.drawn_texts.now c.args.place.index c.name-name.result.now name first c.args.height o c.requires.stands c.name-name.ensures.value c.drawn-earlier.ensures in
     subst (λ (ys : List ℕ). IfSome c.known_stop-known.result (λ s. IsTabStop ys s.place s.column)) (sym c.text-text.ensures.text) (c.known_stop-known.ensures p first c.args.height stands)
 
 pub redraw_pane-requires-clause-stands : goal.redraw_pane-requires-clause-stands
@@ -38,7 +39,7 @@ redraw_pane-requires-clause-stands g c =
     let name : List ℕ = c.args.found.now.name in
     let bs : List Buffer = buffers_of c.args.found.now.all in
     let o : Option Earlier = c.drawn-earlier.result in
-    found_stands bs p c.args.sketch.now c.args.place.index c.name-name.result.now name first c.args.height o c.requires.stands c.name-name.ensures.value c.drawn-earlier.ensures
+    found_stands bs p c.args.drawn_texts.now c.args.place.index c.name-name.result.now name first c.args.height o c.requires.stands c.name-name.ensures.value c.drawn-earlier.ensures
 
 pub returns-clause-lines : goal.returns-clause-lines
 returns-clause-lines g c =
@@ -107,7 +108,7 @@ redraw_mode-requires-clause-stands g c =
       wide = ap (λ (r : Picture). r.cols) c.redraw_pane.ensures.grid;
       fits = omega (arith, size, c.requires.room, c.cols-cols.ensures.picture.count);
     } in
-    let stands = found_stands bs p c.args.sketch.now c.args.place.index c.name-name.result.now name first height o c.requires.stands c.name-name.ensures.value c.drawn-earlier.ensures in
+    let stands = found_stands bs p c.args.drawn_texts.now c.args.place.index c.name-name.result.now name first height o c.requires.stands c.name-name.ensures.value c.drawn-earlier.ensures in
     let there : IfSome o (λ e. DoesShowMode (first + height) name e.mode c.redraw_pane.new.grid) =
     mode_stays (first + height) first name pane p c.redraw_pane.new.grid o put (omega (arith, size)) (mode_stands bs p name first height o stands) in
     subst (λ (n : List ℕ). IfSome o (λ e. DoesShowMode (first + height) n e.mode c.redraw_pane.new.grid)) (sym c.name-name.ensures.value) there

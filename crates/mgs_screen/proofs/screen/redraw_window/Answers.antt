@@ -1,7 +1,8 @@
 use Rattle.std.proofs.Common.{◌≡◌, ◌+◌, ◌++◌, ℕ, length, arith, length-append, Bool, true, false, List, [], ◌∷◌, Option, None, sym, ap, subst, ◌∙◌}
 use Rattle.mgs_model.specs.Picture.{Picture}
 use Rattle.mgs_model.specs.World.{may}
-use Rattle.mgs_model.specs.Rows.{Row, rows_put, mode_row, buffer_mode, unread_rows}
+use Rattle.mgs_model.specs.Rows.{Row, mode_row, buffer_mode, unread_rows}
+use Rattle.mgs_grid.specs.Cells.{rows_put}
 use Rattle.mgs_model.specs.declared.right.Right.TheVariants.{ReadData}
 use Rattle.mgs_model.specs.declared.entry.Decision.{Decision}
 use Rattle.mgs_model.specs.Access.{decider, decision_by}
@@ -17,9 +18,9 @@ use Rattle.mgs_world.proofs.Soundness.{window_point}
 use Rattle.mgs_screen.specs.Listings.{rows_to}
 use Rattle.mgs_screen.proofs.Redrawn.{lines_apart}
 use Rattle.mgs_screen.proofs.RowPanes.{length_rows}
-use Rattle.mgs_screen.proofs.Sketches.{IsPut, texts_passed}
+use Rattle.mgs_screen.proofs.TextsDrawn.{IsPut, texts_passed}
 use Rattle.mgs_screen.specs.Screens.{heading_to, window_marks_cursor, window_marks_rows}
-use Rattle.mgs_screen.specs.Sketches.{AreStandingAbove, AreStandingFrom, told_as}
+use Rattle.mgs_screen.specs.TextsDrawn.{AreStandingAbove, AreStandingFrom, told_as}
 use Rattle.mgs_screen.proofs.Drawings.{pane_put, shown_kept, window_read, window_top, window_unread, window_cursor_read, window_cursor_unread}
 use Rattle.mgs_screen.proofs.screen.redraw_window.Goals as goal
 
@@ -41,7 +42,7 @@ redraw_text-requires-clause-top g c =
     subst (λ (f : Named). IsMark f.name x.top f.all) (sym c.find-found.ensures) (window_top c.args.buffers.now c.args.window.now x c.requires.sound c.in-Some.is)
 
 pub redraw_text-requires-clause-stands : goal.redraw_text-requires-clause-stands
-redraw_text-requires-clause-stands g c = subst (λ (f : Named). AreStandingFrom c.args.place.first (buffers_of f.all) c.args.grid.now c.args.sketch.now) (sym c.find-found.ensures) c.requires.stands
+redraw_text-requires-clause-stands g c = subst (λ (f : Named). AreStandingFrom c.args.place.first (buffers_of f.all) c.args.grid.now c.args.drawn_texts.now) (sym c.find-found.ensures) c.requires.stands
 
 pub redraw_text-requires-clause-above : goal.redraw_text-requires-clause-above
 redraw_text-requires-clause-above g c = subst (λ (f : Named). AreStandingAbove c.args.place.first (buffers_of f.all) c.args.grid.now c.args.texts.now) (sym c.find-found.ensures) c.requires.above

@@ -24,7 +24,7 @@ edit-requires-clause-room g c =
 pub returns-in-Err-clause-may : goal.returns-in-Err-clause-may
 returns-in-Err-clause-may g c = λ h found.
     let p = c.args.planned.now in
-    let put_is = c.put_of-put.ensures ∙ ap (λ (z : Session). put_of p.plan.replaces z.own.search) (get_or_from_slice_get c.args.sessions.now c.args.at h c.index-sessions-at.result found) in
+    let put_is = c.put_of-put.ensures ∙ ap (λ (z : Session). put_of p.plan.replaces z.state.search) (get_or_from_slice_get c.args.sessions.now c.args.at h c.index-sessions-at.result found) in
     sym (ap (λ (put : List ℕ). is_edit p.edit.from p.edit.to put) put_is) ∙ c.in-Err.ensures.may
 
 pub if_edit-edit-requires-clause-fits : goal.if_edit-edit-requires-clause-fits
@@ -66,7 +66,7 @@ returns-clause-done g c = λ h found.
     let p = c.args.planned.now in
     let same = get_or_from_slice_get xs c.args.at h q found in
     let put = c.put_of-put.result.now in
-    let put_is = c.put_of-put.ensures ∙ ap (λ (z : Session). put_of p.plan.replaces z.own.search) same in
+    let put_is = c.put_of-put.ensures ∙ ap (λ (z : Session). put_of p.plan.replaces z.state.search) same in
     let len = put_len ks c.edit.new.buffers h p can put put_is c.in-Ok.ensures.ok in
     let e = c.if_edit-edit.result in
     let y = get_or c.follow.new.sessions c.args.at c.index-sessions-at-2.result in

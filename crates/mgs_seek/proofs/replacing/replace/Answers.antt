@@ -61,4 +61,4 @@ returns-in-Err-clause-tells g c = λ id next s r place held aim.
 
 pub returns-in-Err-clause-further : goal.returns-in-Err-clause-further
 returns-in-Err-clause-further g c = λ s t before after some.
-    absurd (fails_further c.args.sessions.now c.args.at _ _ t (ap (get_or c.args.sessions.now c.args.at) c.index-sessions-at-in-Err.is) c.requires.within (ap (λ (y : Session). y.own.search) c.fail.ensures) after)
+    absurd (fails_further c.args.sessions.now c.args.at _ _ t (ap (get_or c.args.sessions.now c.args.at) c.index-sessions-at-in-Err.is) c.requires.within (ap (λ (y : Session). y.state.search) c.fail.ensures) after)

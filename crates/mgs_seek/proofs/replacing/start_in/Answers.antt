@@ -1,6 +1,6 @@
 use Rattle.std.proofs.Common.{◌≤◌, ℕ, length, subst, None, refl}
 use Rattle.mgs_model.specs.declared.session.Motion.TheVariants.{StartReplace}
-use Rattle.mgs_seek.specs.Replacing.{replacing_own}
+use Rattle.mgs_seek.specs.Replacing.{replacing_state}
 use Rattle.mgs_buffers.specs.MarkedBuffer.{mark_at, marked_at}
 use Rattle.mgs_seek.proofs.Meets.{only_met}
 use Rattle.mgs_seek.proofs.Skips.{within_read}
@@ -9,7 +9,7 @@ use Rattle.mgs_seek.proofs.replacing.start_in.Goals as goal
 
 pub returns-in-Err-clause-does : goal.returns-in-Err-clause-does
 returns-in-Err-clause-does g c =
-    rw c.fail.ensures (start_fails c.args.directory.now c.args.buffers.now c.args.session.now (replacing_own c.args.pattern c.args.put) StartReplace None c.args.put c.requires.fresh c.in-Err.message refl c.in-Err.ensures.err)
+    rw c.fail.ensures (start_fails c.args.directory.now c.args.buffers.now c.args.session.now (replacing_state c.args.pattern c.args.put) StartReplace None c.args.put c.requires.fresh c.in-Err.message refl c.in-Err.ensures.err)
 
 pub returns-in-Err-begin_replacing-clause-does : goal.returns-in-Err-begin_replacing-clause-does
 returns-in-Err-begin_replacing-clause-does g c =

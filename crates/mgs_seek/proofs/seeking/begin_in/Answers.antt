@@ -1,13 +1,13 @@
 use Rattle.std.proofs.Common.{◌≤◌, ℕ, length, subst, [], refl}
 use Rattle.mgs_buffers.specs.MarkedBuffer.{mark_at, marked_at}
 use Rattle.mgs_model.specs.declared.session.Motion.TheVariants.{StartSearch}
-use Rattle.mgs_plan.specs.Beginning.{searching_own}
+use Rattle.mgs_plan.specs.Beginning.{searching_state}
 use Rattle.mgs_seek.proofs.Starts.{begin_does, start_fails}
 use Rattle.mgs_seek.proofs.seeking.begin_in.Goals as goal
 
 pub returns-in-Err-clause-does : goal.returns-in-Err-clause-does
 returns-in-Err-clause-does g c = λ n.
-    rw c.fail.ensures (start_fails c.args.directory.now c.args.buffers.now c.args.session.now (searching_own c.args.direction) (StartSearch c.args.direction) n [] c.requires.fresh c.in-Err.message refl c.in-Err.ensures.err)
+    rw c.fail.ensures (start_fails c.args.directory.now c.args.buffers.now c.args.session.now (searching_state c.args.direction) (StartSearch c.args.direction) n [] c.requires.fresh c.in-Err.message refl c.in-Err.ensures.err)
 
 pub returns-in-Ok-clause-does : goal.returns-in-Ok-clause-does
 returns-in-Ok-clause-does g c = λ n.

@@ -9,10 +9,10 @@ pub returns-in-Some-clause-only : goal.returns-in-Some-clause-only
 returns-in-Some-clause-only g c =
     let h = c.args.session.now in
     rw (c.seek.ensures.buffers, c.seek.ensures.session, c.take_seeker.ensures.rest)
-    (only_stepped c.args.directory.now c.args.buffers.now h c.in-Ok.window_marks c.in-Some.search c.args.step c.requires c.in-Ok.ensures.ok (held_seeker h.own.search c.in-Some.search (sym c.take_seeker.ensures.search ∙ c.in-Some.is)))
+    (only_stepped c.args.directory.now c.args.buffers.now h c.in-Ok.window_marks c.in-Some.search c.args.step c.requires c.in-Ok.ensures.ok (held_seeker h.state.search c.in-Some.search (sym c.take_seeker.ensures.search ∙ c.in-Some.is)))
 
 pub returns-in-Some-clause-does : goal.returns-in-Some-clause-does
 returns-in-Some-clause-does g c = λ s f held aim.
     let h = c.args.session.now in
     rw (c.seek.ensures.buffers, c.seek.ensures.session, c.take_seeker.ensures.rest)
-    (step_does c.args.directory.now c.args.buffers.now h c.in-Ok.window_marks c.in-Some.search c.args.step c.requires c.in-Ok.ensures.ok (held_seeker h.own.search c.in-Some.search (sym c.take_seeker.ensures.search ∙ c.in-Some.is)) c.seek.ensures.within c.seek.ensures.plan s f held aim)
+    (step_does c.args.directory.now c.args.buffers.now h c.in-Ok.window_marks c.in-Some.search c.args.step c.requires c.in-Ok.ensures.ok (held_seeker h.state.search c.in-Some.search (sym c.take_seeker.ensures.search ∙ c.in-Some.is)) c.seek.ensures.within c.seek.ensures.plan s f held aim)

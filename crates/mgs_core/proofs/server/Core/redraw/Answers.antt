@@ -3,7 +3,7 @@ use Rattle.mgs_model.specs.World.{World, find_session}
 use Rattle.mgs_model.specs.Draw.{screen}
 use Rattle.mgs_session.specs.declared.Session.{Session}
 use Rattle.mgs_world.specs.Worlds.{sizes, sizes_in, find_size, world_of}
-use Rattle.mgs_screen.specs.Sketches.{AreStanding}
+use Rattle.mgs_screen.specs.TextsDrawn.{AreStanding}
 use Rattle.mgs_world.proofs.Sizes.{sizes_of_world}
 use Rattle.mgs_core.proofs.Kept.{world_is}
 use Rattle.mgs_core.proofs.server.Core.redraw.Goals as goal
@@ -16,7 +16,7 @@ redraw_in-requires-clause-open g c =
 
 pub redraw_in-requires-clause-stands : goal.redraw_in-requires-clause-stands
 redraw_in-requires-clause-stands g c =
-    subst (λ (w : World). AreStanding w.buffers c.args.grid.now c.args.sketch.now) (sym (world_is _ _ c.self.view_is)) c.requires.stands
+    subst (λ (w : World). AreStanding w.buffers c.args.grid.now c.args.drawn_texts.now) (sym (world_is _ _ c.self.view_is)) c.requires.stands
 
 pub returns-clause-grid : goal.returns-clause-grid
 returns-clause-grid g c x found =
@@ -26,4 +26,4 @@ returns-clause-grid g c x found =
 
 pub returns-clause-stands : goal.returns-clause-stands
 returns-clause-stands g c =
-    subst (λ (w : World). AreStanding w.buffers c.redraw_in.new.grid c.redraw_in.new.sketch) (world_is _ _ c.self.view_is) c.redraw_in.ensures.stands
+    subst (λ (w : World). AreStanding w.buffers c.redraw_in.new.grid c.redraw_in.new.drawn_texts) (world_is _ _ c.self.view_is) c.redraw_in.ensures.stands

@@ -1,10 +1,11 @@
 -- One turn of an event: of what a session has still to do, the next is done.
 use Rattle.std.specs.Prelude.{◌≡◌, ◌≤◌, ◌<◌, IsSome, ℕ, ◌+◌, Bool, true, false, not, ◌||◌, List, [], ◌∷◌, length, Option, Some, None, cond}
-use Rattle.mgs_model.specs.World.{World, Session, Own, Todo, Typed, Played, Replace_all, Play, find_session, has_id}
+use Rattle.mgs_model.specs.World.{World, State, Todo, Typed, Played, Replace_all, Play, find_session}
 use Rattle.mgs_model.specs.Outcome.{Act, Run}
-use Rattle.mgs_model.specs.Apply.{change_first, outcome_in}
+use Rattle.mgs_model.specs.Apply.{outcome_in}
 use Rattle.mgs_model.specs.Turns.{Turn, Keep, Do}
-use Rattle.mgs_model.specs.Events.{begun_own, may_be_refused, refused_own, settled, turn_in, with_own}
+use Rattle.mgs_model.specs.Events.{begun_state, refused_state, settled, turn_in, with_state}
+use Rattle.mgs_laws.specs.Refusals.{may_be_refused}
 use Rattle.mgs_model.specs.Names.{same_name}
 use Rattle.mgs_model.specs.declared.touched.Touched.{Touched}
 use Rattle.mgs_model.specs.declared.touched.Touched.TheVariants.{Nowhere, In, Anywhere}
@@ -15,7 +16,7 @@ use Rattle.mgs_model.specs.declared.session.Mode.TheVariants.{Replacing}
 use Rattle.mgs_store.specs.Stores.{StoreTold}
 use Rattle.mgs_session.specs.Playing.{is_nothing}
 use Rattle.mgs_act.specs.Doing.{ActedBy}
-use Rattle.mgs_core.specs.Steps.{KeyedBy, closed}
+use Rattle.mgs_core.specs.Calls.{KeyedBy, closed}
 
 -- A MEASURE of what is to be done, where so many characters are left of the text that is replaced in: a further replacement leaves fewer of
 -- them, a byte of a macro may call for all further ones, of at most 1,048,576 characters, and a byte that was typed for all that can be
@@ -36,8 +37,8 @@ has_all (Replace_all ∷ todo) = true
 has_all (Play ∷ todo) = has_all todo
 
 -- they are those of a query-replace that replaces something
-abbrev pub IsFit : Own → Type 0
-IsFit own = has_all own.todo ≡ true → (own.mode ≡ Replacing) × (0 < length own.old)
+abbrev pub IsFit : State → Type 0
+IsFit state = has_all state.todo ≡ true → (state.mode ≡ Replacing) × (0 < length state.old)
 
 -- nothing of it was typed
 abbrev pub is_played : List Todo → Bool
@@ -51,10 +52,10 @@ is_played (Play ∷ todo) = is_played todo
 abbrev pub IsWithin : ℕ → List Todo → Type 0
 IsWithin n todo = (weight 1048576 todo ≤ n) × (is_played todo ≡ true)
 
--- what a turn is that goes on: the own record alone changes, or an act
-abbrev pub turn_to : Own → Option Act → Turn
-turn_to own None = Keep own
-turn_to own (Some c) = Do own c
+-- what a turn is that goes on: the state of its session alone changes, or an act
+abbrev pub turn_to : State → Option Act → Turn
+turn_to state None = Keep state
+turn_to state (Some c) = Do state c
 
 -- an act saves nothing where a macro plays, and only a save saves
 abbrev pub asks : Act → Bool
@@ -65,33 +66,33 @@ abbrev pub is_quiet : Bool → Act → Bool
 is_quiet playing c = playing || not (asks c)
 
 -- an act of a byte that was typed leaves nothing to do
-abbrev pub IsTurnDone : Bool → List Todo → Own → Option Act → World → World → StoreTold → StoreTold → ℕ → Type 0
-IsTurnDone playing left own None old new before after id = (new ≡ with_own id (λ was. own) old) × (after ≡ before)
-IsTurnDone playing left own (Some c) old new before after id = (playing ≡ true → is_quiet own.playing c ≡ true) × (playing ≡ false → left ≡ []) × ActedBy (with_own id (λ was. own) old) new before after id c
+abbrev pub IsTurnDone : Bool → List Todo → State → Option Act → World → World → StoreTold → StoreTold → ℕ → Type 0
+IsTurnDone playing left state None old new before after id = (new ≡ with_state id (λ was. state) old) × (after ≡ before)
+IsTurnDone playing left state (Some c) old new before after id = (playing ≡ true → is_quiet state.playing c ≡ true) × (playing ≡ false → left ≡ []) × ActedBy (with_state id (λ was. state) old) new before after id c
 
 -- IT IS DONE, of a byte that was typed or that a macro plays, and this is left
 pub record TurnDone (playing : Bool) (left : List Todo) (old new : World) (before after : StoreTold) (id : ℕ) : Type 0 where
-  pub own : Own
+  pub state : State
   pub act : Option Act
-  pub turn : turn_in old id ≡ turn_to own act
-  pub done : IsTurnDone playing left own act old new before after id
+  pub turn : turn_in old id ≡ turn_to state act
+  pub done : IsTurnDone playing left state act old new before after id
 
 -- OR REFUSED for want of memory: the session is told so, and has nothing more to do
 pub record TurnRefused (old new : World) (before after : StoreTold) (id : ℕ) : Type 0 where
-  pub own : Own
+  pub state : State
   pub act : Act
-  pub turn : turn_in old id ≡ Do own act
-  pub told : new ≡ with_own id refused_own old
-  pub may : may_be_refused (outcome_in (with_own id (λ was. own) old) id act true) ≡ true
+  pub turn : turn_in old id ≡ Do state act
+  pub told : new ≡ with_state id refused_state old
+  pub may : may_be_refused (outcome_in (with_state id (λ was. state) old) id act true) ≡ true
   pub left : after ≡ before
 
 -- OR ITS SESSION ENDS, which is to be taken out: by a byte that was typed alone
 pub record TurnEnds (playing : Bool) (old new : World) (before after : StoreTold) (id : ℕ) : Type 0 where
-  pub own : Own
+  pub state : State
   pub argument : Option ℕ
-  pub turn : turn_in old id ≡ Do own (Run Exit argument [])
+  pub turn : turn_in old id ≡ Do state (Run Exit argument [])
   pub typed : playing ≡ false
-  pub quiet : own.playing ≡ false
+  pub quiet : state.playing ≡ false
   pub gone : closed new id ≡ closed old id
   pub left : after ≡ before
 
@@ -100,20 +101,6 @@ TurnedBy playing left old new before after id keyed.Done = TurnDone playing left
 TurnedBy playing left old new before after id keyed.Short = TurnRefused old new before after id
 TurnedBy playing left old new before after id keyed.Quit = TurnEnds playing old new before after id
 TurnedBy playing left old new before after id keyed.NoSession = ⊥
-
--- A DEED, which is this act: it is done, in the world in which it is decided; or memory was refused to it, if it takes any, and this is what is
--- left of the session
-pub record DeedRefused (old new : World) (before after : StoreTold) (id : ℕ) (takes : Bool) (c : Act) (f : Session → Session) : Type 0 where
-  pub wants : takes ≡ true
-  pub told : new ≡ record old { sessions = change_first (has_id id) f old.sessions }
-  pub may : may_be_refused (outcome_in old id c true) ≡ true
-  pub left : after ≡ before
-
-abbrev pub DeedBy : World → World → World → StoreTold → StoreTold → ℕ → Bool → Act → (Session → Session) → Keyed → Type 0
-DeedBy old begun new before after id takes c f keyed.Done = ActedBy begun new before after id c
-DeedBy old begun new before after id takes c f keyed.Short = DeedRefused old new before after id takes c f
-DeedBy old begun new before after id takes c f keyed.Quit = ⊥
-DeedBy old begun new before after id takes c f keyed.NoSession = ⊥
 
 -- less is left than was, and nothing that was typed, where so many characters were left and are
 abbrev pub IsLess : ℕ → ℕ → List Todo → List Todo → Type 0
@@ -125,7 +112,7 @@ abbrev pub EventBy : ℕ → World → World → StoreTold → StoreTold → Key
 EventBy id start now before after keyed.Quit = TurnEnds false start now before after id
 EventBy id start now before after keyed.NoSession = ⊥
 EventBy id start now before after result =
-    (w : World) (byte : ℕ) → IsSome (find_session id w.sessions) → IsSome (find_session id (settled now).sessions) → start ≡ with_own id (begun_own byte) w → KeyedBy w (settled now) before after id byte result
+    (w : World) (byte : ℕ) → IsSome (find_session id w.sessions) → IsSome (find_session id (settled now).sessions) → start ≡ with_state id (begun_state byte) w → KeyedBy w (settled now) before after id byte result
 
 -- WHAT IS TOUCHED by one turn and by the next
 abbrev pub touched_both : Touched → Touched → Touched

@@ -1,8 +1,8 @@
 use Rattle.std.proofs.Common.{◌≡◌, ℕ, List, Some, refl, sym, ap, ◌∙◌}
 use Rattle.std.proofs.lemmas.Option.{slice_get_read}
 use Rattle.std.proofs.lemmas.Slice.Eq.{bytes_eq-Decides}
-use Rattle.mgs_screen.specs.declared.sketch.DrawnText.{DrawnText}
-use Rattle.mgs_screen.proofs.sketch.drawn_in.Goals as goal
+use Rattle.mgs_screen.specs.declared.drawn_texts.DrawnText.{DrawnText}
+use Rattle.mgs_screen.proofs.drawn_texts.drawn_in.Goals as goal
 
 -- a text of this name in these rows
 same_place : (d : DrawnText) (n : List ℕ) (f h : ℕ) → d.name ≡ n → d.first ≡ f → d.height ≡ h → d ≡ record d { name = n; first = f; height = h }

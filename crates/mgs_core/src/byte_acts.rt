@@ -4,10 +4,10 @@ ghost use Rattle.mgs_act.specs.Doing.{IsRefusable};
 ghost use Rattle.mgs_plan.specs.Actions.{act_of};
 ghost use Rattle.mgs_plan.specs.Beginning.{search_held};
 ghost use Rattle.mgs_world.specs.Sound.{IsSound};
-ghost use Rattle.mgs_world.specs.Worlds.{idle, own_at};
-ghost use Rattle.mgs_core.specs.Calls.{IsActDone, IsDeedDone, IsSameWorld, LeavesFewer};
-ghost use Rattle.mgs_core.specs.Steps.{is_acted, started_by, started_in_motion};
-ghost use Rattle.mgs_core.specs.Stepped.{CanDo, IsReady, asked_of, before_of, deed_act, is_asked, may_want_memory};
+ghost use Rattle.mgs_world.specs.Worlds.{idle, state_at};
+ghost use Rattle.mgs_core.specs.AtPlace.{IsKeyActDone, IsActDone, IsSameWorld, LeavesFewer};
+ghost use Rattle.mgs_core.specs.KeyActs.{is_acted, started_by, started_in_motion};
+ghost use Rattle.mgs_core.specs.ByteActs.{CanDo, IsReady, asked_of, before_of, model_act, is_asked, may_want_memory};
 
 use mgs_act::{act, answer};
 use mgs_buffers::Buffers;
@@ -22,7 +22,7 @@ use mgs_store::Store;
 use std::alloc::Global;
 use std::mem;
 
-/// What was there before a deed. Where memory is refused to the deed, it is there again.
+/// What was there before an act. Where memory is refused to the act, it is there again.
 #[derive(Drop)]
 pub enum Before {
     /// No mode.
@@ -37,7 +37,7 @@ pub enum Before {
 
 /// What is to be done for a byte by its session. What was there before is large, and stands elsewhere.
 #[derive(Clone, Copy)]
-pub enum Deed {
+pub enum ByteAct {
     /// The act of a key, or of a command that was named. The session is at rest.
     Act(KeyAct),
     /// What the question of the prompt is for that was there before, with this argument. Its input is the answer, and names no command. The
@@ -55,13 +55,13 @@ pub enum Deed {
     Skip,
 }
 
-/// What is there again where memory was refused to a deed. It is taken out of its place, in which `Plain` is left. A replacement leaves the
+/// What is there again where memory was refused to an act. It is taken out of its place, in which `Plain` is left. A replacement leaves the
 /// place as it is: its session holds the search.
-pub fn take_before(before: &mut Before, deed: Deed) -> Before
-    ensures { result ≡ before_of before.old deed }
+pub fn take_before(before: &mut Before, byte_act: ByteAct) -> Before
+    ensures { result ≡ before_of before.old byte_act }
 {
-    match deed {
-        Deed::Replace(_) => Before::Held,
+    match byte_act {
+        ByteAct::Replace(_) => Before::Held,
         _ => mem::replace(before, Before::Plain),
     }
 }
@@ -101,7 +101,7 @@ fn started_by(done: KeyAct) -> Option<Direction>
 }
 
 /// Does an act of the session at `at`: a search that starts takes no memory.
-fn do_act<T: Marked + Drop, S: Store>(
+fn do_key_act<T: Marked + Drop, S: Store>(
     alloc: Global,
     buffers: &mut Buffers<T>,
     directory: &Directory,
@@ -112,10 +112,10 @@ fn do_act<T: Marked + Drop, S: Store>(
 ) -> Result<Touched, Short>
     requires sound { IsSound buffers.old sessions.old }
     requires within { at < length sessions.old }
-    requires fresh { own_at at sessions.old ≡ idle (own_at at sessions.old) }
+    requires fresh { state_at at sessions.old ≡ idle (state_at at sessions.old) }
     requires here { is_acted done ≡ true }
     ensures sound { IsSound buffers.new sessions.new }
-    ensures ok { IfOk result (IsActDone S.failed S.accepted directory.now at done buffers.old sessions.old store.old buffers.new sessions.new store.new) }
+    ensures ok { IfOk result (IsKeyActDone S.failed S.accepted directory.now at done buffers.old sessions.old store.old buffers.new sessions.new store.new) }
     ensures wants { OnErr result (started_by done ≡ None) }
     ensures err { OnErr result (IsSameWorld directory.now buffers.old buffers.new sessions.old sessions.new) }
     ensures unasked { OnErr result (store.new ≡ store.old) }
@@ -131,31 +131,31 @@ fn do_act<T: Marked + Drop, S: Store>(
 }
 
 /// Does what is to be done, by the session at `at`, where this was there before. The error: memory was refused, and nothing of it was done.
-pub fn do_deed<T: Marked + Drop, S: Store>(
+pub fn do_byte_act<T: Marked + Drop, S: Store>(
     alloc: Global,
     buffers: &mut Buffers<T>,
     directory: &Directory,
     sessions: &mut [Session],
     at: usize,
     store: &mut S,
-    deed: Deed,
+    act: ByteAct,
     before: &Before,
 ) -> Result<Touched, Short>
     requires sound { IsSound buffers.old sessions.old }
     requires within { at < length sessions.old }
-    requires ready { IsReady deed (search_held at sessions.old) (own_at at sessions.old) }
-    requires here { CanDo before.now deed }
+    requires ready { IsReady act (search_held at sessions.old) (state_at at sessions.old) }
+    requires here { CanDo before.now act }
     ensures sound { IsSound buffers.new sessions.new }
-    ensures ok { IsDeedDone S.failed S.accepted directory.now at deed before.now buffers.old sessions.old store.old buffers.new sessions.new store.new result }
-    ensures wants { OnErr result (may_want_memory deed ≡ true) }
+    ensures ok { IsActDone S.failed S.accepted directory.now at act before.now buffers.old sessions.old store.old buffers.new sessions.new store.new result }
+    ensures wants { OnErr result (may_want_memory act ≡ true) }
     ensures err { OnErr result (IsSameWorld directory.now buffers.old buffers.new sessions.old sessions.new) }
     ensures unasked { OnErr result (store.new ≡ store.old) }
-    ensures may { OnErr result (IsRefusable directory.now at (deed_act (own_at at sessions.old) before.now deed) buffers.old sessions.old) }
-    ensures further { OnOk result (LeavesFewer deed at buffers.old buffers.new sessions.old sessions.new) }
+    ensures may { OnErr result (IsRefusable directory.now at (model_act (state_at at sessions.old) before.now act) buffers.old sessions.old) }
+    ensures further { OnOk result (LeavesFewer act at buffers.old buffers.new sessions.old sessions.new) }
 {
-    match deed {
-        Deed::Act(done) => do_act(alloc, buffers, directory, sessions, at, store, done),
-        Deed::Answer(argument) => {
+    match act {
+        ByteAct::Act(done) => do_key_act(alloc, buffers, directory, sessions, at, store, done),
+        ByteAct::Answer(argument) => {
             let prompt = asked(before);
             let question = prompt.question();
             let input = prompt.input();
@@ -163,26 +163,26 @@ pub fn do_deed<T: Marked + Drop, S: Store>(
                 alloc, buffers, directory, sessions, at, store, question, argument, input,
             )
         }
-        Deed::Seek(step) => {
+        ByteAct::Seek(step) => {
             search_on(buffers, directory, sessions, at, step);
             Ok(Touched::Nowhere)
         }
-        Deed::QuitSearch => {
+        ByteAct::QuitSearch => {
             quit_search(buffers, sessions, at);
             Ok(Touched::Nowhere)
         }
-        Deed::StartReplacing => {
+        ByteAct::StartReplacing => {
             let prompt = asked(before);
             let pattern = SearchString::of(prompt.first());
             let put = SearchString::of(prompt.input());
             start_replacing(buffers, directory, sessions, at, pattern, put);
             Ok(Touched::Nowhere)
         }
-        Deed::Replace(last) => match replace(buffers, directory, sessions, at, last) {
+        ByteAct::Replace(last) => match replace(buffers, directory, sessions, at, last) {
             Ok(touched) => Ok(touched),
             Err(Short) => Err(Short),
         },
-        Deed::Skip => {
+        ByteAct::Skip => {
             skip(buffers, directory, sessions, at);
             Ok(Touched::Nowhere)
         }

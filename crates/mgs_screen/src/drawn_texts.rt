@@ -1,6 +1,6 @@
 // Which texts a screen shows, and as of which edits.
 ghost use Rattle.std.specs.Prelude.{◌≡◌, ◌<◌, ◌++◌, ◌∷◌, [], length, Some, None, IfSome, slice_get};
-ghost use Rattle.mgs_screen.specs.Sketches.{pushed, text_then};
+ghost use Rattle.mgs_screen.specs.TextsDrawn.{pushed, text_then};
 
 use arrayvec::ArrayVec;
 use mgs_model::Name;
@@ -70,13 +70,13 @@ pub(crate) struct Earlier {
 /// The texts that a screen shows, so that it can be drawn again in the rows alone that change: one for each window, from the top, or
 /// none where the window shows none. It has room for as many as there are windows, and takes no memory.
 #[derive(Drop)]
-pub struct Sketch {
+pub struct DrawnTexts {
     texts: ArrayVec<Option<DrawnText>, 8>,
 }
 
-impl Model for Sketch {
+impl Model for DrawnTexts {
     ghost use Rattle.std.specs.Prelude.{List, Option};
-    ghost use Rattle.mgs_screen.specs.declared.sketch.DrawnText.{DrawnText};
+    ghost use Rattle.mgs_screen.specs.declared.drawn_texts.DrawnText.{DrawnText};
 
     ghost Value = { List (Option DrawnText) };
 
@@ -115,7 +115,7 @@ fn drawn_in(
     }
 }
 
-/// A place more for a text, in a sketch that is not full.
+/// A place more for a text, where not all are taken.
 fn put_text(texts: &mut ArrayVec<Option<DrawnText>, 8>, text: &DrawnText)
     requires { length texts.old.items < 8 }
     ensures { texts.new.items ≡ texts.old.items ++ Some text.now ∷ [] }
@@ -135,12 +135,12 @@ fn put_text(texts: &mut ArrayVec<Option<DrawnText>, 8>, text: &DrawnText)
     }));
 }
 
-impl Sketch {
+impl DrawnTexts {
     /// No text.
-    pub fn new() -> Sketch
+    pub fn new() -> DrawnTexts
         ensures { result ≡ [] }
     {
-        Sketch {
+        DrawnTexts {
             texts: ArrayVec::new(),
         }
     }

@@ -1,14 +1,14 @@
 -- What texts the rows of a picture were drawn from, and what has become of their buffers since.
 use Rattle.std.specs.Prelude.{◌≡◌, ℕ, ◌+◌, ◌<◌, ◌≤◌, ◌==◌, List, [], ◌∷◌, ◌++◌, Bool, Option, Some, None, IfSome, take, drop, length, slice_get, if◌then◌else◌}
-use Rattle.mgs_model.specs.Apart.{Follows}
+use Rattle.mgs_laws.specs.Apart.{Follows}
 use Rattle.mgs_model.specs.Picture.{Picture}
 use Rattle.mgs_model.specs.Rows.{Row, buffer_mode, mode_row, text_rows, shift_at}
 use Rattle.mgs_model.specs.World.{Buffer, find_buffer}
 use Rattle.mgs_grid.specs.Panes.{text_put}
 use Rattle.mgs_screen.specs.TabStops.{IsKnown, IsTabStop}
-use Rattle.mgs_screen.specs.declared.sketch.DrawnText.{DrawnText}
-use Rattle.mgs_screen.specs.declared.sketch.Earlier.{Earlier}
-use Rattle.mgs_screen.specs.declared.sketch.ModeLine.{ModeLine}
+use Rattle.mgs_screen.specs.declared.drawn_texts.DrawnText.{DrawnText}
+use Rattle.mgs_screen.specs.declared.drawn_texts.Earlier.{Earlier}
+use Rattle.mgs_screen.specs.declared.drawn_texts.ModeLine.{ModeLine}
 use Rattle.mgs_screen.specs.declared.tab_stops.TabStop.{TabStop}
 
 -- so many rows from a row on
@@ -76,7 +76,7 @@ MayStand bs p name first height earlier = IfSome earlier (λ e. Stands bs p (tex
 abbrev pub IsStopOf : List Buffer → List ℕ → Option Earlier → List ℕ → Option TabStop → Type 0
 IsStopOf bs name earlier text known = (p : Picture) (first height : ℕ) → MayStand bs p name first height earlier → IsKnown text known
 
--- a sketch has a place for each window, from the top; where one shows a text that may be read, it holds this
+-- there is a place for each window, from the top; where one shows a text that may be read, it holds this
 pub record AreStanding (bs : List Buffer) (p : Picture) (ds : List (Option DrawnText)) : Type 0 where
   pub each : (i : ℕ) (d : DrawnText) → slice_get ds i ≡ Some (Some d) → Stands bs p d
 

@@ -1,21 +1,22 @@
--- What a sketch says stays true.
+-- What is kept of drawn texts stays true.
 use Rattle.std.proofs.Common.{◌≡◌, ℕ, zero, suc, ◌+◌, ◌<◌, ◌≤◌, Bool, true, false, List, [], ◌∷◌, ◌++◌, length, take, drop, Some, None, inl, inr, sym, ap, subst, ◌∙◌, arith, append_assoc, length-append, length-drop}
 use Rattle.std.specs.Prelude.{Option, IfSome, slice_get, if◌then◌else◌, ◌⊎◌, ◌==◌}
 use Rattle.std.proofs.Math.Seq.{take-append_seam, drop-append-add}
 use Rattle.std.proofs.lemmas.Option.{same_Some, none-some}
 use Rattle.std.proofs.lemmas.List.{take-append-drop, drop-drop, drop-take, length-take-le}
-use Rattle.mgs_model.specs.Apart.{AreFollowed}
+use Rattle.mgs_laws.specs.Apart.{AreFollowed}
 use Rattle.mgs_model.specs.Picture.{Picture}
-use Rattle.mgs_model.specs.Rows.{Row, rows_put, mode_row, text_rows, shift_at}
+use Rattle.mgs_model.specs.Rows.{Row, mode_row, text_rows, shift_at}
+use Rattle.mgs_grid.specs.Cells.{rows_put}
 use Rattle.mgs_model.specs.World.{Buffer, find_buffer}
 use Rattle.mgs_laws.proofs.Follow.{follows_then, follows_same}
 use Rattle.mgs_grid.proofs.Panes.{above_put, below_put}
 use Rattle.mgs_grid.proofs.Pictures.{length-rows_put, length-text_rows}
-use Rattle.mgs_screen.specs.declared.sketch.DrawnText.{DrawnText}
-use Rattle.mgs_screen.specs.Sketches.{Stands, AreStanding, AreStandingAbove, AreStandingFrom, DoesShow, DoesShowMode, mode_text, rows_at, pushed, text_then}
+use Rattle.mgs_screen.specs.declared.drawn_texts.DrawnText.{DrawnText}
+use Rattle.mgs_screen.specs.TextsDrawn.{Stands, AreStanding, AreStandingAbove, AreStandingFrom, DoesShow, DoesShowMode, mode_text, rows_at, pushed, text_then}
 use Rattle.mgs_screen.specs.TabStops.{IsTabStop}
-use Rattle.mgs_screen.specs.declared.sketch.Earlier.{Earlier}
-use Rattle.mgs_screen.specs.declared.sketch.ModeLine.{ModeLine}
+use Rattle.mgs_screen.specs.declared.drawn_texts.Earlier.{Earlier}
+use Rattle.mgs_screen.specs.declared.drawn_texts.ModeLine.{ModeLine}
 
 -- where there is no text
 pub standing_none : (bs : List Buffer) (p : Picture) → AreStanding bs p []

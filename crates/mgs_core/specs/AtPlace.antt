@@ -1,0 +1,144 @@
+-- What a call on the session at a place leaves, whatever its id, and whichever id comes next.
+use Rattle.std.specs.Prelude.{◌≡◌, ◌+◌, ◌<◌, ℕ, Bool, zero, suc, true, List, [], ◌∷◌, length, Option, None, Some, Result, IfOk}
+use Rattle.std.specs.List.{position_or_len}
+use Rattle.mgs_model.specs.Access.{Directory}
+use Rattle.mgs_model.specs.World.{World, find_session, has_id}
+use Rattle.mgs_model.specs.World as model
+use Rattle.mgs_model.specs.Picture.{Picture}
+use Rattle.mgs_model.specs.Draw.{screen}
+use Rattle.mgs_model.specs.Apply.{remove_first}
+use Rattle.mgs_laws.specs.Apart.{Apart, settled_apart}
+use Rattle.mgs_model.specs.Events.{Saved, opened}
+use Rattle.mgs_model.specs.declared.errors.Keyed.{Keyed}
+use Rattle.mgs_model.specs.declared.errors.Keyed.TheVariants as keyed
+use Rattle.mgs_model.specs.declared.errors.Short.{Short}
+use Rattle.mgs_model.specs.declared.message.Message.TheVariants.{Silent}
+use Rattle.mgs_model.specs.declared.session.Kind.{Kind}
+use Rattle.mgs_model.specs.declared.touched.Touched.{Touched}
+use Rattle.mgs_buffers.specs.MarkedBuffer.{MarkedBuffer}
+use Rattle.mgs_plan.specs.Actions.{act_of}
+use Rattle.mgs_plan.specs.Beginning.{search_held}
+use Rattle.mgs_plan.specs.declared.key_act.KeyAct.{KeyAct}
+use Rattle.mgs_seek.specs.Replacing.{remaining_at}
+use Rattle.mgs_session.specs.declared.State.{State}
+use Rattle.mgs_session.specs.declared.Session.{Session}
+use Rattle.mgs_session.specs.declared.search.Search.{Search}
+use Rattle.mgs_store.specs.Stores.{StoreTold, store_told}
+use Rattle.mgs_world.specs.Worlds.{aim_old, buffers_of, state_at, session_id, world_of}
+use Rattle.mgs_core.specs.declared.byte_acts.Before.{Before}
+use Rattle.mgs_core.specs.declared.byte_acts.ByteAct.{ByteAct}
+use Rattle.mgs_core.specs.Held.{AreSettled}
+use Rattle.mgs_act.specs.Doing.{DoneBy, IsRefusable}
+use Rattle.mgs_core.specs.KeyActs.{started_by, started_world}
+use Rattle.mgs_core.specs.Calls.{IsStill, KeyedBy, closed, differs_at}
+use Rattle.mgs_core.specs.ByteActs.{before_of, deciding_world, is_replacement, may_want_memory, model_act, world_back}
+use Rattle.mgs_core.specs.Turns.{EventBy, IsLess, TurnedBy, is_played}
+
+-- the world is as it was
+abbrev pub IsSameWorld : Directory → List MarkedBuffer → List MarkedBuffer → List Session → List Session → Type 0
+IsSameWorld directory ks ls xs ys = (next : Option ℕ) → world_of directory ls ys next ≡ world_of directory ks xs next
+
+-- all that was not touched is as it was
+abbrev pub AreApart : Touched → ℕ → Directory → List MarkedBuffer → List MarkedBuffer → List Session → List Session → Type 0
+AreApart touched id directory ks ls xs ys = (next : Option ℕ) → Apart touched id (world_of directory ks xs next) (world_of directory ls ys next)
+
+-- each window stands where it settles, if each did before
+abbrev pub StaySettled : Directory → List MarkedBuffer → List MarkedBuffer → List Session → List Session → Type 0
+StaySettled directory ks ls xs ys = AreSettled directory ks xs → AreSettled directory ls ys
+
+-- the windows settle that may differ
+abbrev pub SettlesApart : Touched → ℕ → Directory → List MarkedBuffer → List MarkedBuffer → List Session → Type 0
+SettlesApart touched id directory ks ls xs = (next : Option ℕ) → world_of directory ls xs next ≡ settled_apart touched id (world_of directory ks xs next)
+
+-- the world is as it was but for the session of an id
+abbrev pub IsSameBut : ℕ → Directory → List MarkedBuffer → List MarkedBuffer → List Session → List Session → Type 0
+IsSameBut id directory ks ls xs ys = (next : Option ℕ) → closed (world_of directory ls ys next) id ≡ closed (world_of directory ks xs next) id
+
+-- the world is without the session of an id
+abbrev pub IsWithout : ℕ → Directory → List MarkedBuffer → List MarkedBuffer → List Session → List Session → Type 0
+IsWithout id directory ks ls xs ys = (next : Option ℕ) → world_of directory ls ys next ≡ closed (world_of directory ks xs next) id
+
+-- a session of this id, user and size is opened
+abbrev pub IsOpened : ℕ → List ℕ → ℕ → ℕ → Directory → List MarkedBuffer → List MarkedBuffer → List Session → List Session → Type 0
+IsOpened id user rows cols directory ks ls xs ys = world_of directory ls ys (Some (id + 1)) ≡ opened (world_of directory ks xs (Some id)) id user rows cols
+
+-- whether what was touched can have changed the screen of the session at a place, in any directory and texts
+abbrev pub TellsDiffering : Touched → ℕ → ℕ → List Session → Bool → Type 0
+TellsDiffering touched id at xs result = (directory : Directory) (ks : List MarkedBuffer) (next : Option ℕ) → result ≡ differs_at touched id at (world_of directory ks xs next)
+
+-- the screen of the session of an id
+abbrev pub IsScreenById : ℕ → Directory → List MarkedBuffer → List Session → Picture → Type 0
+IsScreenById id directory ks xs p =
+    (next : Option ℕ) (x : model.Session) → find_session id (world_of directory ks xs next).sessions ≡ Some x → p ≡ screen (world_of directory ks xs next) x
+
+-- what the session at a place holds is this now
+abbrev pub state_put : ℕ → State → List Session → List Session
+state_put at o [] = []
+state_put zero o (x ∷ xs) = record x { state = o } ∷ xs
+state_put (suc at) o (x ∷ xs) = x ∷ state_put at o xs
+
+-- all is as it was but what the session at a place holds
+pub record StateAlone (at : ℕ) (ks ls : List MarkedBuffer) (xs ys : List Session) : Type 0 where
+  pub buffers : ls ≡ ks
+  pub state : State
+  pub is : ys ≡ state_put at state xs
+
+-- a screen shows nothing of this: there is no prompt and no search, and nothing is told
+pub record IsBare (o : State) : Type 0 where
+  pub search : o.search ≡ None
+  pub prompt : o.prompt ≡ None
+  pub echo : o.echo ≡ Silent
+
+-- what its screen shows of the session of an id is as it was, and so is all else but what it holds
+abbrev pub StaysStill : ℕ → Directory → List MarkedBuffer → List MarkedBuffer → List Session → List Session → Type 0
+StaysStill id directory ks ls xs ys = (next : Option ℕ) → IsStill id (world_of directory ks xs next) (world_of directory ls ys next)
+
+-- less is left to do
+abbrev pub LeavesLess : ℕ → List MarkedBuffer → List MarkedBuffer → List Session → List Session → Type 0
+LeavesLess at ks ls xs ys = IsLess (remaining_at at ks xs) (remaining_at at ls ys) (state_at at xs).todo (state_at at ys).todo
+
+-- an act of a key is done, in the world in which it is decided
+abbrev pub IsKeyActDone : {S : Type 0} → (S → ℕ) → (S → Option (List Saved)) → Directory → ℕ → KeyAct → List MarkedBuffer → List Session → S → List MarkedBuffer → List Session → S → Touched → Type 0
+IsKeyActDone failed accepted directory at done ks xs s ls ys t touched =
+    (id : ℕ) (next : Option ℕ) → at ≡ position_or_len (session_id id) xs
+    → DoneBy touched (started_world (started_by done) id (world_of directory ks xs next)) (world_of directory ls ys next) (store_told failed accepted s) (store_told failed accepted t) id (act_of done)
+
+-- an act, where this was there before
+abbrev pub IsActDone : {S : Type 0} → (S → ℕ) → (S → Option (List Saved)) → Directory → ℕ → ByteAct → Before → List MarkedBuffer → List Session → S → List MarkedBuffer → List Session → S → Result Touched Short → Type 0
+IsActDone failed accepted directory at byte_act b ks xs s ls ys t result =
+    IfOk result (λ touched. (id : ℕ) (next : Option ℕ) → at ≡ position_or_len (session_id id) xs
+    → DoneBy touched (deciding_world b byte_act id (world_of directory ks xs next)) (world_of directory ls ys next) (store_told failed accepted s) (store_told failed accepted t) id (model_act (state_at at xs) b byte_act))
+
+-- memory was refused to it, if it takes any: the session is told so, and what was there before is there again
+pub record IsActRefused (directory : Directory) (id at : ℕ) (b : Before) (byte_act : ByteAct) (kind : Kind) (playing : Bool) (ks ls : List MarkedBuffer) (xs ys : List Session) : Type 0 where
+  pub wants : may_want_memory byte_act ≡ true
+  pub told : (next : Option ℕ) → world_of directory ls ys next ≡ world_back (buffers_of ks) (before_of b byte_act) kind playing id (world_of directory ks xs next)
+  pub may : IsRefusable directory at (model_act (state_at at xs) b byte_act) ks xs
+
+-- a replacement leaves fewer characters of the text that is replaced in
+abbrev pub LeavesFewer : ByteAct → ℕ → List MarkedBuffer → List MarkedBuffer → List Session → List Session → Type 0
+LeavesFewer byte_act at ks ls xs ys =
+    (s t : Search) → is_replacement byte_act ≡ true → search_held at xs ≡ Some s → search_held at ys ≡ Some t → 0 < length (aim_old s.aim) → remaining_at at ls ys < remaining_at at ks xs
+
+-- A TURN, an event before it settles, a byte before its session is taken out, and a byte: from this world and store to that
+abbrev pub IsTurned : {S : Type 0} → (S → ℕ) → (S → Option (List Saved)) → Directory → ℕ → ℕ → List MarkedBuffer → List Session → S → List MarkedBuffer → List Session → S → Keyed → Type 0
+IsTurned failed accepted directory at id ks xs s ls ys t result =
+    (next : Option ℕ)
+    → TurnedBy (is_played (state_at at xs).todo) (state_at at ys).todo (world_of directory ks xs next) (world_of directory ls ys next) (store_told failed accepted s) (store_told failed accepted t) id result
+
+abbrev pub IsEvent : {S : Type 0} → (S → ℕ) → (S → Option (List Saved)) → Directory → ℕ → List MarkedBuffer → List Session → S → List MarkedBuffer → List Session → S → Keyed → Type 0
+IsEvent failed accepted directory id ks xs s ls ys t result =
+    (next : Option ℕ) → EventBy id (world_of directory ks xs next) (world_of directory ls ys next) (store_told failed accepted s) (store_told failed accepted t) result
+
+-- a byte, before the session that it ends is taken out
+abbrev pub TypedBy : World → World → StoreTold → StoreTold → ℕ → ℕ → Keyed → Type 0
+TypedBy old new before after id byte keyed.Quit = KeyedBy old (record old { sessions = remove_first (has_id id) old.sessions }) before after id byte keyed.Quit
+TypedBy old new before after id byte result = KeyedBy old new before after id byte result
+
+abbrev pub IsTyped : {S : Type 0} → (S → ℕ) → (S → Option (List Saved)) → Directory → ℕ → ℕ → List MarkedBuffer → List Session → S → List MarkedBuffer → List Session → S → Keyed → Type 0
+IsTyped failed accepted directory id byte ks xs s ls ys t result =
+    (next : Option ℕ) → TypedBy (world_of directory ks xs next) (world_of directory ls ys next) (store_told failed accepted s) (store_told failed accepted t) id byte result
+
+abbrev pub IsByte : {S : Type 0} → (S → ℕ) → (S → Option (List Saved)) → Directory → ℕ → ℕ → List MarkedBuffer → List Session → S → List MarkedBuffer → List Session → S → Keyed → Type 0
+IsByte failed accepted directory id byte ks xs s ls ys t result =
+    (next : Option ℕ) → KeyedBy (world_of directory ks xs next) (world_of directory ls ys next) (store_told failed accepted s) (store_told failed accepted t) id byte result
