@@ -8,7 +8,7 @@ use std::io;
 
 /// What the program's arguments ask for.
 #[derive(Drop)]
-pub enum Task {
+pub(crate) enum Task {
     /// `replay`: the script of standard input.
     Replay,
     /// `serve CONFIG PORT`: a server of this configuration on this port; 0 is any.
@@ -55,7 +55,7 @@ fn serve_task(config: Option<String>, port: Option<String>) -> Task {
 /// Reads the program's arguments.
 ///
 /// `OutOfMemory` is out of memory. Any other error is an argument that is not UTF-8.
-pub fn read_task<R: Env + AllocGlobal>(rt: &R) -> io::Result<Task> {
+pub(crate) fn read_task<R: Env + AllocGlobal>(rt: &R) -> io::Result<Task> {
     let mut words = env::args(rt)?.skip(1);
     let Some(first) = words.next() else {
         return Ok(Task::Wrong);

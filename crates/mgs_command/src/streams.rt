@@ -8,7 +8,7 @@ const STANDARD_STREAMS: i32 = 3;
 
 /// Opens the null device as each standard stream that was closed when the program was started. The system gives what is opened the
 /// lowest free number: a listener or a file would be written to as standard output else.
-pub fn open_closed_streams<R: fs::Files<File = File>>(rt: &R) -> io::Result<()> {
+pub(crate) fn open_closed_streams<R: fs::Files<File = File>>(rt: &R) -> io::Result<()> {
     for _ in 0..STANDARD_STREAMS {
         let null = OpenOptions::new()
             .read(true)

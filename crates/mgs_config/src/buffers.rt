@@ -18,8 +18,8 @@ use mgs_policy::Directory;
 use std::alloc::{AllocError, Global};
 use toml::Value;
 
-// The string at a key, or an empty one.
-pub fn string_at<'a>(row: &'a Value, key: &str) -> &'a str
+/// The string at a key, or an empty one.
+pub(crate) fn string_at<'a>(row: &'a Value, key: &str) -> &'a str
     ensures { result.now ≡ string_at key.now (view row.now) }
 {
     match text_at(row, key) {
@@ -28,8 +28,8 @@ pub fn string_at<'a>(row: &'a Value, key: &str) -> &'a str
     }
 }
 
-// The values of a table's list.
-pub fn listed(row: &Value) -> &[Value]
+/// The values of a table's list.
+pub(crate) fn listed(row: &Value) -> &[Value]
     ensures { map view result.now ≡ listed (view row.now) }
 {
     match values_at(row, "list") {
@@ -112,8 +112,9 @@ fn count_chars(text: &str) -> usize
     text.chars().count()
 }
 
+/// The characters of a text.
 #[tactic(auto, using(std::proofs::lemmas::Str::chars_from_encodes))]
-pub fn chars_of(alloc: Global, text: &str) -> Result<Vec<char>, AllocError>
+pub(crate) fn chars_of(alloc: Global, text: &str) -> Result<Vec<char>, AllocError>
     ensures { IfOk result (λ cs. cs.items ≡ chars text.now) }
 {
     text.chars().collect(alloc)
@@ -194,7 +195,11 @@ fn contents_refused(count: usize, row: &Value) -> Option<TableFault>
 }
 
 /// Why the table of a buffer is refused, what its file holds aside.
-pub fn refusal(directory: &Directory, buffers: &Buffers<GapText>, row: &Value) -> Option<TableFault>
+pub(crate) fn refusal(
+    directory: &Directory,
+    buffers: &Buffers<GapText>,
+    row: &Value,
+) -> Option<TableFault>
     ensures { result ≡ refused_beside buffers.now directory.now (view row.now) }
 {
     match names_refused(directory, buffers, row) {
@@ -215,7 +220,7 @@ fn put_entry(list: &mut List, value: &Value)
 
 /// The entries of a list of written ones, 64 at most.
 #[tactic(auto, using(crate::proofs::Entries::entries_more, crate::proofs::Entries::entries_room))]
-pub fn read_list(values: &[Value]) -> List
+pub(crate) fn read_list(values: &[Value]) -> List
     requires { length values.now ≤ 64 }
     ensures { result ≡ entries_in (map view values.now) }
 {

@@ -9,7 +9,7 @@ use std::alloc::{AllocError, Global};
 use toml::Value;
 
 /// The document that a text writes. `None`: it is no TOML.
-pub fn read_document(alloc: Global, text: &str) -> Result<Option<Value>, AllocError>
+pub(crate) fn read_document(alloc: Global, text: &str) -> Result<Option<Value>, AllocError>
     ensures { IfOk result (λ found. option_map view found ≡ document_in text.now) }
 {
     match toml::table_from_str(alloc, text) {
@@ -43,7 +43,7 @@ fn are_tables_at(document: &Value, key: &str) -> bool
 }
 
 /// Whether a document has lists of tables of users, groups and buffers, and nothing else.
-pub fn is_configuration(document: &Value) -> bool
+pub(crate) fn is_configuration(document: &Value) -> bool
     ensures { result ≡ is_configuration (view document.now) }
 {
     has_only(&["user", "group", "buffer"], document)
@@ -53,7 +53,7 @@ pub fn is_configuration(document: &Value) -> bool
 }
 
 /// The tables of the list at a key.
-pub fn rows_at<'a>(document: &'a Value, key: &str) -> &'a [Value]
+pub(crate) fn rows_at<'a>(document: &'a Value, key: &str) -> &'a [Value]
     ensures { map view result.now ≡ rows_at key.now (view document.now) }
 {
     match values_at(document, key) {

@@ -109,7 +109,7 @@ fn add_buffer<F: Files>(
 }
 
 /// The buffers of these tables, or the fault of the first that has one, and its number, counted from 1.
-pub fn read_buffers<F: Files>(
+pub(crate) fn read_buffers<F: Files>(
     alloc: Global,
     directory: &Directory,
     files: &mut F,

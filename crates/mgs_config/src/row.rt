@@ -27,7 +27,7 @@ fn are_keys(keys: &[&str], table: &Table) -> bool
 }
 
 /// Whether it is a table with no other keys than these.
-pub fn has_only(keys: &[&str], row: &Value) -> bool
+pub(crate) fn has_only(keys: &[&str], row: &Value) -> bool
     ensures { result ≡ has_only (map (λ k. k.now) keys.now) (view row.now) }
 {
     match row.as_table() {
@@ -37,7 +37,7 @@ pub fn has_only(keys: &[&str], row: &Value) -> bool
 }
 
 /// The string at a key.
-pub fn text_at<'a>(row: &'a Value, key: &str) -> Option<&'a str>
+pub(crate) fn text_at<'a>(row: &'a Value, key: &str) -> Option<&'a str>
     ensures { option_map (λ text. text.now) result ≡ text_at key.now (view row.now) }
 {
     match row.get(key) {
@@ -46,7 +46,8 @@ pub fn text_at<'a>(row: &'a Value, key: &str) -> Option<&'a str>
     }
 }
 
-pub fn are_texts(values: &[Value]) -> bool
+/// Whether each of these values is a string.
+pub(crate) fn are_texts(values: &[Value]) -> bool
     ensures { result ≡ list_all (λ v. is_text (view v)) values.now }
 {
     values.iter().all(Value::is_str)
@@ -76,7 +77,7 @@ fn texts_in<'a>(alloc: Global, values: &'a [Value]) -> Result<Option<Vec<&'a str
 
 /// The values of the array at a key.
 #[tactic(auto, using(crate::proofs::RowLemmas::data_in_view))]
-pub fn values_at<'a>(row: &'a Value, key: &str) -> Option<&'a [Value]>
+pub(crate) fn values_at<'a>(row: &'a Value, key: &str) -> Option<&'a [Value]>
     ensures { option_map (λ values. map view values.now) result ≡ values_at key.now (view row.now) }
 {
     match row.get(key) {
@@ -103,7 +104,7 @@ fn texts_at<'a>(
 }
 
 /// A user's name and ticket.
-pub fn user_row(row: &Value) -> Option<(&str, &str)>
+pub(crate) fn user_row(row: &Value) -> Option<(&str, &str)>
     ensures { option_map (λ user. (user.0.now, user.1.now)) result ≡ user_row (view row.now) }
 {
     if !has_only(&["name", "ticket"], row) {
@@ -116,7 +117,7 @@ pub fn user_row(row: &Value) -> Option<(&str, &str)>
 }
 
 /// A group's name and members.
-pub fn group_row<'a>(
+pub(crate) fn group_row<'a>(
     alloc: Global,
     row: &'a Value,
 ) -> Result<Option<(&'a str, Vec<&'a str>)>, AllocError>

@@ -81,8 +81,8 @@ fn add_group(alloc: Global, directory: &mut Directory, row: &Value) -> Result<()
     }
 }
 
-// The users and the tickets of these tables, or the first fault and the number of its table.
-pub fn read_users(
+/// The users and the tickets of these tables, or the first fault and the number of its table.
+pub(crate) fn read_users(
     alloc: Global,
     rows: &[Value],
 ) -> Result<(Directory, Tickets), (usize, TableFault)>
@@ -102,8 +102,8 @@ pub fn read_users(
     Ok((directory, tickets))
 }
 
-// Adds the groups of these tables, or answers the first fault and the number of its table.
-pub fn read_groups(
+/// Adds the groups of these tables, or answers the first fault and the number of its table.
+pub(crate) fn read_groups(
     alloc: Global,
     directory: &mut Directory,
     rows: &[Value],

@@ -12,7 +12,7 @@ const TRIES: usize = 16;
 
 /// A new file, and its path.
 #[derive(Drop)]
-pub struct NewFile {
+pub(crate) struct NewFile {
     pub path: PathBuf,
     pub file: File,
 }
@@ -27,7 +27,7 @@ fn path_beside<R: RandomSource>(rt: &R, alloc: Global, path: Path<'_>) -> io::Re
 }
 
 /// Makes an empty file beside another, which this process alone may open: it is made where nothing has its name, no link either.
-pub fn create_beside<R: fs::Files<File = File> + RandomSource + AllocGlobal>(
+pub(crate) fn create_beside<R: fs::Files<File = File> + RandomSource + AllocGlobal>(
     rt: &R,
     path: Path<'_>,
 ) -> io::Result<NewFile> {
@@ -46,7 +46,7 @@ pub fn create_beside<R: fs::Files<File = File> + RandomSource + AllocGlobal>(
 
 /// Waits until the disk has the names in a file's folder. Some file systems know no such call, and a folder may be closed to readers: then
 /// nothing is done.
-pub fn sync_folder<R: fs::Files<File = File>>(rt: &R, path: Path<'_>) {
+pub(crate) fn sync_folder<R: fs::Files<File = File>>(rt: &R, path: Path<'_>) {
     if let Some(folder) = path.parent() {
         if let Ok(folder) = File::open(rt, folder) {
             let _ = folder.sync_all();

@@ -14,10 +14,10 @@ const OWNER_WRITES: u32 = 0o200;
 const PERMISSIONS: u32 = 0o777;
 
 /// The mode of a file that replaces none: its owner's alone.
-pub const PRIVATE: u32 = 0o600;
+pub(crate) const PRIVATE: u32 = 0o600;
 
 /// Whether a file may be replaced: a regular one that its owner may write. A link, a folder, a pipe and a device are none.
-pub fn may_be_replaced(old: &Metadata) -> bool
+pub(crate) fn may_be_replaced(old: &Metadata) -> bool
     ensures { IsTrue result ↔ (IsFile (file_type old.now)) × (bit_and (metadata_mode old.now) OWNER_WRITES ≢ 0) }
 {
     old.is_file() && old.mode() & OWNER_WRITES != 0
@@ -35,7 +35,7 @@ fn mode_after(old: Option<&Metadata>) -> u32
 
 /// Gives a new file the mode of the one in whose place it comes, and its owner and group as far as this process may. Nobody else can
 /// open it before: so the group stands before the mode, and the owner, who may be another, comes last.
-pub fn keep(new: &File, old: Option<&Metadata>) -> io::Result<()> {
+pub(crate) fn keep(new: &File, old: Option<&Metadata>) -> io::Result<()> {
     if let Some(old) = old {
         let _ = fchown(new, None, Some(old.gid()));
     }

@@ -26,7 +26,7 @@ fn read_up_to<R: fs::Files + AllocGlobal>(rt: &R, path: &str, limit: u64) -> io:
 
 /// The first bytes of the regular file at a path, up to a limit. `Unreadable`: it cannot be read, or is no regular file. `Short`:
 /// memory was refused.
-pub fn read_bytes<R: fs::Files + AllocGlobal>(
+pub(crate) fn read_bytes<R: fs::Files + AllocGlobal>(
     rt: &R,
     path: &str,
     limit: u64,

@@ -65,7 +65,7 @@ fn put_in_place<R: fs::Files<File = File>>(
 
 /// Puts a text in the place of the file at a path that has no links on its way. A crash, a full disk or an error leaves the old text or
 /// the new one, and an error leaves no new file.
-pub fn replace_file<R: fs::Files<File = File> + RandomSource + AllocGlobal>(
+pub(crate) fn replace_file<R: fs::Files<File = File> + RandomSource + AllocGlobal>(
     rt: &R,
     path: Path<'_>,
     text: &[char],

@@ -27,7 +27,7 @@ use Rattle.mgs_term.proofs.Drawing.{Draws-append, Draws-weaken}
 use Rattle.mgs_paint.specs.Painting.{Paints, cells_of, shown}
 use Rattle.mgs_world.specs.declared.size.Size.{Size}
 use Rattle.mgs_world.specs.Worlds.{find_size, is_size_of, session_size, sizes}
-use Rattle.mgs_core.specs.Steps.{sizes_keyed}
+use Rattle.mgs_core.specs.Calls.{sizes_keyed}
 use Rattle.mgs_core.proofs.Ids.{found_sizes, none_of, same_some}
 use Rattle.mgs_wire.specs.Calls as wire
 use Rattle.mgs_engine.specs.declared.tape.Answer.{Answer}
@@ -35,7 +35,7 @@ use Rattle.mgs_engine.specs.declared.tape.Answer.TheVariants as answers
 use Rattle.mgs_engine.specs.declared.ending.Cause.{Cause}
 use Rattle.mgs_engine.specs.declared.ending.Cause.TheVariants.{Slow}
 use Rattle.mgs_engine.specs.Does.{Does}
-use Rattle.mgs_engine.specs.Drives.{Asked, Opens, Types, Closes, Takes, Asks, Makes, Rig, Runs, RunsSome, answered}
+use Rattle.mgs_engine.specs.Drives.{Asked, Opens, Types, Closes, Takes, Asks, Makes, Taped, Runs, RunsSome, answered}
 use Rattle.mgs_engine.specs.Driven.{AreTaped, Gives, HasEvents, IsRun, IsRunOfSome, IsTaped}
 use Rattle.mgs_engine.specs.Handled.{Handles}
 use Rattle.mgs_engine.specs.Painted.{Painted, PaintedBy}
@@ -47,7 +47,7 @@ use Rattle.mgs_engine.proofs.RunLemmas.{run-append, saves_first, store_left}
 
 -- THE EVENTS OF A CALL, AND OF ALL
 
-record Made (r : Rig) (c : Asked) (s : Rig) : Type 0 where
+record Made (r : Taped) (c : Asked) (s : Taped) : Type 0 where
   answer : Answer
   told : s.tape.answers ≡ r.tape.answers ++ answer ∷ []
   events : List Event
@@ -55,7 +55,7 @@ record Made (r : Rig) (c : Asked) (s : Rig) : Type 0 where
   world : s.serving.world ≡ run r.serving.world events
   saves : s.serving.store.accepted ≡ told_more (run_saves r.serving.world events) r.serving.store.accepted
 
-made_open : (r s : Rig) (user : List ℕ) (rows cols : ℕ) (a : Result ℕ OpenFault) → Does r.serving (wire.Open user rows cols a) s.serving → s.tape ≡ answered (answers.Open a) r.tape → Made r (Opens user rows cols) s
+made_open : (r s : Taped) (user : List ℕ) (rows cols : ℕ) (a : Result ℕ OpenFault) → Does r.serving (wire.Open user rows cols a) s.serving → s.tape ≡ answered (answers.Open a) r.tape → Made r (Opens user rows cols) s
 made_open r s user rows cols (Ok id) d t = record {
   answer = answers.Open (Ok id);
   told = ap (λ (x : Told). x.answers) t;
@@ -73,7 +73,7 @@ made_open r s user rows cols (Err fault) d t = record {
   saves = ap (λ (x : Serving). x.store.accepted) d.0.err ∙ told_none r.serving.store.accepted [] refl;
 }
 
-made : (r s : Rig) (c : Asked) → Makes r c s → Made r c s
+made : (r s : Taped) (c : Asked) → Makes r c s → Made r c s
 made r s (Opens user rows cols) m = made_open r s user rows cols m.0 m.1 m.3
 made r s (Types id byte) m =
     let h : Handles r.serving s.serving id byte m.0 = m.1.0 in
@@ -94,14 +94,14 @@ made r s (Closes id) m = record { answer = answers.Close; told = ap (λ (x : Tol
 made r s (Takes id most) m = record { answer = answers.Took m.0; told = m.4; events = []; of = (m.3, refl); world = ap (λ (x : Serving). x.world) m.3; saves = ap (λ (x : Serving). x.store.accepted) m.3 ∙ told_none r.serving.store.accepted [] refl }
 made r s Asks m = record { answer = answers.Ended m.0; told = ap (λ (x : Told). x.answers) m.3; events = []; of = (m.1, m.2, refl); world = ap (λ (x : Serving). x.world) m.2; saves = ap (λ (x : Serving). x.store.accepted) m.2 ∙ told_none r.serving.store.accepted [] refl }
 
-pub runs_events : (r s : Rig) (cs : List Asked) → Runs r cs s → IsRun r cs s
+pub runs_events : (r s : Taped) (cs : List Asked) → Runs r cs s → IsRun r cs s
 runs_events r s [] h = record {
   answers = [];
-  told = ap (λ (x : Rig). x.tape.answers) h ∙ sym (append-nil r.tape.answers);
+  told = ap (λ (x : Taped). x.tape.answers) h ∙ sym (append-nil r.tape.answers);
   events = [];
-  each = (refl, ap (λ (x : Rig). x.serving) h);
-  world = ap (λ (x : Rig). x.serving.world) h;
-  saves = ap (λ (x : Rig). x.serving.store.accepted) h ∙ told_none r.serving.store.accepted [] refl;
+  each = (refl, ap (λ (x : Taped). x.serving) h);
+  world = ap (λ (x : Taped). x.serving.world) h;
+  saves = ap (λ (x : Taped). x.serving.store.accepted) h ∙ told_none r.serving.store.accepted [] refl;
 }
 runs_events r s (c ∷ cs) h =
     let first : Made r c h.0 = made r h.0 c h.1 in
@@ -150,12 +150,12 @@ gives_first p bytes h = λ t is rows cols. Draws-weaken (IsFaithful (cells_of p)
 
 -- A SESSION, FROM CALL TO CALL: where it is open, the bytes since give its screen, and its id is below the next; where its
 -- id is still to come, the tape has no more bytes of it
-record Along (before : List ℕ) (id : ℕ) (m : Rig) : Type 0 where
+record Along (before : List ℕ) (id : ℕ) (m : Taped) : Type 0 where
   live : (y : Session) → find_session id m.serving.world.sessions ≡ Some y → (id < m.serving.world.next_id) × IsTaped before m id y
   fresh : m.serving.world.next_id ≤ id → bytes_on id m.tape ≡ before
 
 -- an event
-along_event : (before : List ℕ) (id : ℕ) (m s : Rig) → Along before id m → bytes_on id s.tape ≡ bytes_on id m.tape → m.serving.world.next_id ≤ s.serving.world.next_id → Painted m.serving s.serving
+along_event : (before : List ℕ) (id : ℕ) (m s : Taped) → Along before id m → bytes_on id s.tape ≡ bytes_on id m.tape → m.serving.world.next_id ≤ s.serving.world.next_id → Painted m.serving s.serving
     → ((y : Session) → find_session id m.serving.world.sessions ≡ None → find_session id s.serving.world.sessions ≡ Some y → (m.serving.world.next_id ≤ id) × (id < s.serving.world.next_id) × Gives (screen s.serving.world y) (pending_of id s.serving))
     → Along before id s
 along_event before id m s h tape le painted new =
@@ -182,7 +182,7 @@ along_event before id m s h tape le painted new =
     }
 
 -- bytes go from what waits to the tape, or nothing happens
-along_still : (before : List ℕ) (id : ℕ) (m s : Rig) (more : List ℕ) → Along before id m → s.serving.world ≡ m.serving.world → bytes_on id s.tape ≡ bytes_on id m.tape ++ more → more ++ pending_of id s.serving ≡ pending_of id m.serving
+along_still : (before : List ℕ) (id : ℕ) (m s : Taped) (more : List ℕ) → Along before id m → s.serving.world ≡ m.serving.world → bytes_on id s.tape ≡ bytes_on id m.tape ++ more → more ++ pending_of id s.serving ≡ pending_of id m.serving
     → (find_session id m.serving.world.sessions ≡ None → more ≡ []) → Along before id s
 along_still before id m s more h world tape moved closed =
     let none : m.serving.world.next_id ≤ id → (o : Option Session) → find_session id m.serving.world.sessions ≡ o → find_session id m.serving.world.sessions ≡ None =
@@ -229,7 +229,7 @@ found_new id new rows cols w v y more none found =
     sym (find-append (is_size_of id) (sizes w) (z ∷ [])) ∙ ap (find_size id) (sym more) ∙ found_sizes id v ∙ ap (option_map session_size) found in
     eqb-true new id (is_new id new rows cols (find_size id (sizes w)) (session_size y) before now)
 
-along_opened : (before : List ℕ) (id new : ℕ) (m s : Rig) (user : List ℕ) (rows cols : ℕ) → Along before id m → Does m.serving (wire.Open user rows cols (Ok new)) s.serving
+along_opened : (before : List ℕ) (id new : ℕ) (m s : Taped) (user : List ℕ) (rows cols : ℕ) → Along before id m → Does m.serving (wire.Open user rows cols (Ok new)) s.serving
     → sizes s.serving.world ≡ sizes m.serving.world ++ record { id = new; rows = rows; cols = cols } ∷ [] → s.tape ≡ answered (answers.Open (Ok new)) m.tape → Along before id s
 along_opened before id new m s user rows cols h d more tape =
     let w = m.serving.world in
@@ -244,11 +244,11 @@ along_opened before id new m s user rows cols h d more tape =
     (omega (arith, is, d.0.ok.0), omega (arith, is, lt), gives_first (screen v y) (pending_of id s.serving) (subst (λ (x : Session). Paints (screen v x) (pending_of id s.serving)) same there.2)))
 
 -- nothing is put on the tape, and nothing becomes of what is served but of what is to be told
-along_same : (before : List ℕ) (id : ℕ) (m s : Rig) (t : Serving) → Along before id m → s.serving ≡ t → t.world ≡ m.serving.world → pending_of id t ≡ pending_of id m.serving → bytes_on id s.tape ≡ bytes_on id m.tape → Along before id s
+along_same : (before : List ℕ) (id : ℕ) (m s : Taped) (t : Serving) → Along before id m → s.serving ≡ t → t.world ≡ m.serving.world → pending_of id t ≡ pending_of id m.serving → bytes_on id s.tape ≡ bytes_on id m.tape → Along before id s
 along_same before id m s t h is world waiting tape =
     along_still before id m s [] h (ap (λ (x : Serving). x.world) is ∙ world) (tape ∙ sym (append-nil (bytes_on id m.tape))) (ap (pending_of id) is ∙ waiting) (λ e. refl)
 
-along_open : (before : List ℕ) (id : ℕ) (m s : Rig) (user : List ℕ) (rows cols : ℕ) (a : Result ℕ OpenFault) → Along before id m → Does m.serving (wire.Open user rows cols a) s.serving
+along_open : (before : List ℕ) (id : ℕ) (m s : Taped) (user : List ℕ) (rows cols : ℕ) (a : Result ℕ OpenFault) → Along before id m → Does m.serving (wire.Open user rows cols a) s.serving
     → IfOk a (λ new. sizes s.serving.world ≡ sizes m.serving.world ++ record { id = new; rows = rows; cols = cols } ∷ []) → s.tape ≡ answered (answers.Open a) m.tape → Along before id s
 along_open before id m s user rows cols (Ok new) h d more tape = along_opened before id new m s user rows cols h d more tape
 along_open before id m s user rows cols (Err fault) h d more tape = along_same before id m s m.serving h d.0.err refl refl (ap (bytes_on id) tape)
@@ -274,26 +274,26 @@ next_ended : (cause : Cause) (ids : List ℕ) (s : Serving) → (all_ended_by ca
 next_ended cause [] s = refl
 next_ended cause (x ∷ xs) s = next_ended cause xs (ended_by cause x s)
 
-none_keyed : (k : Keyed) (id own : ℕ) (xs : List Size) → find_size id xs ≡ None → find_size id (sizes_keyed k own xs) ≡ None
-none_keyed keyed.Quit id own xs e = none_removed (is_size_of id) (is_size_of own) xs e
-none_keyed keyed.Done id own xs e = e
-none_keyed keyed.Short id own xs e = e
-none_keyed keyed.NoSession id own xs e = e
+none_keyed : (k : Keyed) (id state : ℕ) (xs : List Size) → find_size id xs ≡ None → find_size id (sizes_keyed k state xs) ≡ None
+none_keyed keyed.Quit id state xs e = none_removed (is_size_of id) (is_size_of state) xs e
+none_keyed keyed.Done id state xs e = e
+none_keyed keyed.Short id state xs e = e
+none_keyed keyed.NoSession id state xs e = e
 
-none_handled : (old new : Serving) (own byte : ℕ) (k : Keyed) (id : ℕ) → Handles old new own byte k → find_session id old.world.sessions ≡ None → find_session id new.world.sessions ≡ None
-none_handled old new own byte k id h none =
+none_handled : (old new : Serving) (state byte : ℕ) (k : Keyed) (id : ℕ) → Handles old new state byte k → find_session id old.world.sessions ≡ None → find_session id new.world.sessions ≡ None
+none_handled old new state byte k id h none =
     let typed : find_session id h.typed.world.sessions ≡ None =
     none_of session_size (find_session id h.typed.world.sessions)
-    (sym (found_sizes id h.typed.world) ∙ ap (find_size id) h.sizes ∙ none_keyed k id own (sizes old.world) (found_sizes id old.world ∙ ap (option_map session_size) none)) in
+    (sym (found_sizes id h.typed.world) ∙ ap (find_size id) h.sizes ∙ none_keyed k id state (sizes old.world) (found_sizes id old.world ∙ ap (option_map session_size) none)) in
     ap (λ (s : Serving). find_session id s.world.sessions) h.slow ∙ none_ended Slow id (slow_ids old h.typed.world) h.typed typed
 
-next_handled : (old new : Serving) (own byte : ℕ) (k : Keyed) → Handles old new own byte k → new.world.next_id ≡ old.world.next_id
-next_handled old new own byte k h = ap (λ (s : Serving). s.world.next_id) h.slow ∙ next_ended Slow (slow_ids old h.typed.world) h.typed ∙ h.next
+next_handled : (old new : Serving) (state byte : ℕ) (k : Keyed) → Handles old new state byte k → new.world.next_id ≡ old.world.next_id
+next_handled old new state byte k h = ap (λ (s : Serving). s.world.next_id) h.slow ∙ next_ended Slow (slow_ids old h.typed.world) h.typed ∙ h.next
 
 never_both : {A : Type 0} {P : Type 0} (o : Option A) (y : A) → o ≡ None → o ≡ Some y → P
 never_both o y e f = let g : None ≡ Some y = sym e ∙ f in cc
 
-along_ended : (before : List ℕ) (id : ℕ) (m s : Rig) → Along before id m → bytes_on id s.tape ≡ bytes_on id m.tape → s.serving.world.next_id ≡ m.serving.world.next_id → Painted m.serving s.serving
+along_ended : (before : List ℕ) (id : ℕ) (m s : Taped) → Along before id m → bytes_on id s.tape ≡ bytes_on id m.tape → s.serving.world.next_id ≡ m.serving.world.next_id → Painted m.serving s.serving
     → (find_session id m.serving.world.sessions ≡ None → find_session id s.serving.world.sessions ≡ None) → Along before id s
 along_ended before id m s h tape next painted none =
     along_event before id m s h tape (omega (arith, next)) painted (λ y e f. never_both (find_session id s.serving.world.sessions) y (none e) f)
@@ -312,49 +312,49 @@ took_none : (n : ℕ) (o : Option Queue) → waiting_in (option_map (after_takin
 took_none n None = sym (drop_nil n)
 took_none n (Some x) = refl
 
-others : (own id : ℕ) → nat_eq own id ≡ false → (x : Queue) → is_queue_of own x ≡ true → is_queue_of id x ≡ false
-others own id e x h = ap (λ n. nat_eq n id) (eqb-true x.id own h) ∙ e
+others : (state id : ℕ) → nat_eq state id ≡ false → (x : Queue) → is_queue_of state x ≡ true → is_queue_of id x ≡ false
+others state id e x h = ap (λ n. nat_eq n id) (eqb-true x.id state h) ∙ e
 
-moved_own : (own id n : ℕ) (qs : List Queue) → nat_eq own id ≡ true
-    → take n (waiting_in (find_queue own qs)) ++ waiting_in (find_queue id (change_first (is_queue_of own) (after_taking n) qs)) ≡ waiting_in (find_queue id qs)
-moved_own own id n qs e =
-    subst (λ k. take n (waiting_in (find_queue own qs)) ++ waiting_in (find_queue k (change_first (is_queue_of own) (after_taking n) qs)) ≡ waiting_in (find_queue k qs)) (eqb-true own id e)
-    (ap (λ o. take n (waiting_in (find_queue own qs)) ++ waiting_in o) (find-change_first (is_queue_of own) (after_taking n) (λ x. refl) qs)
-    ∙ ap (λ bs. take n (waiting_in (find_queue own qs)) ++ bs) (took_none n (find_queue own qs))
-    ∙ take-append-drop n (waiting_in (find_queue own qs)))
+moved_state : (state id n : ℕ) (qs : List Queue) → nat_eq state id ≡ true
+    → take n (waiting_in (find_queue state qs)) ++ waiting_in (find_queue id (change_first (is_queue_of state) (after_taking n) qs)) ≡ waiting_in (find_queue id qs)
+moved_state state id n qs e =
+    subst (λ k. take n (waiting_in (find_queue state qs)) ++ waiting_in (find_queue k (change_first (is_queue_of state) (after_taking n) qs)) ≡ waiting_in (find_queue k qs)) (eqb-true state id e)
+    (ap (λ o. take n (waiting_in (find_queue state qs)) ++ waiting_in o) (find-change_first (is_queue_of state) (after_taking n) (λ x. refl) qs)
+    ∙ ap (λ bs. take n (waiting_in (find_queue state qs)) ++ bs) (took_none n (find_queue state qs))
+    ∙ take-append-drop n (waiting_in (find_queue state qs)))
 
-moved_by : (own id n : ℕ) (qs : List Queue) (b : Bool) → nat_eq own id ≡ b
-    → cond b (take n (waiting_in (find_queue own qs))) [] ++ waiting_in (find_queue id (change_first (is_queue_of own) (after_taking n) qs)) ≡ waiting_in (find_queue id qs)
-moved_by own id n qs true e = moved_own own id n qs e
-moved_by own id n qs false e = ap waiting_in (find-change_first_other (is_queue_of own) (is_queue_of id) (after_taking n) (λ x. refl) (others own id e) qs)
+moved_by : (state id n : ℕ) (qs : List Queue) (b : Bool) → nat_eq state id ≡ b
+    → cond b (take n (waiting_in (find_queue state qs))) [] ++ waiting_in (find_queue id (change_first (is_queue_of state) (after_taking n) qs)) ≡ waiting_in (find_queue id qs)
+moved_by state id n qs true e = moved_state state id n qs e
+moved_by state id n qs false e = ap waiting_in (find-change_first_other (is_queue_of state) (is_queue_of id) (after_taking n) (λ x. refl) (others state id e) qs)
 
-nothing_taken : (own id n : ℕ) (s : Serving) (b : Bool) → nat_eq own id ≡ b → (is_open own s.world ≡ false → pending_of own s ≡ []) → find_session id s.world.sessions ≡ None → cond b (take n (pending_of own s)) [] ≡ []
-nothing_taken own id n s true e closed none =
-    let none_own : find_session own s.world.sessions ≡ None = subst (λ k. find_session k s.world.sessions ≡ None) (sym (eqb-true own id e)) none in
-    ap (take n) (closed (ap is_some none_own)) ∙ take_nil n
-nothing_taken own id n s false e closed none = refl
+nothing_taken : (state id n : ℕ) (s : Serving) (b : Bool) → nat_eq state id ≡ b → (is_open state s.world ≡ false → pending_of state s ≡ []) → find_session id s.world.sessions ≡ None → cond b (take n (pending_of state s)) [] ≡ []
+nothing_taken state id n s true e closed none =
+    let none_state : find_session state s.world.sessions ≡ None = subst (λ k. find_session k s.world.sessions ≡ None) (sym (eqb-true state id e)) none in
+    ap (take n) (closed (ap is_some none_state)) ∙ take_nil n
+nothing_taken state id n s false e closed none = refl
 
 -- ONE CALL, AND ALL
 
-along_made : (before : List ℕ) (id : ℕ) (m s : Rig) (c : Asked) → Along before id m → Makes m c s → Along before id s
+along_made : (before : List ℕ) (id : ℕ) (m s : Taped) (c : Asked) → Along before id m → Makes m c s → Along before id s
 along_made before id m s (Opens user rows cols) h d = along_open before id m s user rows cols d.0 h d.1 d.2 d.3
-along_made before id m s (Types own byte) h d =
-    along_ended before id m s h (ap (bytes_on id) d.2) (next_handled m.serving s.serving own byte d.0 d.1.0) d.1.1 (none_handled m.serving s.serving own byte d.0 id d.1.0)
-along_made before id m s (Closes own) h d =
+along_made before id m s (Types state byte) h d =
+    along_ended before id m s h (ap (bytes_on id) d.2) (next_handled m.serving s.serving state byte d.0 d.1.0) d.1.1 (none_handled m.serving s.serving state byte d.0 id d.1.0)
+along_made before id m s (Closes state) h d =
     along_ended before id m s h (ap (bytes_on id) d.2) (ap (λ (x : Serving). x.world.next_id) d.0.0) d.0.1
-    (λ none. ap (λ (x : Serving). find_session id x.world.sessions) d.0.0 ∙ none_removed (has_id id) (has_id own) m.serving.world.sessions none)
-along_made before id m s (Takes own most) h d =
-    let more : List ℕ = cond (nat_eq own id) (take d.0 (pending_of own m.serving)) [] in
+    (λ none. ap (λ (x : Serving). find_session id x.world.sessions) d.0.0 ∙ none_removed (has_id id) (has_id state) m.serving.world.sessions none)
+along_made before id m s (Takes state most) h d =
+    let more : List ℕ = cond (nat_eq state id) (take d.0 (pending_of state m.serving)) [] in
     along_still before id m s more h (ap (λ (x : Serving). x.world) d.3) (d.5 id)
-    (ap (λ (x : Serving). more ++ pending_of id x) d.3 ∙ moved_by own id d.0 m.serving.queues (nat_eq own id) refl)
-    (nothing_taken own id d.0 m.serving (nat_eq own id) refl d.2)
+    (ap (λ (x : Serving). more ++ pending_of id x) d.3 ∙ moved_by state id d.0 m.serving.queues (nat_eq state id) refl)
+    (nothing_taken state id d.0 m.serving (nat_eq state id) refl d.2)
 along_made before id m s Asks h d = along_same before id m s (record m.serving { ended = drop 1 m.serving.ended }) h d.2 refl refl (ap (bytes_on id) d.3)
 
-along_all : (before : List ℕ) (id : ℕ) (m s : Rig) (cs : List Asked) → Along before id m → Runs m cs s → Along before id s
+along_all : (before : List ℕ) (id : ℕ) (m s : Taped) (cs : List Asked) → Along before id m → Runs m cs s → Along before id s
 along_all before id m s [] h runs = subst (Along before id) (sym runs) h
 along_all before id m s (c ∷ cs) h runs = along_all before id runs.0 s cs (along_made before id m runs.0 c h runs.1) runs.2
 
-pub runs_taped : (r s : Rig) (cs : List Asked) → Runs r cs s → AreTaped r s
+pub runs_taped : (r s : Taped) (cs : List Asked) → Runs r cs s → AreTaped r s
 runs_taped r s cs runs id y none found =
     let start : Along (bytes_on id r.tape) id r = record { live = λ x e. never_both (find_session id r.serving.world.sessions) x none e; fresh = λ l. refl } in
     let h : Along (bytes_on id r.tape) id s = along_all (bytes_on id r.tape) id r s cs start runs in
@@ -362,14 +362,14 @@ runs_taped r s cs runs id y none found =
 
 -- A LIST, HOWEVER IT ENDED
 
-pub driven_world : {E : Type 0} (res : Result (Unit {0}) E) (r s : Rig) (cs : List Asked) → OnOk res (Runs r cs s) → OnOk res (IsRun r cs s)
+pub driven_world : {E : Type 0} (res : Result (Unit {0}) E) (r s : Taped) (cs : List Asked) → OnOk res (Runs r cs s) → OnOk res (IsRun r cs s)
 driven_world (Ok u) r s cs h = runs_events r s cs h
 driven_world (Err e) r s cs h = tt
 
-pub driven_part : {E : Type 0} (res : Result (Unit {0}) E) (r s : Rig) (cs : List Asked) → OnErr res (RunsSome r cs s) → OnErr res (IsRunOfSome r cs s)
+pub driven_part : {E : Type 0} (res : Result (Unit {0}) E) (r s : Taped) (cs : List Asked) → OnErr res (RunsSome r cs s) → OnErr res (IsRunOfSome r cs s)
 driven_part (Ok u) r s cs h = tt
 driven_part (Err e) r s cs h = (h.0, h.1, runs_events r s (take h.0 cs) h.2)
 
-pub driven_taped : {E : Type 0} (res : Result (Unit {0}) E) (r s : Rig) (cs : List Asked) → OnOk res (Runs r cs s) → OnErr res (RunsSome r cs s) → AreTaped r s
+pub driven_taped : {E : Type 0} (res : Result (Unit {0}) E) (r s : Taped) (cs : List Asked) → OnOk res (Runs r cs s) → OnErr res (RunsSome r cs s) → AreTaped r s
 driven_taped (Ok u) r s cs ok err = runs_taped r s cs ok
 driven_taped (Err e) r s cs ok err = runs_taped r s (take err.0 cs) err.2

@@ -9,7 +9,7 @@ use Rattle.mgs_model.specs.contracts.errors.Keyed.{the_type}
 use Rattle.mgs_model.specs.declared.errors.Keyed.{Keyed}
 use Rattle.mgs_model.specs.declared.errors.Keyed.TheVariants as keyed
 use Rattle.mgs_world.specs.Worlds.{sizes, IsUnique}
-use Rattle.mgs_core.specs.Steps.{KeyedBy, closed, sizes_keyed}
+use Rattle.mgs_core.specs.Calls.{KeyedBy, closed, sizes_keyed}
 use Rattle.mgs_core.specs.Kept.{Kept}
 use Rattle.mgs_core.proofs.Ids.{All-remove_first}
 use Rattle.mgs_engine.specs.declared.ending.Cause.{Cause}

@@ -18,7 +18,7 @@ use Rattle.mgs_model.proofs.Basics.{cons_head, cons_tail}
 use Rattle.mgs_model.proofs.Firsts.{found_passes}
 use Rattle.mgs_world.specs.Worlds.{find_size, sizes, is_size_of, IsUnique}
 use Rattle.mgs_world.specs.Worlds as core
-use Rattle.mgs_screen.specs.Sketches.{AreStanding}
+use Rattle.mgs_screen.specs.TextsDrawn.{AreStanding}
 use Rattle.mgs_engine.specs.declared.screen.Screen.{Screen}
 use Rattle.mgs_engine.specs.Queues.{waiting_in, is_queue_of}
 use Rattle.mgs_engine.specs.declared.ending.Cause.{Cause}

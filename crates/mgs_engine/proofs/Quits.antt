@@ -13,7 +13,7 @@ use Rattle.mgs_model.specs.contracts.errors.Keyed.{the_type}
 use Rattle.mgs_model.specs.declared.errors.Keyed.{Keyed}
 use Rattle.mgs_model.specs.declared.errors.Keyed.TheVariants.{Done, Short, Quit, NoSession}
 use Rattle.mgs_world.specs.declared.size.Size.{Size}
-use Rattle.mgs_core.specs.Steps.{closed, sizes_keyed}
+use Rattle.mgs_core.specs.Calls.{closed, sizes_keyed}
 use Rattle.mgs_engine.specs.declared.screen.Screen.{Screen}
 use Rattle.mgs_engine.specs.Screens.{queue_of, queues_of, screen_id}
 use Rattle.mgs_engine.specs.Served.{serving_of}

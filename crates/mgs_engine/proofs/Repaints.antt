@@ -4,7 +4,7 @@ use Rattle.std.specs.Prelude.{slice_get, All}
 use Rattle.std.proofs.lemmas.Option.{get_or_from_slice_get, slice_get_within}
 use Rattle.std.proofs.lemmas.List.{append-nil, map-append, length_push, take_more, take_more_set, take_all}
 use Rattle.std.proofs.lemmas.List.Elements.{All-cons, All-nil}
-use Rattle.mgs_model.specs.Apart.{is_anywhere}
+use Rattle.mgs_laws.specs.Apart.{is_anywhere}
 use Rattle.mgs_model.specs.Picture.{Picture}
 use Rattle.mgs_model.specs.declared.touched.Touched.{Touched}
 use Rattle.mgs_model.specs.World.{World, Session, find_session}
@@ -13,8 +13,8 @@ use Rattle.mgs_term.specs.Drawing.{Draws, IsFaithful}
 use Rattle.mgs_paint.specs.Painting.{Paints, bound_of, cells_of, shown}
 use Rattle.mgs_paint.specs.Repainting.{Repaints}
 use Rattle.mgs_paint.proofs.Changing.{Draws-faithful}
-use Rattle.mgs_screen.specs.Sketches.{AreStanding}
-use Rattle.mgs_screen.proofs.Sketches.{standing_none}
+use Rattle.mgs_screen.specs.TextsDrawn.{AreStanding}
+use Rattle.mgs_screen.proofs.TextsDrawn.{standing_none}
 use Rattle.mgs_world.specs.declared.size.Size.{Size}
 use Rattle.mgs_world.specs.Worlds.{find_size, sizes, IsOfSize, IsUnique}
 use Rattle.mgs_world.specs.Worlds as core
@@ -123,45 +123,45 @@ ahead_repaint w old mid new rows h r = record {
   bound = r.bound;
 }
 
-pub ahead_drawn : (w : World) (old mid new : Screen) (rows : List Bool) → IsAhead w old mid rows → shown_size new ≡ shown_size mid → new.shown ≡ mid.next → new.next ≡ mid.next → new.sketch ≡ mid.sketch → IsDrawn w new
+pub ahead_drawn : (w : World) (old mid new : Screen) (rows : List Bool) → IsAhead w old mid rows → shown_size new ≡ shown_size mid → new.shown ≡ mid.next → new.next ≡ mid.next → new.drawn_texts ≡ mid.drawn_texts → IsDrawn w new
 ahead_drawn w old mid new rows h s e n t = record {
   session = h.session;
   found = ap (λ (z : Size). find_session z.id w.sessions) s ∙ ap (λ (z : Screen). find_session z.id w.sessions) h.same ∙ h.found;
   picture = e ∙ ap (λ (z : Screen). z.next) h.same;
   level = n ∙ sym e;
   stands =
-      subst (λ (p : Picture). AreStanding w.buffers p new.sketch) (sym e)
+      subst (λ (p : Picture). AreStanding w.buffers p new.drawn_texts) (sym e)
       (subst (λ (ts : Texts). AreStanding w.buffers mid.next ts) (sym t) h.stands);
 }
 
 -- DRAWN AGAIN
 
 -- a blank screen is ready
-pub ready_blank : (w : World) (x : Screen) → x.next ≡ x.shown → x.sketch ≡ [] → IsReady w x
+pub ready_blank : (w : World) (x : Screen) → x.next ≡ x.shown → x.drawn_texts ≡ [] → IsReady w x
 ready_blank w x level none = record { level = level; stands = subst (AreStanding w.buffers x.shown) (sym none) (standing_none w.buffers x.shown) }
 
 -- and any that was drawn, without the texts that an event can have changed
-pub ready_left : (w : World) (t : Touched) (x y : Screen) → IsReadyApart w t x → y ≡ record x { sketch = texts_left t x.sketch } → IsReady w y
+pub ready_left : (w : World) (t : Touched) (x y : Screen) → IsReadyApart w t x → y ≡ record x { drawn_texts = texts_left t x.drawn_texts } → IsReady w y
 ready_left w t x y h e = subst (IsReady w) (sym e) (record { level = h.level; stands = go (is_anywhere t) refl })
   where
-    go : (b : Bool) → is_anywhere t ≡ b → AreStanding w.buffers x.shown (cond b [] x.sketch)
+    go : (b : Bool) → is_anywhere t ≡ b → AreStanding w.buffers x.shown (cond b [] x.drawn_texts)
     go true any = standing_none w.buffers x.shown
-    go false own = h.stands own
+    go false state = h.stands state
 
-pub screen_left : (ts : Texts) (x y : Screen) → IsSessionScreen x → y ≡ record x { sketch = ts } → IsSessionScreen y
+pub screen_left : (ts : Texts) (x y : Screen) → IsSessionScreen x → y ≡ record x { drawn_texts = ts } → IsSessionScreen y
 screen_left ts x y h e = subst IsSessionScreen (sym e) (record { rows = h.rows; cols = h.cols })
 
-pub ahead_left : (w : World) (ts : Texts) (x y new : Screen) (rows : List Bool) → y ≡ record x { sketch = ts } → IsAhead w y new rows → IsAhead w x new rows
+pub ahead_left : (w : World) (ts : Texts) (x y new : Screen) (rows : List Bool) → y ≡ record x { drawn_texts = ts } → IsAhead w y new rows → IsAhead w x new rows
 ahead_left w ts x y new rows e h = record {
   session = h.session;
   found = ap (λ (z : Screen). find_session z.id w.sessions) (sym e) ∙ h.found;
-  same = h.same ∙ ap (λ (z : Screen). record z { next = screen w h.session; sketch = new.sketch }) e;
+  same = h.same ∙ ap (λ (z : Screen). record z { next = screen w h.session; drawn_texts = new.drawn_texts }) e;
   stands = h.stands;
   apart = h.apart;
 }
 
 pub ahead_redrawn : (w : World) (old mid new : Screen) (rows : List Bool) → IsAhead w old mid rows → shown_size new ≡ shown_size mid → new.late ≡ falls_behind (length mid.queue) mid.shown mid.next
-    → (new.late ≡ false → new.shown ≡ mid.next) → new.next ≡ mid.next → new.sketch ≡ mid.sketch → (new.late ≡ false → IsRepaint mid new) → (IsTaken (queue_of mid) → new.late ≡ false) → IsRedrawn w old new
+    → (new.late ≡ false → new.shown ≡ mid.next) → new.next ≡ mid.next → new.drawn_texts ≡ mid.drawn_texts → (new.late ≡ false → IsRepaint mid new) → (IsTaken (queue_of mid) → new.late ≡ false) → IsRedrawn w old new
 ahead_redrawn w old mid new rows h s late shows next texts repaint prompt = record {
   id = ap (λ (z : Size). z.id) s ∙ ap (λ (z : Screen). z.id) h.same;
   session = h.session;

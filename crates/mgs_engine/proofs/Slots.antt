@@ -11,7 +11,7 @@ use Rattle.mgs_model.specs.declared.errors.OpenFault.{OpenFault}
 use Rattle.mgs_model.specs.declared.errors.OpenFault.TheVariants.{NoUser, Size, Full, Short}
 use Rattle.mgs_model.specs.declared.limits.TheConstants.{SESSION_LIMIT}
 use Rattle.mgs_world.specs.Worlds.{session_size, sizes}
-use Rattle.mgs_core.specs.Steps.{OpenAnswers, OpenedBy}
+use Rattle.mgs_core.specs.Calls.{OpenAnswers, OpenedBy}
 use Rattle.mgs_core.specs.Kept.{Kept}
 use Rattle.mgs_core.proofs.Ids.{same_some}
 use Rattle.mgs_core.proofs.Openings.{opened_fault}

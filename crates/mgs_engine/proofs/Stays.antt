@@ -10,7 +10,7 @@ use Rattle.mgs_model.specs.Events.{new_session, opened}
 use Rattle.mgs_model.specs.World.{World, Session, has_id}
 use Rattle.mgs_world.specs.declared.size.Size.{Size}
 use Rattle.mgs_world.specs.Worlds.{find_size, is_size_of, sizes, IsUnique}
-use Rattle.mgs_core.specs.Steps.{closed}
+use Rattle.mgs_core.specs.Calls.{closed}
 use Rattle.mgs_core.proofs.Ids.{All-remove_first, find-remove_first_other, others_left, unique_opened, unique_removed}
 use Rattle.mgs_engine.specs.declared.screen.Screen.{Screen}
 use Rattle.mgs_engine.specs.Screens.{IsDrawn, IsOnTime, IsSessionScreen, screen_id, shown_size}

@@ -1,25 +1,25 @@
 -- A byte that only goes on with a word: each screen is as it was.
 use Rattle.std.proofs.Common.{◌≡◌, ℕ, Bool, true, false, List, [], map, Some, refl, sym, ap, subst, ◌∙◌}
-use Rattle.std.specs.Prelude.{nat_eq, All}
+use Rattle.std.specs.Prelude.{nat_eq}
 use Rattle.std.specs.Option.{option_map}
 use Rattle.std.proofs.lemmas.Bool.{eqb-true}
 use Rattle.std.proofs.lemmas.List.Elements.{All-weaker}
 use denote.Enum.Bare.{sameb}
 use Rattle.mgs_model.specs.Draw.{draw, screen}
-use Rattle.mgs_model.specs.Events.{Close, own_set, run, with_own}
+use Rattle.mgs_model.specs.Events.{Close, state_set, run, with_state}
 use Rattle.mgs_model.specs.Picture.{Picture}
 use Rattle.mgs_model.specs.Seen.{Seen, seen}
-use Rattle.mgs_model.specs.World.{Own, Session, World, find_session, has_id}
+use Rattle.mgs_model.specs.World.{State, Session, World, find_session, has_id}
 use Rattle.mgs_model.specs.contracts.errors.Keyed.{the_type}
 use Rattle.mgs_model.specs.declared.errors.Keyed.{Keyed}
 use Rattle.mgs_model.specs.declared.errors.Keyed.TheVariants as keyed
 use Rattle.mgs_model.specs.declared.message.Message.{Message}
 use Rattle.mgs_model.specs.declared.session.Mode.{Mode}
 use Rattle.mgs_model.proofs.Firsts.{find-change_first, find-change_first_other}
-use Rattle.mgs_screen.specs.Sketches.{AreStanding}
+use Rattle.mgs_screen.specs.TextsDrawn.{AreStanding}
 use Rattle.mgs_world.specs.Worlds.{sizes, IsUnique}
 use Rattle.mgs_core.specs.Kept.{Kept}
-use Rattle.mgs_core.specs.Steps.{IsStill, KeyedBy, sizes_keyed}
+use Rattle.mgs_core.specs.Calls.{IsStill, KeyedBy, sizes_keyed}
 use Rattle.mgs_engine.specs.declared.ending.Cause.{Cause}
 use Rattle.mgs_engine.specs.declared.ending.Cause.TheVariants.{Slow}
 use Rattle.mgs_engine.specs.declared.screen.Screen.{Screen}
@@ -37,19 +37,19 @@ use Rattle.mgs_engine.proofs.Quits.{ids_stay, told_stay}
 -- ONE SCREEN
 
 -- what is drawn goes by the mode, the input and the echo text of what is held
-drawn_by : (s : Seen) (m : Mode) (input : List ℕ) (echo : Message) (own : Own) → own.mode ≡ m → own.input ≡ input → own.echo ≡ echo → draw (record s { own = own }) ≡ draw (record s { own = record s.own { mode = m; input = input; echo = echo } })
+drawn_by : (s : Seen) (m : Mode) (input : List ℕ) (echo : Message) (state : State) → state.mode ≡ m → state.input ≡ input → state.echo ≡ echo → draw (record s { state = state }) ≡ draw (record s { state = record s.state { mode = m; input = input; echo = echo } })
 unfolding draw
-drawn_by s m input echo own of_mode of_input of_echo =
-    let of : Mode → List ℕ → Message → Picture = λ a b c. draw (record s { own = record own { mode = a; input = b; echo = c } }) in
-    ap (λ a. of a own.input own.echo) of_mode ∙ ap (λ b. of m b own.echo) of_input ∙ ap (of m input) of_echo
+drawn_by s m input echo state of_mode of_input of_echo =
+    let of : Mode → List ℕ → Message → Picture = λ a b c. draw (record s { state = record state { mode = a; input = b; echo = c } }) in
+    ap (λ a. of a state.input state.echo) of_mode ∙ ap (λ b. of m b state.echo) of_input ∙ ap (of m input) of_echo
 
-screen_still : (w : World) (id : ℕ) (own : Own) (x : Session) → own.mode ≡ x.own.mode → own.input ≡ x.own.input → own.echo ≡ x.own.echo → screen (with_own id (λ was. own) w) (own_set (λ was. own) x) ≡ screen w x
-screen_still w id own x of_mode of_input of_echo = drawn_by (seen w x) x.own.mode x.own.input x.own.echo own of_mode of_input of_echo
+screen_still : (w : World) (id : ℕ) (state : State) (x : Session) → state.mode ≡ x.state.mode → state.input ≡ x.state.input → state.echo ≡ x.state.echo → screen (with_state id (λ was. state) w) (state_set (λ was. state) x) ≡ screen w x
+screen_still w id state x of_mode of_input of_echo = drawn_by (seen w x) x.state.mode x.state.input x.state.echo state of_mode of_input of_echo
 
 -- the session that the byte came to
 drawn_there : (id : ℕ) (w v : World) (x : Screen) → nat_eq id x.id ≡ true → IsStill id w v → IsDrawn w x → IsDrawn v x
 drawn_there id w v x there s d =
-    let set : Session → Session = own_set (λ was. s.own) in
+    let set : Session → Session = state_set (λ was. s.state) in
     let same : id ≡ x.id = eqb-true id x.id there in
     let before : find_session id w.sessions ≡ Some d.session = ap (λ (n : ℕ). find_session n w.sessions) same ∙ d.found in
     let face = s.face d.session before in
@@ -62,10 +62,10 @@ drawn_there id w v x there s d =
           ∙ ap (option_map set) before;
       picture =
           d.picture
-          ∙ sym (screen_still w id s.own d.session face.0 face.1 face.2)
+          ∙ sym (screen_still w id s.state d.session face.0 face.1 face.2)
           ∙ ap (λ (u : World). screen u (set d.session)) (sym s.is);
       level = d.level;
-      stands = subst (λ (u : World). AreStanding u.buffers x.shown x.sketch) (sym s.is) d.stands;
+      stands = subst (λ (u : World). AreStanding u.buffers x.shown x.drawn_texts) (sym s.is) d.stands;
     }
 
 -- another
@@ -76,11 +76,11 @@ drawn_other id w v x other s d =
       session = d.session;
       found =
           ap (λ (u : World). find_session x.id u.sessions) s.is
-          ∙ find-change_first_other (has_id id) (has_id x.id) (own_set (λ was. s.own)) (λ y. refl) apart w.sessions
+          ∙ find-change_first_other (has_id id) (has_id x.id) (state_set (λ was. s.state)) (λ y. refl) apart w.sessions
           ∙ d.found;
       picture = d.picture ∙ ap (λ (u : World). screen u d.session) (sym s.is);
       level = d.level;
-      stands = subst (λ (u : World). AreStanding u.buffers x.shown x.sketch) (sym s.is) d.stands;
+      stands = subst (λ (u : World). AreStanding u.buffers x.shown x.drawn_texts) (sym s.is) d.stands;
     }
 
 drawn_still : (id : ℕ) (w v : World) → IsStill id w v → (x : Screen) → IsDrawn w x → IsDrawn v x

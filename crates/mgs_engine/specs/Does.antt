@@ -3,7 +3,7 @@ use Rattle.std.specs.Prelude.{◌≡◌, ℕ, Some, IfOk, OnOk}
 use Rattle.mgs_model.specs.Apply.{change_first}
 use Rattle.mgs_model.specs.Events as events
 use Rattle.mgs_model.specs.Events.{step}
-use Rattle.mgs_model.specs.World.{Session, find_session}
+use Rattle.mgs_model.specs.World.{Session, World, find_session}
 use Rattle.mgs_model.specs.Draw.{screen}
 use Rattle.mgs_paint.specs.Painting.{Paints}
 use Rattle.mgs_wire.specs.Calls.{Call, Open, Byte, Close, Took}
@@ -16,6 +16,10 @@ use Rattle.mgs_engine.specs.Serving.{Serving, ended_by, pending_of}
 -- the bytes that wait for a session paint its screen, whatever the terminal showed
 abbrev pub IsPaintedWhole : Serving → ℕ → Type 0
 IsPaintedWhole s id = (x : Session) × (find_session id s.world.sessions ≡ Some x) × Paints (screen s.world x) (pending_of id s)
+
+-- so for each session that is open in a world
+abbrev pub ArePaintedWhole : World → Serving → Type 0
+ArePaintedWhole w s = (id : ℕ) (x : Session) → find_session id w.sessions ≡ Some x → Paints (screen w x) (pending_of id s)
 
 -- the first bytes that wait for a session's terminal were taken
 abbrev pub taken_by : ℕ → ℕ → Serving → Serving

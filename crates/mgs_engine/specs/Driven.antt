@@ -12,7 +12,7 @@ use Rattle.mgs_wire.specs.Calls as wire
 use Rattle.mgs_engine.specs.declared.tape.Answer.{Answer}
 use Rattle.mgs_engine.specs.declared.tape.Answer.TheVariants as answers
 use Rattle.mgs_engine.specs.Does.{Does, taken_by}
-use Rattle.mgs_engine.specs.Drives.{Asked, Opens, Types, Closes, Takes, Asks, Rig}
+use Rattle.mgs_engine.specs.Drives.{Asked, Opens, Types, Closes, Takes, Asks, Taped}
 use Rattle.mgs_engine.specs.Serving.{Serving, pending_of}
 use Rattle.mgs_engine.specs.Slow.{slow_ids}
 use Rattle.mgs_engine.specs.Tapes.{bytes_on}
@@ -37,7 +37,7 @@ HaveEvents s (c ∷ cs) (a ∷ told) t es = (mid : Serving) × (first rest : Lis
 HaveEvents _ _ _ _ _ = ⊥
 
 -- the calls have these answers, put behind those on the tape, and the world after is that of their events
-pub record IsRun (r : Rig) (cs : List Asked) (s : Rig) : Type 0 where
+pub record IsRun (r : Taped) (cs : List Asked) (s : Taped) : Type 0 where
   pub answers : List Answer
   pub told : s.tape.answers ≡ r.tape.answers ++ answers
   pub events : List Event
@@ -47,7 +47,7 @@ pub record IsRun (r : Rig) (cs : List Asked) (s : Rig) : Type 0 where
   pub saves : s.serving.store.accepted ≡ told_more (run_saves r.serving.world events) r.serving.store.accepted
 
 -- the same of those in front, and no others
-abbrev pub IsRunOfSome : Rig → List Asked → Rig → Type 0
+abbrev pub IsRunOfSome : Taped → List Asked → Taped → Type 0
 IsRunOfSome r cs s = (k : ℕ) × (k < length cs) × IsRun r (take k cs) s
 
 -- SCREENS: the bytes turn any terminal of the picture's size, whatever it shows, into one that shows the picture
@@ -55,11 +55,11 @@ abbrev pub Gives : Picture → List ℕ → Type 0
 Gives p bytes = (t : Screen) → IsScreen t → t.rows ≡ p.rows → t.cols ≡ p.cols → Draws Anything bytes t (shown p)
 
 -- the bytes that were put on the tape of a session since, and then those that wait, give its screen
-pub record IsTaped (before : List ℕ) (s : Rig) (id : ℕ) (y : Session) : Type 0 where
+pub record IsTaped (before : List ℕ) (s : Taped) (id : ℕ) (y : Session) : Type 0 where
   pub bytes : List ℕ
   pub added : bytes_on id s.tape ≡ before ++ bytes
   pub gives : Gives (screen s.serving.world y) (bytes ++ pending_of id s.serving)
 
 -- for each session that was not open before, and is after
-abbrev pub AreTaped : Rig → Rig → Type 0
+abbrev pub AreTaped : Taped → Taped → Type 0
 AreTaped r s = (id : ℕ) (y : Session) → find_session id r.serving.world.sessions ≡ None → find_session id s.serving.world.sessions ≡ Some y → IsTaped (bytes_on id r.tape) s id y

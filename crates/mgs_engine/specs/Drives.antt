@@ -1,5 +1,6 @@
 -- CALLS IN ORDER, and their tape.
 use Rattle.std.specs.Prelude.{◌≡◌, ℕ, ◌<◌, min, false, List, [], ◌∷◌, ◌++◌, Option, Result, IfOk, length, take, drop, map, slice_get}
+use Rattle.std.specs.Global.{Vec}
 use Rattle.mgs_model.specs.Events.{Close, is_open, step}
 use Rattle.mgs_model.specs.declared.errors.Keyed.{Keyed}
 use Rattle.mgs_model.specs.declared.errors.OpenFault.{OpenFault}
@@ -10,10 +11,10 @@ use Rattle.mgs_engine.specs.declared.tape.Answer.{Answer}
 use Rattle.mgs_engine.specs.declared.tape.Answer.TheVariants as answers
 use Rattle.mgs_engine.specs.declared.tape.Call.{Call}
 use Rattle.mgs_engine.specs.declared.tape.Call.TheVariants as calls
+use Rattle.mgs_engine.specs.declared.tape.Piece.{Piece}
 use Rattle.mgs_engine.specs.Does.{Does, taken_by}
-use Rattle.mgs_engine.specs.Queues.{Queue}
 use Rattle.mgs_engine.specs.Serving.{Serving, pending_of}
-use Rattle.mgs_engine.specs.Tapes.{IsAdded, Told}
+use Rattle.mgs_engine.specs.Tapes.{IsAdded, Told, told_of}
 
 -- a call without where its text lies in memory
 pub data Asked : Type 0 where
@@ -34,22 +35,22 @@ abbrev pub all_asked : List Call → List Asked
 all_asked cs = map asked cs
 
 -- what is served, and the tape
-pub record Rig : Type 0 where
+pub record Taped : Type 0 where
   pub serving : Serving
   pub tape : Told
 
-abbrev pub taped : Serving → Told → Rig
+abbrev pub taped : Serving → Told → Taped
 taped s t = record { serving = s; tape = t }
 
-abbrev pub rig : Serving → List Answer → List Queue → Rig
-rig s told pieces = record { serving = s; tape = record { answers = told; pieces = pieces } }
+abbrev pub on_tape : Serving → Vec Answer → Vec Piece → Taped
+on_tape s told pieces = taped s (told_of told.items pieces.items)
 
 -- an answer more, and no bytes
 abbrev pub answered : Answer → Told → Told
 answered a t = record t { answers = t.answers ++ a ∷ [] }
 
 -- one call, and what it puts on the tape
-abbrev pub Makes : Rig → Asked → Rig → Type 0
+abbrev pub Makes : Taped → Asked → Taped → Type 0
 Makes r (Opens user rows cols) s =
     (a : Result ℕ OpenFault) × Does r.serving (wire.Open user rows cols a) s.serving × IfOk a (λ id. sizes s.serving.world ≡ sizes r.serving.world ++ record { id = id; rows = rows; cols = cols } ∷ [])
     × (s.tape ≡ answered (answers.Open a) r.tape)
@@ -62,10 +63,10 @@ Makes r Asks s =
     (a : Option (ℕ × Cause)) × (a ≡ slice_get r.serving.ended 0) × (s.serving ≡ record r.serving { ended = drop 1 r.serving.ended }) × (s.tape ≡ answered (answers.Ended a) r.tape)
 
 -- one after another
-abbrev pub Runs : Rig → List Asked → Rig → Type 0
+abbrev pub Runs : Taped → List Asked → Taped → Type 0
 Runs r [] s = s ≡ r
-Runs r (c ∷ cs) s = (mid : Rig) × Makes r c mid × Runs mid cs s
+Runs r (c ∷ cs) s = (mid : Taped) × Makes r c mid × Runs mid cs s
 
 -- those in front, and no others
-abbrev pub RunsSome : Rig → List Asked → Rig → Type 0
+abbrev pub RunsSome : Taped → List Asked → Taped → Type 0
 RunsSome r cs s = (k : ℕ) × (k < length cs) × Runs r (take k cs) s

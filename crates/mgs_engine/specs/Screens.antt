@@ -4,14 +4,14 @@ use Rattle.std.specs.List.{filter}
 use Rattle.mgs_world.specs.declared.size.Size.{Size}
 use Rattle.mgs_world.specs.Worlds.{find_size}
 use Rattle.mgs_model.specs.declared.touched.Touched.{Touched}
-use Rattle.mgs_core.specs.Steps.{differs_at}
+use Rattle.mgs_core.specs.Calls.{differs_at}
 use Rattle.mgs_model.specs.World.{World, Session, find_session}
 use Rattle.mgs_model.specs.Draw.{screen}
 use Rattle.mgs_model.specs.Picture.{Picture}
-use Rattle.mgs_model.specs.Apart.{is_anywhere}
+use Rattle.mgs_laws.specs.Apart.{is_anywhere}
 use Rattle.mgs_grid.specs.RowSets.{AreSameApart}
-use Rattle.mgs_screen.specs.Sketches.{AreStanding}
-use Rattle.mgs_screen.specs.declared.sketch.DrawnText.{DrawnText}
+use Rattle.mgs_screen.specs.TextsDrawn.{AreStanding}
+use Rattle.mgs_screen.specs.declared.drawn_texts.DrawnText.{DrawnText}
 use Rattle.mgs_paint.specs.Painting.{Paints, bound_of, cells_of, shown}
 use Rattle.mgs_term.specs.Drawing.{Draws, IsFaithful}
 use Rattle.mgs_engine.specs.declared.screen.Screen.{Screen}
@@ -31,11 +31,11 @@ screen_id id x = nat_eq x.id id
 abbrev pub shown_size : Screen → Size
 shown_size x = record { id = x.id; rows = x.shown.rows; cols = x.shown.cols }
 
--- a sketch, as it is seen
+-- the texts that are drawn, as they are seen
 abbrev pub Texts : Type 0
 Texts = List (Option DrawnText)
 
--- what is left of a sketch behind an event that touched this
+-- what is left of them behind an event that touched this
 abbrev pub texts_left : Touched → Texts → Texts
 texts_left touched texts = cond (is_anywhere touched) [] texts
 
@@ -48,7 +48,7 @@ pub record Drawn : Type 0 where
   pub late : Bool
 
 abbrev pub drawn_of : Screen → Drawn
-drawn_of x = record { id = x.id; picture = x.shown; next = x.next; texts = x.sketch; late = x.late }
+drawn_of x = record { id = x.id; picture = x.shown; next = x.next; texts = x.drawn_texts; late = x.late }
 
 -- both grids have one size
 pub record IsSessionScreen (x : Screen) : Type 0 where
@@ -70,36 +70,36 @@ late_ids xs = map (λ (x : Screen). x.id) (filter is_late xs)
 abbrev pub IsKnown : List Size → Screen → Type 0
 IsKnown ss x = find_size x.id ss ≡ Some (shown_size x)
 
--- The terminal shows what the world has for the session of its id. Both grids are the same, and the sketch tells of what is shown: its
+-- The terminal shows what the world has for the session of its id. Both grids are the same, and the drawn texts are those of what is shown: its
 -- texts have become what the world has.
 pub record IsDrawn (w : World) (x : Screen) : Type 0 where
   pub session : Session
   pub found : find_session x.id w.sessions ≡ Some session
   pub picture : x.shown ≡ screen w session
   pub level : x.next ≡ x.shown
-  pub stands : AreStanding w.buffers x.shown x.sketch
+  pub stands : AreStanding w.buffers x.shown x.drawn_texts
 
 -- so much of it is needed to draw a screen again
 pub record IsReady (w : World) (x : Screen) : Type 0 where
   pub level : x.next ≡ x.shown
-  pub stands : AreStanding w.buffers x.shown x.sketch
+  pub stands : AreStanding w.buffers x.shown x.drawn_texts
 
--- and behind an event: where that touched anything, the sketch tells nothing more
+-- and behind an event: where that touched anything, no drawn text is left
 pub record IsReadyApart (w : World) (touched : Touched) (x : Screen) : Type 0 where
   pub level : x.next ≡ x.shown
-  pub stands : is_anywhere touched ≡ false → AreStanding w.buffers x.shown x.sketch
+  pub stands : is_anywhere touched ≡ false → AreStanding w.buffers x.shown x.drawn_texts
 
 -- the screens of sessions, by their places, that an event of this session cannot have changed, are what the world has
 abbrev pub AreDrawnApart : World → Touched → ℕ → List Screen → Type 0
 AreDrawnApart w touched id xs = (at : ℕ) (x : Screen) → slice_get xs at ≡ Some x → differs_at touched id at w ≡ false → IsDrawn w x
 
--- Only what is to be shown next was drawn, for the session of its id, and the sketch tells of that. It is the same as what is shown but
+-- Only what is to be shown next was drawn, for the session of its id, and the drawn texts are those of that. It is the same as what is shown but
 -- for these rows.
 pub record IsAhead (w : World) (old new : Screen) (rows : List Bool) : Type 0 where
   pub session : Session
   pub found : find_session old.id w.sessions ≡ Some session
-  pub same : new ≡ record old { next = screen w session; sketch = new.sketch }
-  pub stands : AreStanding w.buffers new.next new.sketch
+  pub same : new ≡ record old { next = screen w session; drawn_texts = new.drawn_texts }
+  pub stands : AreStanding w.buffers new.next new.drawn_texts
   pub apart : AreSameApart rows new.shown.lines new.next.lines
 
 -- what was appended to the bytes draws what is shown now over what was shown before; where that is the same nothing was

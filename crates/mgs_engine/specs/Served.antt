@@ -6,11 +6,16 @@ use Rattle.mgs_core.specs.Kept.{Kept}
 use Rattle.mgs_model.specs.declared.limits.TheConstants.{SESSION_LIMIT}
 use Rattle.mgs_engine.specs.declared.ending.Cause.{Cause}
 use Rattle.mgs_engine.specs.declared.screen.Screen.{Screen}
-use Rattle.mgs_engine.specs.Screens.{IsDrawn, IsOnTime, IsSessionScreen, queues_of, shown_size}
-use Rattle.mgs_engine.specs.Serving.{Serving}
+use Rattle.mgs_engine.specs.declared.ending.Cause.TheVariants.{Slow}
+use Rattle.mgs_engine.specs.Screens.{late_ids, IsDrawn, IsOnTime, IsSessionScreen, queues_of, shown_size}
+use Rattle.mgs_engine.specs.Serving.{Serving, all_ended_by}
 
 abbrev pub serving_of : Kept → List Screen → List (ℕ × Cause) → Serving
 serving_of core xs ended = record { world = core.world; store = core.store; queues = queues_of xs; ended = ended }
+
+-- the same once the sessions whose screens are late have ended
+abbrev pub late_ended : Kept → List Screen → List (ℕ × Cause) → Serving
+late_ended core xs ended = all_ended_by Slow (late_ids xs) (serving_of core xs ended)
 
 -- there is a screen for each open session, in their order, and it is the one that the world has for the session
 pub record IsServed (world : World) (xs : List Screen) : Type 0 where

@@ -1,7 +1,7 @@
 // The screens are drawn from a world, and painted where they changed.
 ghost use Rattle.std.specs.Prelude.{◌≡◌, ◌<◌, map, not, All, false, IfOk, Some, length, vec_len, vec_capacity};
 ghost use Rattle.mgs_world.specs.Worlds.{sizes, find_size, IsOfSize, IsUnique};
-ghost use Rattle.mgs_core.specs.Steps.{differs_at};
+ghost use Rattle.mgs_core.specs.Calls.{differs_at};
 ghost use Rattle.mgs_engine.specs.Queues.{IsTaken};
 ghost use Rattle.mgs_grid.specs.RowSets.{AreSameApart};
 ghost use Rattle.mgs_engine.specs.Screens.{IsSessionScreen, IsKnown, IsAhead, IsDrawn, IsReady, IsReadyApart, IsOnTime, IsRepaint, IsRedrawn, IsFirst, AreRedrawn, AreDrawnApart, texts_left, shown_size, queue_of};
@@ -28,15 +28,15 @@ fn draw_next<T: Marked + Drop, S: Store + Drop>(
     ensures core { core.new ≡ core.old }
     ensures ahead { IsAhead core.old.world screen.old screen.new result }
 {
-    core.redraw(screen.id, &mut screen.sketch, &mut screen.next)
+    core.redraw(screen.id, &mut screen.drawn_texts, &mut screen.next)
 }
 
 // Forgets which texts are drawn, where an event can have changed any of them.
 fn forget(screen: &mut Screen, touched: &Touched)
-    ensures { screen.new ≡ record screen.old { sketch = texts_left touched.now screen.old.sketch } }
+    ensures { screen.new ≡ record screen.old { drawn_texts = texts_left touched.now screen.old.drawn_texts } }
 {
     match *touched {
-        Touched::Anywhere => screen.sketch.clear(),
+        Touched::Anywhere => screen.drawn_texts.clear(),
         Touched::In(_) => {}
         Touched::Nowhere => {}
     }
@@ -76,7 +76,7 @@ fn paint_whole(screen: &mut Screen, rows: &RowSet)
     ensures size { shown_size screen.new ≡ shown_size screen.old }
     ensures shown { screen.new.shown ≡ screen.old.next }
     ensures next { screen.new.next ≡ screen.old.next }
-    ensures texts { screen.new.sketch ≡ screen.old.sketch }
+    ensures texts { screen.new.drawn_texts ≡ screen.old.drawn_texts }
     ensures late { screen.new.late ≡ screen.old.late }
     ensures first { IsFirst screen.new }
 {
@@ -103,7 +103,7 @@ fn paint_changed(screen: &mut Screen, rows: &RowSet)
     ensures size { shown_size screen.new ≡ shown_size screen.old }
     ensures shown { screen.new.shown ≡ screen.old.next }
     ensures next { screen.new.next ≡ screen.old.next }
-    ensures texts { screen.new.sketch ≡ screen.old.sketch }
+    ensures texts { screen.new.drawn_texts ≡ screen.old.drawn_texts }
     ensures late { screen.new.late ≡ screen.old.late }
     ensures repaint { IsRepaint screen.old screen.new }
 {
@@ -129,7 +129,7 @@ fn paint_in_time(screen: &mut Screen, rows: &RowSet)
     ensures late { screen.new.late ≡ falls_behind (length screen.old.queue) screen.old.shown screen.old.next }
     ensures shown { screen.new.late ≡ false → screen.new.shown ≡ screen.old.next }
     ensures next { screen.new.next ≡ screen.old.next }
-    ensures texts { screen.new.sketch ≡ screen.old.sketch }
+    ensures texts { screen.new.drawn_texts ≡ screen.old.drawn_texts }
     ensures repaint { screen.new.late ≡ false → IsRepaint screen.old screen.new }
     ensures prompt { IsTaken (queue_of screen.old) → screen.new.late ≡ false }
 {

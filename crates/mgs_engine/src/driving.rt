@@ -1,8 +1,7 @@
 // Calls of an engine, one after another.
 ghost use Rattle.std.specs.Prelude.{◌≡◌, OnOk, OnErr};
 ghost use Rattle.mgs_engine.specs.Driven.{AreTaped, IsRun, IsRunOfSome};
-ghost use Rattle.mgs_engine.specs.Drives.{Makes, Runs, RunsSome, asked, all_asked, rig, taped};
-ghost use Rattle.mgs_engine.specs.Tapes.{pieces_of};
+ghost use Rattle.mgs_engine.specs.Drives.{Makes, Runs, RunsSome, asked, all_asked, on_tape, taped};
 
 use crate::engine::Engine;
 use crate::tape::{Answer, Call, Piece, Tape, add_bytes};
@@ -19,8 +18,8 @@ fn make<T: Marked + Drop, S: Store + Drop>(
     answers: &mut Vec<Answer>,
     pieces: &mut Vec<Piece>,
 ) -> Result<(), Short>
-    ensures ok { OnOk result (Makes (rig engine.old answers.old.items (pieces_of pieces.old.items)) (asked call.now) (rig engine.new answers.new.items (pieces_of pieces.new.items))) }
-    ensures err { OnErr result (rig engine.new answers.new.items (pieces_of pieces.new.items) ≡ rig engine.old answers.old.items (pieces_of pieces.old.items)) }
+    ensures ok { OnOk result (Makes (on_tape engine.old answers.old pieces.old) (asked call.now) (on_tape engine.new answers.new pieces.new)) }
+    ensures err { OnErr result (on_tape engine.new answers.new pieces.new ≡ on_tape engine.old answers.old pieces.old) }
 {
     if answers.reserve(1).is_err() {
         return Err(Short);
@@ -67,8 +66,8 @@ fn make_each<T: Marked + Drop, S: Store + Drop>(
     answers: &mut Vec<Answer>,
     pieces: &mut Vec<Piece>,
 ) -> Result<(), Short>
-    ensures ok { OnOk result (Runs (rig engine.old answers.old.items (pieces_of pieces.old.items)) (all_asked calls.now) (rig engine.new answers.new.items (pieces_of pieces.new.items))) }
-    ensures err { OnErr result (RunsSome (rig engine.old answers.old.items (pieces_of pieces.old.items)) (all_asked calls.now) (rig engine.new answers.new.items (pieces_of pieces.new.items))) }
+    ensures ok { OnOk result (Runs (on_tape engine.old answers.old pieces.old) (all_asked calls.now) (on_tape engine.new answers.new pieces.new)) }
+    ensures err { OnErr result (RunsSome (on_tape engine.old answers.old pieces.old) (all_asked calls.now) (on_tape engine.new answers.new pieces.new)) }
 {
     for call in calls {
         match make(alloc, engine, call, answers, pieces) {

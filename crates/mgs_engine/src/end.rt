@@ -5,8 +5,8 @@ ghost use Rattle.mgs_model.specs.Apply.{remove_first};
 ghost use Rattle.mgs_model.specs.Events.{Close, run, step};
 ghost use Rattle.mgs_engine.specs.declared.ending.Cause.TheVariants.{Slow};
 ghost use Rattle.mgs_engine.specs.Screens.{AreAmong, is_late, late_ids, screen_id};
-ghost use Rattle.mgs_engine.specs.Served.{HasSlots, IsServed, IsServedInTime, serving_of};
-ghost use Rattle.mgs_engine.specs.Serving.{all_ended_by, ended_by};
+ghost use Rattle.mgs_engine.specs.Served.{HasSlots, IsServed, IsServedInTime, late_ended, serving_of};
+ghost use Rattle.mgs_engine.specs.Serving.{ended_by};
 
 use crate::ending::Cause;
 use crate::place::place_of;
@@ -80,7 +80,7 @@ pub(crate) fn end_late<T: Marked + Drop, S: Store + Drop>(
     requires slots { HasSlots screens.old.items ended.old.items (vec_capacity screens.old) (vec_capacity ended.old) }
     ensures served { IsServed core.new.world screens.new.items }
     ensures slots { HasSlots screens.new.items ended.new.items (vec_capacity screens.new) (vec_capacity ended.new) }
-    ensures ended { serving_of core.new screens.new.items ended.new.items ≡ all_ended_by Slow (late_ids screens.old.items) (serving_of core.old screens.old.items ended.old.items) }
+    ensures ended { serving_of core.new screens.new.items ended.new.items ≡ late_ended core.old screens.old.items ended.old.items }
     ensures closes { core.new.world ≡ run core.old.world (map (λ i. Close i) (late_ids screens.old.items)) }
     ensures kept { AreAmong screens.new.items screens.old.items }
 {

@@ -5,7 +5,7 @@ ghost use Rattle.mgs_model.specs.Picture.{IsSize};
 use crate::queue::ByteQueue;
 use mgs_grid::Grid;
 use mgs_model::{SessionId, Short};
-use mgs_screen::Sketch;
+use mgs_screen::DrawnTexts;
 use std::alloc::Global;
 
 /// What a session's terminal shows, a grid to draw into, which texts are drawn in it, and the bytes that wait for the terminal. Between
@@ -19,7 +19,7 @@ pub(crate) struct Screen {
     /// What is drawn next, in the same size.
     pub(crate) next: Grid,
     /// The texts that `next` shows.
-    pub(crate) sketch: Sketch,
+    pub(crate) drawn_texts: DrawnTexts,
     /// The bytes that wait.
     pub(crate) queue: ByteQueue,
     /// Within an event: the screen changed, and was not painted, since the queue may not have the room. Its session is
@@ -38,7 +38,7 @@ impl Screen {
         ensures rows { IfOk result (λ x. x.shown.rows ≡ rows) }
         ensures cols { IfOk result (λ x. x.shown.cols ≡ cols) }
         ensures level { IfOk result (λ x. x.next ≡ x.shown) }
-        ensures untold { IfOk result (λ x. x.sketch ≡ []) }
+        ensures untold { IfOk result (λ x. x.drawn_texts ≡ []) }
         ensures empty { IfOk result (λ x. x.queue ≡ []) }
         ensures on_time { IfOk result IsOnTime }
     {
@@ -49,7 +49,7 @@ impl Screen {
             id: 0,
             shown,
             next,
-            sketch: Sketch::new(),
+            drawn_texts: DrawnTexts::new(),
             queue,
             late: false,
         })

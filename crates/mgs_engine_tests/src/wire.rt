@@ -12,21 +12,19 @@ const REFUSED_LINE: &[u8] = b"refused 1 Line\n";
 
 // A server with one session, 7, which the byte 3 ends.
 #[derive(Drop)]
-struct Desk {
+struct OneSession {
     fault: Option<OpenFault>,
     is_open: bool,
     typed: Vec<u8>,
     waiting: Vec<u8>,
 }
 
-impl Sessions for Desk {
-    ghost use Rattle.mgs_wire.specs.Calls.{Call};
-
+impl Sessions for OneSession {
     ghost does = { λ _ _ _. Unit {0} };
 
-    ghost live = { λ _ desk. desk.is_open };
+    ghost live = { λ _ server. server.is_open };
 
-    ghost pending = { λ _ desk. desk.waiting.items };
+    ghost pending = { λ _ server. server.waiting.items };
 
     fn open(&mut self, user: &str, rows: usize, cols: usize) -> Result<SessionId, OpenFault> {
         if let Some(fault) = self.fault {
@@ -76,7 +74,7 @@ impl Sessions for Desk {
 #[derive(Drop)]
 struct Client {
     conn: Conn,
-    desk: Desk,
+    server: OneSession,
     tickets: Tickets,
 }
 
@@ -86,7 +84,7 @@ impl Client {
         tickets.add("ann", "t1")?;
         Ok(Client {
             conn: Conn::new(alloc)?,
-            desk: Desk {
+            server: OneSession {
                 fault,
                 is_open: false,
                 typed: Vec::new(alloc),
@@ -97,7 +95,7 @@ impl Client {
     }
 
     fn read<R: Read>(&mut self, reader: &mut R) -> PumpedIn {
-        pump_in(&mut self.conn, &mut self.desk, &self.tickets, reader)
+        pump_in(&mut self.conn, &mut self.server, &self.tickets, reader)
     }
 
     // Reads until nothing is taken.
@@ -112,7 +110,7 @@ impl Client {
     }
 
     fn write<W: Write>(&mut self, writer: &mut W) -> PumpedOut {
-        pump_out(&mut self.conn, &mut self.desk, writer)
+        pump_out(&mut self.conn, &mut self.server, writer)
     }
 
     fn session(&self) -> Option<SessionId> {
@@ -255,7 +253,7 @@ fn bytes_after_a_login_are_keys(rt: HostRuntime) -> Result<(), Fail> {
         let input = b"login ann t1 6 20\r\nh\ni";
         let (client, answer) = heard(rt.alloc(), input, size, ErrorKind::WouldBlock)?;
         assert!(rt; answer == PumpedIn::Idle && client.session() == Some(7));
-        assert!(rt; client.desk.typed.as_slice() == b"h\ni".as_slice());
+        assert!(rt; client.server.typed.as_slice() == b"h\ni".as_slice());
     }
     Ok(())
 }
@@ -272,7 +270,7 @@ fn is_read_in_two(alloc: Global, cut: usize) -> Result<bool, Fail> {
         took_first == PumpedIn::Took(first.len())
             && took_second == PumpedIn::Took(second.len())
             && client.session() == Some(7)
-            && client.desk.typed.as_slice() == b"h\ni".as_slice(),
+            && client.server.typed.as_slice() == b"h\ni".as_slice(),
     )
 }
 
@@ -301,7 +299,7 @@ fn bytes_behind_the_end_are_dropped(rt: HostRuntime) -> Result<(), Fail> {
     let mut reader = input.as_slice();
     let took = client.read(&mut reader);
     assert!(rt; took == PumpedIn::Took(input.len()) && client.session() == Some(7));
-    assert!(rt; client.desk.typed.as_slice() == b"h".as_slice());
+    assert!(rt; client.server.typed.as_slice() == b"h".as_slice());
     assert!(rt; is_over(rt.alloc(), &mut client));
     Ok(())
 }
@@ -346,7 +344,7 @@ fn is_over(alloc: Global, client: &mut Client) -> bool {
         && wrote == PumpedOut::Drained
         && more.len() == LOGIN.len()
         && written.is_empty()
-        && !client.desk.is_open
+        && !client.server.is_open
 }
 
 #[test]
@@ -367,7 +365,7 @@ fn readers_that_fail_end_the_connection(rt: HostRuntime) -> Result<(), Fail> {
 // A connection whose session is open, and whose terminal eight bytes wait for.
 fn served(alloc: Global) -> Result<Client, Fail> {
     let (mut client, _) = heard(alloc, LOGIN, 100, ErrorKind::WouldBlock)?;
-    client.desk.waiting.extend_from_slice(b"abcdefgh")?;
+    client.server.waiting.extend_from_slice(b"abcdefgh")?;
     Ok(client)
 }
 
@@ -385,8 +383,8 @@ fn the_rest_of_a_partial_write_comes_next(rt: HostRuntime) -> Result<(), Fail> {
     let mut client = served(rt.alloc())?;
     let mut writer = five_taker(rt.alloc(), Some(ErrorKind::WouldBlock));
     let first = client.write(&mut writer);
-    assert!(rt; first == PumpedOut::Blocked && client.desk.is_open);
-    assert!(rt; client.desk.waiting.as_slice() == b"fgh".as_slice());
+    assert!(rt; first == PumpedOut::Blocked && client.server.is_open);
+    assert!(rt; client.server.waiting.as_slice() == b"fgh".as_slice());
     writer.room = 5;
     let second = client.write(&mut writer);
     assert!(rt; second == PumpedOut::Drained && writer.taken.as_slice() == b"abcdefgh".as_slice());

@@ -1,5 +1,5 @@
 // The bytes of what changes from a shown picture to a new one.
-ghost use Rattle.std.specs.Prelude.{◌≡◌, ◌+◌, ◌-◌, ◌*◌, ◌<◌, ◌≤◌, ◌++◌, length, take, drop, replicate, max, vec_len, vec_capacity, true, false, All};
+ghost use Rattle.std.specs.Prelude.{◌≡◌, ℕ, ◌+◌, ◌-◌, ◌*◌, ◌<◌, ◌≤◌, List, ◌++◌, length, take, drop, replicate, max, vec_len, vec_capacity, true, false, All};
 ghost use Rattle.mgs_model.specs.Cells.{AreCells, starts_half};
 ghost use Rattle.mgs_model.specs.Picture.{IsRow};
 ghost use Rattle.mgs_model.specs.declared.limits.TheConstants.{COLS_MAX, ROWS_MAX};
@@ -321,7 +321,8 @@ fn put_some_changes(
     put_rows_changes(out, at, cols, old, new, rows)
 }
 
-// Each row that changes, and the cursor. The rows that are not of the set stay the same.
+// Each row that changes, and the cursor. The rows that are not of the set stay the same. Of a row that changes, the columns
+// from the first that differs to the last are written, or blanks at its end erased where that is shorter.
 fn put_changes(out: &mut Vec<u8>, old: &Grid, new: &Grid, rows: &RowSet)
     requires rows { new.now.rows ≡ old.now.rows }
     requires cols { new.now.cols ≡ old.now.cols }
@@ -342,18 +343,16 @@ fn put_changes(out: &mut Vec<u8>, old: &Grid, new: &Grid, rows: &RowSet)
     put_way(out, cursor, new.cursor());
 }
 
-/// Appends the bytes that repaint a terminal which shows `old`, with reverse and wrap off: it then shows `new`, with both
-/// off. Only what differs is written. A row that stays the same is left alone; of one that changes, the columns from the
-/// first that differs to the last are written, or blanks at its end erased where that is shorter. Where nothing changes
-/// there are no bytes.
+/// Appends bytes that repaint a terminal which shows `old`, with reverse and wrap off: it then shows `new`, with both off.
+/// A row that stays the same is left alone, and where nothing changes there are no bytes. Which bytes they are is left
+/// open.
 ///
 /// The grids have the same size, `out` has room for `bound` bytes more, and no memory is taken.
 pub fn paint(old: &Grid, new: &Grid, out: &mut Vec<u8>)
     requires rows { new.now.rows ≡ old.now.rows }
     requires cols { new.now.cols ≡ old.now.cols }
     requires room { vec_len out.old + bound_of new.now.rows new.now.cols ≤ vec_capacity out.old }
-    ensures bytes { out.new.items ≡ out.old.items ++ bytes_of (changes old.now new.now) }
-    ensures repaints { Repaints old.now new.now (bytes_of (changes old.now new.now)) }
+    ensures repaints { (bytes : List ℕ) × (out.new.items ≡ out.old.items ++ bytes) × Repaints old.now new.now bytes }
     ensures capacity { vec_capacity out.new ≡ vec_capacity out.old }
 {
     // Reads each grid once: they have as many rows.
@@ -362,8 +361,8 @@ pub fn paint(old: &Grid, new: &Grid, out: &mut Vec<u8>)
     paint_rows(old, new, &RowSet::all(), out);
 }
 
-/// Appends the bytes that `paint` does, where it is known that the grids are the same but for their cursors and the rows of a set: only
-/// these rows are compared.
+/// The same where it is known that the grids are the same but for their cursors and the rows of a set: only these rows are
+/// compared.
 ///
 /// The grids have the same size, `out` has room for `bound` bytes more, and no memory is taken.
 pub fn paint_rows(old: &Grid, new: &Grid, rows: &RowSet, out: &mut Vec<u8>)
@@ -371,8 +370,7 @@ pub fn paint_rows(old: &Grid, new: &Grid, rows: &RowSet, out: &mut Vec<u8>)
     requires cols { new.now.cols ≡ old.now.cols }
     requires same { AreSameApart rows.now old.now.lines new.now.lines }
     requires room { vec_len out.old + bound_of new.now.rows new.now.cols ≤ vec_capacity out.old }
-    ensures bytes { out.new.items ≡ out.old.items ++ bytes_of (changes old.now new.now) }
-    ensures repaints { Repaints old.now new.now (bytes_of (changes old.now new.now)) }
+    ensures repaints { (bytes : List ℕ) × (out.new.items ≡ out.old.items ++ bytes) × Repaints old.now new.now bytes }
     ensures capacity { vec_capacity out.new ≡ vec_capacity out.old }
 {
     // Reads each grid once: its rows and columns are those of a picture.

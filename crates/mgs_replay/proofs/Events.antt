@@ -23,7 +23,7 @@ use Rattle.mgs_paint.specs.Painting.{Paints, shown, cells_of}
 use Rattle.mgs_engine.specs.Serving.{Serving, NoneWaits, pending_of}
 use Rattle.mgs_engine.specs.Queues.{find_queue, waiting_in}
 use Rattle.mgs_engine.specs.Painted.{Painted, PaintedBy}
-use Rattle.mgs_core.specs.Steps.{OpenedBy}
+use Rattle.mgs_core.specs.Calls.{OpenedBy}
 use Rattle.mgs_core.proofs.Ids.{All-unmap, found_sizes, known_last}
 use Rattle.mgs_replay.specs.declared.client.Labelled.{Labelled}
 use Rattle.mgs_replay.specs.declared.client.Cause.{Cause}
@@ -107,18 +107,18 @@ apart_never xs name h =
 
 fresh_one : (w : World) (id : ℕ) (x : Client) → find_size id (sizes w) ≡ None → ClientShows w x → Differ (standing_in x) (Has id)
 fresh_one w id clients.Never fresh h = tt
-fresh_one w id (clients.Open own term) fresh h =
-    let goal : Bool → Type 0 = λ b. nat_eq id own ≡ b → b ≡ false in
+fresh_one w id (clients.Open mine term) fresh h =
+    let goal : Bool → Type 0 = λ b. nat_eq id mine ≡ b → b ≡ false in
     let go : (b : Bool) → goal b =
     λ b. elim b as goal [
       | true ↦ λ e.
-          let same : id ≡ own = eqb-true _ _ e in
-          let is : find_size own (sizes w) ≡ Some (session_size h.0) = found_sizes own w ∙ ap (option_map session_size) h.1 in
-          let none : find_size own (sizes w) ≡ None = ap (λ (n : ℕ). find_size n (sizes w)) (sym same) ∙ fresh in
+          let same : id ≡ mine = eqb-true _ _ e in
+          let is : find_size mine (sizes w) ≡ Some (session_size h.0) = found_sizes mine w ∙ ap (option_map session_size) h.1 in
+          let none : find_size mine (sizes w) ≡ None = ap (λ (n : ℕ). find_size n (sizes w)) (sym same) ∙ fresh in
           cc
       | false ↦ λ e. refl
     ]
-    in go (nat_eq id own) refl
+    in go (nat_eq id mine) refl
 fresh_one w id (clients.Ended cause) fresh h = tt
 
 pub apart_open : (w : World) (xs : List Labelled) (name : List ℕ) (id : ℕ) (term : Terminal) → find_size id (sizes w) ≡ None → All (LabelShows w) xs → AreApart (labels_in xs)
@@ -132,10 +132,10 @@ apart_open w xs name id term fresh shows h =
 -- THE SESSION OF THE EVENT STAYS OPEN
 
 held_still : (w v : World) (xs : List Labelled) (id : ℕ) → IsHeld id xs → AreHeld w xs → Beside id w v → AreHeld v xs
-held_still w v xs id own held beside other there = go (nat_eq id other) refl
+held_still w v xs id mine held beside other there = go (nat_eq id other) refl
   where
     go : (b : Bool) → nat_eq id other ≡ b → IsHeld other xs
-    go true e = subst (λ n. IsHeld n xs) (eqb-true id other e) own
+    go true e = subst (λ n. IsHeld n xs) (eqb-true id other e) mine
     go false e = held other (sym (beside.others other e) ∙ there)
 
 pub waiting_still : (old new : Serving) (xs : List Labelled) (name : List ℕ) (id : ℕ) → IsReady old xs → session_in name xs ≡ Some id → Beside id old.world new.world → is_open id new.world ≡ true → Painted old new → IsWaiting new xs
@@ -151,10 +151,10 @@ ended_shows : (w : World) (name : List ℕ) (cause : Cause) (x : Labelled) → L
 ended_shows w name cause x h =
     elim (same_name name x.label) as (λ b. LabelShows w (cond b (record { label = x.label; client = clients.Ended cause }) x)) [ true ↦ tt | false ↦ h ]
 
-gone_name : (name : List ℕ) (cause : Cause) (own : List ℕ) (x : Label) → is_called own (gone name cause x) ≡ is_called own x
-gone_name name cause own x = go (is_called name x)
+gone_name : (name : List ℕ) (cause : Cause) (mine : List ℕ) (x : Label) → is_called mine (gone name cause x) ≡ is_called mine x
+gone_name name cause mine x = go (is_called name x)
   where
-    go : (b : Bool) → is_called own (cond b (label x.name (Gone cause)) x) ≡ is_called own x
+    go : (b : Bool) → is_called mine (cond b (label x.name (Gone cause)) x) ≡ is_called mine x
     go true = refl
     go false = refl
 
@@ -169,18 +169,18 @@ found_passes p (y ∷ ys) x e = go (p y) refl e (found_passes p ys x)
     go false h f later = later f
 
 -- the labels of other sessions keep theirs
-kept_by : (name own : List ℕ) (cause : Cause) (id other : ℕ) (ls : List Label) → session_now (standing_of name ls) ≡ Some id → session_now (standing_of own ls) ≡ Some other → nat_eq id other ≡ false → session_now (standing_of own (map (gone name cause) ls)) ≡ Some other
-kept_by name own cause id other ls now has apart =
-    let z = found_now (find (is_called own) ls) other has in
-    let is : standing_of own (map (gone name cause) ls) ≡ Some (gone name cause z.0).standing =
-    ap (option_map (λ (x : Label). x.standing)) (find-map (gone name cause) (is_called own) (is_called own) (gone_name name cause own) ls ∙ ap (option_map (gone name cause)) z.1) in
-    let called : is_called own z.0 ≡ true = found_passes (is_called own) ls z.0 z.1 in
+kept_by : (name mine : List ℕ) (cause : Cause) (id other : ℕ) (ls : List Label) → session_now (standing_of name ls) ≡ Some id → session_now (standing_of mine ls) ≡ Some other → nat_eq id other ≡ false → session_now (standing_of mine (map (gone name cause) ls)) ≡ Some other
+kept_by name mine cause id other ls now has apart =
+    let z = found_now (find (is_called mine) ls) other has in
+    let is : standing_of mine (map (gone name cause) ls) ≡ Some (gone name cause z.0).standing =
+    ap (option_map (λ (x : Label). x.standing)) (find-map (gone name cause) (is_called mine) (is_called mine) (gone_name name cause mine) ls ∙ ap (option_map (gone name cause)) z.1) in
+    let called : is_called mine z.0 ≡ true = found_passes (is_called mine) ls z.0 z.1 in
     ap session_now is ∙ go z.0 called z.2 (is_called name z.0) refl
   where
-    go : (x : Label) → is_called own x ≡ true → x.standing ≡ Has other → (b : Bool) → is_called name x ≡ b → session_now (Some (cond b (label x.name (Gone cause)) x).standing) ≡ Some other
+    go : (x : Label) → is_called mine x ≡ true → x.standing ≡ Has other → (b : Bool) → is_called name x ≡ b → session_now (Some (cond b (label x.name (Gone cause)) x).standing) ≡ Some other
     go x called stands false e = ap (λ s. session_now (Some s)) stands
     go x called stands true e =
-        let same : name ≡ own = same_names name x.name e ∙ sym (same_names own x.name called) in
+        let same : name ≡ mine = same_names name x.name e ∙ sym (same_names mine x.name called) in
         let both_now : Some id ≡ Some other = sym now ∙ ap (λ n. session_now (standing_of n ls)) same ∙ has in
         let ids : id ≡ other = cc in
         let clash : true ≡ false = sym (eq-eqb id other ids) ∙ apart in
@@ -250,8 +250,8 @@ held_push : (xs : List Labelled) (y : Labelled) (id : ℕ) → IsHeld id xs → 
 held_push xs y id held = (held.0, ap (λ ls. session_now (standing_of held.0 ls)) (labels_push xs y) ∙ kept_push held.0 id (labels_in xs) (label_of y) held.1)
 
 -- and has its own, where its name is new
-own_push : (name : List ℕ) (id : ℕ) (ls : List Label) → is_some (standing_of name ls) ≡ false → session_now (standing_of name (ls ++ label name (Has id) ∷ [])) ≡ Some id
-own_push name id ls free =
+new_push : (name : List ℕ) (id : ℕ) (ls : List Label) → is_some (standing_of name ls) ≡ false → session_now (standing_of name (ls ++ label name (Has id) ∷ [])) ≡ Some id
+new_push name id ls free =
     ap (λ o. session_now (option_map (λ (x : Label). x.standing) o)) (find-append (is_called name) ls (label name (Has id) ∷ []))
     ∙ go (find (is_called name) ls) free
     ∙ ap (λ b. session_now (option_map (λ (x : Label). x.standing) (cond b (Some (label name (Has id))) None))) (is_name name)
@@ -271,7 +271,7 @@ held_opened w v xs name user id rows cols term free held can is other there = go
     go : (b : Bool) → nat_eq id other ≡ b → IsHeld other (xs ++ last ∷ [])
     go true e =
         subst (λ n. IsHeld n (xs ++ last ∷ [])) (eqb-true id other e)
-        (name, ap (λ ls. session_now (standing_of name ls)) (labels_push xs last) ∙ own_push name id (labels_in xs) free)
+        (name, ap (λ ls. session_now (standing_of name ls)) (labels_push xs last) ∙ new_push name id (labels_in xs) free)
     go false e = held_push xs last other (held other (sym (opened_others other id user rows cols w can e) ∙ ap (is_open other) (sym is) ∙ there))
 
 -- a session opens, and its label gets a terminal

@@ -60,7 +60,7 @@ apart_gone name cause (x ∷ xs) h = (
 
 has_now : (s : Standing) (id : ℕ) → session_now (Some s) ≡ Some id → s ≡ Has id
 has_now Never id h = absurd cc
-has_now (Has own) id h = let e : own ≡ id = cc in ap Has e
+has_now (Has mine) id h = let e : mine ≡ id = cc in ap Has e
 has_now (Gone cause) id h = absurd cc
 
 -- a label that has this open session
@@ -71,19 +71,19 @@ found_now (Some z) id h = (z, refl, has_now z.standing id h)
 -- a label has not this open session
 unfoldable pub HasNot : ℕ → Standing → Type 0
 HasNot id Never = Unit {0}
-HasNot id (Has own) = nat_eq id own ≡ false
+HasNot id (Has mine) = nat_eq id mine ≡ false
 HasNot id (Gone cause) = Unit {0}
 
 later_has : (id : ℕ) (s : Standing) → Differ (Has id) s → HasNot id s
 unfolding HasNot
 later_has id Never h = tt
-later_has id (Has own) h = differ own id h
+later_has id (Has mine) h = differ mine id h
 later_has id (Gone cause) h = tt
 
 earlier_has : (id : ℕ) (s : Standing) → Differ s (Has id) → HasNot id s
 unfolding HasNot
 earlier_has id Never h = tt
-earlier_has id (Has own) h = h
+earlier_has id (Has mine) h = h
 earlier_has id (Gone cause) h = tt
 
 -- the label is called so, or has not this session

@@ -14,5 +14,3 @@ pub mod Drafts
 pub mod Fits
 pub mod Replaying
 pub mod Staying
-pub mod FirstRefused
-pub mod Allowed

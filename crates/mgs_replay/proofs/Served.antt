@@ -33,27 +33,27 @@ emptied : (o : Option Queue) → waiting_in (option_map (after_taking (length (w
 emptied None = refl
 emptied (Some x) = drop_all (length x.bytes) x.bytes (omega arith)
 
-own_taken : (id : ℕ) (e : Serving) → pending_of id (all_taken_by id e) ≡ []
-own_taken id e =
+mine_taken : (id : ℕ) (e : Serving) → pending_of id (all_taken_by id e) ≡ []
+mine_taken id e =
     ap waiting_in (find-change_first (is_queue_of id) (after_taking (length (pending_of id e))) (λ x. refl) e.queues)
     ∙ emptied (find_queue id e.queues)
 
-is_other : (own id : ℕ) → nat_eq id own ≡ false → (x : Queue) → is_queue_of id x ≡ true → is_queue_of own x ≡ false
-is_other own id e x h = ap (λ n. nat_eq n own) (eqb-true x.id id h) ∙ e
+is_other : (mine id : ℕ) → nat_eq id mine ≡ false → (x : Queue) → is_queue_of id x ≡ true → is_queue_of mine x ≡ false
+is_other mine id e x h = ap (λ n. nat_eq n mine) (eqb-true x.id id h) ∙ e
 
-others_wait : (own id n : ℕ) (e : Serving) → nat_eq id own ≡ false → pending_of own (taken_by id n e) ≡ pending_of own e
-others_wait own id n e other = ap waiting_in (find-change_first_other (is_queue_of id) (is_queue_of own) (after_taking n) (λ x. refl) (is_other own id other) e.queues)
+others_wait : (mine id n : ℕ) (e : Serving) → nat_eq id mine ≡ false → pending_of mine (taken_by id n e) ≡ pending_of mine e
+others_wait mine id n e other = ap waiting_in (find-change_first_other (is_queue_of id) (is_queue_of mine) (after_taking n) (λ x. refl) (is_other mine id other) e.queues)
 
-still_none : (own id n : ℕ) (e : Serving) → pending_of own e ≡ [] → pending_of own (taken_by id n e) ≡ []
-still_none own id n e none = go (nat_eq id own) refl
+still_none : (mine id n : ℕ) (e : Serving) → pending_of mine e ≡ [] → pending_of mine (taken_by id n e) ≡ []
+still_none mine id n e none = go (nat_eq id mine) refl
   where
-    go : (b : Bool) → nat_eq id own ≡ b → pending_of own (taken_by id n e) ≡ []
+    go : (b : Bool) → nat_eq id mine ≡ b → pending_of mine (taken_by id n e) ≡ []
     go true same =
-        let is : id ≡ own = eqb-true id own same in
+        let is : id ≡ mine = eqb-true id mine same in
         subst (λ k. pending_of k (taken_by id n e) ≡ []) is
         (ap waiting_in (find-change_first (is_queue_of id) (after_taking n) (λ x. refl) e.queues)
         ∙ dropped n (find_queue id e.queues) (subst (λ k. pending_of k e ≡ []) (sym is) none))
-    go false other = others_wait own id n e other ∙ none
+    go false other = others_wait mine id n e other ∙ none
 
 -- ONE LABEL
 
@@ -67,18 +67,18 @@ same_standing e f Never d h = ap standing_in h.1
 same_standing e f (Open id term) d h = ap standing_in h.1.1
 same_standing e f (Ended cause) d h = ap standing_in h.1
 
-none_stays : (e f : Serving) (c d : Client) (own : ℕ) → ClientTakes e c f d → pending_of own e ≡ [] → pending_of own f ≡ []
-none_stays e f Never d own h none = ap (pending_of own) h.0 ∙ none
-none_stays e f (Open id term) d own h none = ap (pending_of own) h.0 ∙ still_none own id (length (pending_of id e)) e none
-none_stays e f (Ended cause) d own h none = ap (pending_of own) h.0 ∙ none
+none_stays : (e f : Serving) (c d : Client) (mine : ℕ) → ClientTakes e c f d → pending_of mine e ≡ [] → pending_of mine f ≡ []
+none_stays e f Never d mine h none = ap (pending_of mine) h.0 ∙ none
+none_stays e f (Open id term) d mine h none = ap (pending_of mine) h.0 ∙ still_none mine id (length (pending_of id e)) e none
+none_stays e f (Ended cause) d mine h none = ap (pending_of mine) h.0 ∙ none
 
 -- nothing waits for its own session then
-own_none : (e f : Serving) (c d : Client) (own : ℕ) → ClientTakes e c f d → session_now (Some (standing_in c)) ≡ Some own → pending_of own f ≡ []
-own_none e f Never d own h now = absurd cc
-own_none e f (Open id term) d own h now =
-    let is : id ≡ own = cc in
-    subst (λ k. pending_of k f ≡ []) is (ap (pending_of id) h.0 ∙ own_taken id e)
-own_none e f (Ended cause) d own h now = absurd cc
+mine_none : (e f : Serving) (c d : Client) (mine : ℕ) → ClientTakes e c f d → session_now (Some (standing_in c)) ≡ Some mine → pending_of mine f ≡ []
+mine_none e f Never d mine h now = absurd cc
+mine_none e f (Open id term) d mine h now =
+    let is : id ≡ mine = cc in
+    subst (λ k. pending_of k f ≡ []) is (ap (pending_of id) h.0 ∙ mine_taken id e)
+mine_none e f (Ended cause) d mine h now = absurd cc
 
 -- its terminal shows its screen then
 shows_then : (e f : Serving) (c d : Client) → ClientTakes e c f d → ClientDue e c → ClientShows e.world d
@@ -92,9 +92,9 @@ due_then e f Never d x h apart due = subst (λ s. ClientDue s x) (sym h.0) due
 due_then e f (Ended cause) d x h apart due = subst (λ s. ClientDue s x) (sym h.0) due
 due_then e f (Open id term) d Never h apart due = tt
 due_then e f (Open id term) d (Ended cause) h apart due = tt
-due_then e f (Open id term) d (Open own other) h apart due =
-    let same : pending_of own (all_taken_by id e) ≡ pending_of own e = others_wait own id (length (pending_of id e)) e (swapped own id apart) in
-    subst (λ s. ClientDue s (Open own other)) (sym h.0)
+due_then e f (Open id term) d (Open mine other) h apart due =
+    let same : pending_of mine (all_taken_by id e) ≡ pending_of mine e = others_wait mine id (length (pending_of id e)) e (swapped mine id apart) in
+    subst (λ s. ClientDue s (Open mine other)) (sym h.0)
     (due.0, due.1, due.2, due.3, subst (λ bytes. Draws Anything bytes due.1 (shown (screen e.world due.0))) (sym same) due.4)
   where
     swapped : (a b : ℕ) → nat_eq a b ≡ false → nat_eq b a ≡ false
@@ -109,7 +109,7 @@ due_then e f (Open id term) d (Open own other) h apart due =
 record Taken (e : Serving) (xs : List Labelled) (f : Serving) (ys : List Labelled) : Type 0 where
   world : f.world ≡ e.world
   none : (id : ℕ) → pending_of id e ≡ [] → pending_of id f ≡ []
-  own : (id : ℕ) → IsHeld id xs → pending_of id f ≡ []
+  mine : (id : ℕ) → IsHeld id xs → pending_of id f ≡ []
   shows : All (LabelShows e.world) ys
   labels : labels_in ys ≡ labels_in xs
 
@@ -118,11 +118,11 @@ later_due e f x y xs h apart due =
     both (λ z. IsApart (label_of x) (label_of z)) (IsLineDue e) (IsLineDue f) (λ z a d. due_then e f x.client y.client z.client h.client a d) xs
     (All-unmap (IsApart (label_of x)) label_of xs apart) due
 
-first_or_later : (e f g : Serving) (x y : Labelled) (xs : List Labelled) (id : ℕ) → Takes e x f y → ((own : ℕ) → pending_of own f ≡ [] → pending_of own g ≡ []) → (IsHeld id xs → pending_of id g ≡ []) → IsHeld id (x ∷ xs) → pending_of id g ≡ []
+first_or_later : (e f g : Serving) (x y : Labelled) (xs : List Labelled) (id : ℕ) → Takes e x f y → ((mine : ℕ) → pending_of mine f ≡ [] → pending_of mine g ≡ []) → (IsHeld id xs → pending_of id g ≡ []) → IsHeld id (x ∷ xs) → pending_of id g ≡ []
 first_or_later e f g x y xs id h stays later held = go (is_called held.0 (label_of x)) held.1
   where
     go : (b : Bool) → session_now (option_map (λ (z : Label). z.standing) (cond b (Some (label_of x)) (find (is_called held.0) (labels_in xs)))) ≡ Some id → pending_of id g ≡ []
-    go true now = stays id (own_none e f x.client y.client id h.client now)
+    go true now = stays id (mine_none e f x.client y.client id h.client now)
     go false now = later (held.0, now)
 
 same_label : (e f : Serving) (x y : Labelled) → Takes e x f y → label_of y ≡ label_of x
@@ -135,7 +135,7 @@ all_taken : (e : Serving) (xs : List Labelled) (f : Serving) (ys : List Labelled
 all_taken e [] f ys due apart h = record {
   world = ap (λ (s : Serving). s.world) h.0;
   none = λ id n. ap (pending_of id) h.0 ∙ n;
-  own = λ id held. absurd (no_label held);
+  mine = λ id held. absurd (no_label held);
   shows = subst (All (LabelShows e.world)) (sym h.1) (All-nil (LabelShows e.world));
   labels = ap labels_in h.1;
 }
@@ -152,7 +152,7 @@ all_taken e (x ∷ xs) f ys due apart h =
     record {
       world = rest.world ∙ world;
       none = λ id n. rest.none id (none_stays e h.0 x.client h.1.client id one.client n);
-      own = λ id held. first_or_later e h.0 f x h.1 xs id one rest.none (rest.own id) held;
+      mine = λ id held. first_or_later e h.0 f x h.1 xs id one rest.none (rest.mine id) held;
       shows = subst (All (LabelShows e.world)) (sym h.5) (All-cons (LabelShows e.world) h.1 h.2 first shows);
       labels = ap labels_in h.5 ∙ ap (λ ls. label_of h.1 ∷ ls) rest.labels ∙ ap (λ l. l ∷ labels_in xs) (same_label e h.0 x h.1 one);
     }
@@ -168,7 +168,7 @@ ready old mid new xs zs waiting h told =
     (by.0, ap (λ ls. session_now (standing_of by.0 ls)) all.labels ∙ by.1) in
     subst (λ (e : Serving). IsReady e zs) (sym told)
     (record {
-      taken = λ id there. all.own id (waiting.held id (subst (λ (w : World). is_open id w ≡ true) all.world there));
+      taken = λ id there. all.mine id (waiting.held id (subst (λ (w : World). is_open id w ≡ true) all.world there));
       told = refl;
       shows = subst (λ (w : World). All (LabelShows w) zs) (sym all.world) all.shows;
       apart = subst AreApart (sym all.labels) waiting.apart;

@@ -11,17 +11,19 @@ use Rattle.mgs_script.specs.declared.line.LineFault.TheVariants.{Bad, Short}
 use Rattle.mgs_script.specs.Lines.{Said, needs_memory, label_typed}
 use Rattle.mgs_script.specs.Lines as said
 use Rattle.mgs_replay.specs.Setups.{Sets}
-use Rattle.mgs_replay.specs.Players.{Label, setting, playing, standing_of, had_session, LineDoes, MayBeShort, IsDue}
+use Rattle.mgs_replay.specs.Players.{Label, setting, playing, standing_of, had_session}
+use Rattle.mgs_replay.specs.Replayed.{did}
+use Rattle.mgs_replay.specs.Turns.{LineDoes, MayBeShort, IsDue}
 
 -- a line that was set does what it says
 pub set_does : (w v : World) (l : Said) → Sets (Ok tt) l w v → LineDoes (Some l) (setting w) (setting v) []
-set_does w v said.Nothing h = (refl, (ap setting h.1, refl))
-set_does w v (said.User name) h = (h.0, (ap setting h.1, refl))
-set_does w v (said.Group name members) h = (h.0, (ap setting h.1, refl))
-set_does w v (said.Buffer name owner) h = (h.0, (ap setting h.1, refl))
-set_does w v (said.OwnGroup buffer group) h = (h.0, (ap setting h.1, refl))
-set_does w v (said.Entry buffer entry) h = (h.0, (ap setting h.1, refl))
-set_does w v (said.Text buffer cs) h = (h.0, (ap setting h.1, refl))
+set_does w v said.Nothing h = (refl, ([], ap (λ (p : World). did (setting p) []) h.1))
+set_does w v (said.User name) h = (h.0, ([], ap (λ (p : World). did (setting p) []) h.1))
+set_does w v (said.Group name members) h = (h.0, ([], ap (λ (p : World). did (setting p) []) h.1))
+set_does w v (said.Buffer name owner) h = (h.0, ([], ap (λ (p : World). did (setting p) []) h.1))
+set_does w v (said.OwnGroup buffer group) h = (h.0, ([], ap (λ (p : World). did (setting p) []) h.1))
+set_does w v (said.Entry buffer entry) h = (h.0, ([], ap (λ (p : World). did (setting p) []) h.1))
+set_does w v (said.Text buffer cs) h = (h.0, ([], ap (λ (p : World). did (setting p) []) h.1))
 set_does w v (said.Open name user rows cols) h = let e : true ≡ false = h.0 in absurd cc
 set_does w v (said.Keys name keys) h = let e : true ≡ false = h.0 in absurd cc
 set_does w v (said.Show name) h = let e : true ≡ false = h.0 in absurd cc

@@ -8,7 +8,7 @@ use Rattle.mgs_model.specs.Events.{is_open}
 use Rattle.mgs_model.specs.declared.errors.Keyed.{Keyed}
 use Rattle.mgs_model.specs.declared.errors.Keyed.TheVariants as keyed
 use Rattle.mgs_store.specs.Stores.{StoreTold}
-use Rattle.mgs_core.specs.Steps.{KeyedBy}
+use Rattle.mgs_core.specs.Calls.{KeyedBy}
 use Rattle.mgs_core.proofs.Ids.{All-found}
 use Rattle.mgs_replay.specs.declared.client.Cause.{Cause}
 use Rattle.mgs_replay.specs.Players.{Label, label, Standing, Never, Has, Gone, is_called, standing_of, session_now, gone}
@@ -43,16 +43,16 @@ there_kept w v keeps (Gone cause) h = tt
 pub are_kept : (w v : World) (ls : List Label) → ((id : ℕ) → is_open id w ≡ true → is_open id v ≡ true) → AreThere w ls → AreThere v ls
 are_kept w v ls keeps h = All-weaker (λ y. IsThere w y.standing) (λ y. IsThere v y.standing) (λ y. there_kept w v keeps y.standing) ls h
 
-stays_beside : (w v : World) (id own : ℕ) → Beside id w v → is_open id v ≡ true → is_open own w ≡ true → is_open own v ≡ true
-stays_beside w v id own beside still h = go (nat_eq id own) refl
+stays_beside : (w v : World) (id mine : ℕ) → Beside id w v → is_open id v ≡ true → is_open mine w ≡ true → is_open mine v ≡ true
+stays_beside w v id mine beside still h = go (nat_eq id mine) refl
   where
-    go : (b : Bool) → nat_eq id own ≡ b → is_open own v ≡ true
+    go : (b : Bool) → nat_eq id mine ≡ b → is_open mine v ≡ true
     go true e = ap (λ n. is_open n v) (sym (eqb-true _ _ e)) ∙ still
-    go false e = beside.others own e ∙ h
+    go false e = beside.others mine e ∙ h
 
 -- the session of the event stays open
 pub are_still : (w v : World) (id : ℕ) (ls : List Label) → Beside id w v → is_open id v ≡ true → AreThere w ls → AreThere v ls
-are_still w v id ls beside still h = are_kept w v ls (λ own there. stays_beside w v id own beside still there) h
+are_still w v id ls beside still h = are_kept w v ls (λ mine there. stays_beside w v id mine beside still there) h
 
 -- ONE SESSION ENDS, AND SO DOES ITS LABEL'S
 
@@ -62,7 +62,7 @@ there_gone w v name id cause beside x only h = go (is_called name x) refl
   where
     by : (s : Standing) → HasNot id s → IsThere w s → IsThere v s
     by Never n t = tt
-    by (Has own) n t = beside.others own n ∙ t
+    by (Has mine) n t = beside.others mine n ∙ t
     by (Gone c) n t = tt
 
     go : (b : Bool) → is_called name x ≡ b → IsThere v (cond b (label x.name (Gone cause)) x).standing

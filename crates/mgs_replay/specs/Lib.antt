@@ -1,6 +1,5 @@
 pub mod Reads
 pub mod Faults
-pub mod Plays
 pub mod Replayed
 pub mod Turns
 pub mod Prints

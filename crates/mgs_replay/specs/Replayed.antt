@@ -1,8 +1,10 @@
--- What a script writes, as a function of what its events are granted.
-use Rattle.std.specs.Prelude.{◌≡◌, ◌↔◌, ℕ, ◌+◌, ◌++◌, Bool, true, cond, List, [], ◌∷◌, map, All, Option, Some, None, Result, Ok, Err}
+-- What a script writes and how its replay ends, as a function of what it is granted.
+use Rattle.std.specs.Prelude.{◌≡◌, ℕ, ◌+◌, ◌++◌, ◌⊎◌, Bool, true, cond, if◌then◌else◌, List, [], ◌∷◌, map, All, Option, Some, None, Result, Ok, Err}
+use Rattle.std.specs.Io.KnownBytes.{Appends}
 use Rattle.mgs_model.specs.World.{World, Session, find_session}
 use Rattle.mgs_model.specs.Draw.{screen}
-use Rattle.mgs_model.specs.Events.{step, refused_act, may_be_refused}
+use Rattle.mgs_model.specs.Events.{step}
+use Rattle.mgs_laws.specs.Refusals.{refused_act, may_be_refused}
 use Rattle.mgs_model.specs.Events as events
 use Rattle.mgs_model.specs.declared.errors.Keyed.{Keyed}
 use Rattle.mgs_model.specs.declared.errors.Keyed.TheVariants as keyed
@@ -13,10 +15,11 @@ use Rattle.mgs_paint.specs.Painting.{shown}
 use Rattle.mgs_script.specs.Lines.{Said, said_in, Nothing, User, Group, Buffer, OwnGroup, Entry as Listing, Text, Open, Keys, Show, Close}
 use Rattle.mgs_script.specs.Scripts.{lines_of}
 use Rattle.mgs_replay.specs.declared.client.Cause.TheVariants as causes
+use Rattle.mgs_replay.specs.declared.script.ReplayFault.{ReplayFault}
+use Rattle.mgs_replay.specs.declared.script.ReplayFault.TheVariants as ends
 use Rattle.mgs_replay.specs.Settings.{first_world, world_set}
 use Rattle.mgs_replay.specs.Prints.{refusal_text, ended_text, screen_text}
-use Rattle.mgs_replay.specs.Players.{Player, label, Standing, Never, Has, Gone, standing_of, session_now, gone, labels_keyed, setting, playing, is_refused}
-use Rattle.mgs_replay.specs.Plays.{End, Whole, RefusedAt, MayPrint}
+use Rattle.mgs_replay.specs.Players.{Player, label, Standing, Never, Has, Gone, standing_of, session_now, gone, labels_keyed, setting, playing, is_refused, may_be_short}
 
 -- CHOICES
 
@@ -34,10 +37,15 @@ abbrev pub next_choice : List Choice → Choice
 next_choice [] = granted
 next_choice (c ∷ cs) = c
 
--- the choices of the next line's events
-abbrev pub next_choices : List (List Choice) → List Choice
-next_choices [] = []
-next_choices (c ∷ cs) = c
+-- what a line is granted: no memory, or what its events are granted
+pub data LineChoice : Type 0 where
+  NoMemory : LineChoice
+  Events : (events : List Choice) → LineChoice
+
+-- the choice of the next line; where none is left, it is granted all
+abbrev pub next_line : List LineChoice → LineChoice
+next_line [] = Events []
+next_line (c ∷ cs) = c
 
 -- those after the next
 abbrev pub later : {A : Type 0} → List A → List A
@@ -47,6 +55,10 @@ later (c ∷ cs) = cs
 -- nothing is refused
 abbrev pub AllGranted : List Choice → Type 0
 AllGranted cs = All (λ (c : Choice). c ≡ granted) cs
+
+abbrev pub IsGranted : LineChoice → Type 0
+IsGranted NoMemory = ⊥
+IsGranted (Events cs) = AllGranted cs
 
 -- LINES
 
@@ -136,35 +148,46 @@ did_by cs s (Close name) = did (closed (session_now (standing_of name s.labels))
 
 -- SCRIPTS
 
--- what a script writes, and how it ends
+-- what is written, and how the replay ends
 pub record Replayed : Type 0 where
   pub out : List ℕ
-  pub end : End
+  pub end : Result (Unit {0}) ReplayFault
+
+-- it ends so, and writes nothing more
+abbrev pub ended : Result (Unit {0}) ReplayFault → Replayed
+ended end = record { out = []; end = end }
 
 -- a line prints this before the lines after it
 abbrev pub after_print : List ℕ → Replayed → Replayed
 after_print print r = record { out = print ++ r.out; end = r.end }
 
--- a line, and those after it
-abbrev pub line_then : ℕ → List Choice → Player → Option Said → (Player → Replayed) → Replayed
-line_then n cs s None rest = record { out = []; end = RefusedAt n }
-line_then n cs s (Some said) rest =
-    cond (is_refused s said) (record { out = []; end = RefusedAt n }) (after_print (did_by cs s said).print (rest (did_by cs s said).player))
+-- the n-th line, and those after it; memory is refused only to a line to which it may be, and another is then refused itself
+abbrev pub line_then : ℕ → Player → Option Said → LineChoice → (Player → Replayed) → Replayed
+line_then n s None c rest = ended (Err (ends.Line n))
+line_then n s (Some said) NoMemory rest = ended (Err (if may_be_short s said then ends.Short else ends.Line n))
+line_then n s (Some said) (Events cs) rest =
+    if is_refused s said then ended (Err (ends.Line n)) else after_print (did_by cs s said).print (rest (did_by cs s said).player)
 
--- the lines from the n-th on, each with the choices of its events
-abbrev pub played_with : List (List Choice) → ℕ → Player → List (List ℕ) → Replayed
-played_with cs n s [] = record { out = []; end = Whole }
-played_with cs n s (l ∷ ls) = line_then n (next_choices cs) s (said_in l) (λ t. played_with (later cs) (n + 1) t ls)
+-- the lines from the n-th on, each with what it is granted
+abbrev pub played : List LineChoice → ℕ → Player → List (List ℕ) → Replayed
+played cs n s [] = ended (Ok tt)
+played cs n s (l ∷ ls) = line_then n s (said_in l) (next_line cs) (λ t. played (later cs) (n + 1) t ls)
 
--- a script over a server that has nothing yet, with the choices of each line's events
-unfoldable pub replayed_with : List (List Choice) → List ℕ → Replayed
-replayed_with cs script = played_with cs 1 (setting first_world) (lines_of script)
+-- a script over a server that has nothing yet
+unfoldable pub replayed : List LineChoice → List ℕ → Replayed
+replayed cs script = played cs 1 (setting first_world) (lines_of script)
 
--- the same where nothing is refused
-unfoldable pub replayed : List ℕ → Replayed
-replayed script = replayed_with [] script
+-- where nothing is refused, that is one fixed output
+abbrev pub IsDetermined : Type 0
+IsDetermined = (cs : List LineChoice) (script : List ℕ) → All IsGranted cs → replayed cs script ≡ replayed [] script
 
--- what a script may print is exactly what it prints for some choices, and where these refuse nothing it is one fixed output
-pub record IsReplayed : Type 0 where
-  pub chosen : (script out : List ℕ) (end : End) → MayPrint first_world script out end ↔ ((cs : List (List Choice)) × (replayed_with cs script ≡ record { out = out; end = end }))
-  pub granted : (cs : List (List Choice)) (script : List ℕ) → All AllGranted cs → replayed_with cs script ≡ replayed script
+-- what the replay of a script wrote, and how it ended, is what the function gives for some choices; where it ended by its
+-- reader or its writer, nothing is said
+abbrev pub Written : List ℕ → Option (List ℕ) → Option (List ℕ) → Result (Unit {0}) ReplayFault → Type 0
+Written script old new (Err ends.Read) = Unit {0}
+Written script old new (Err ends.Write) = Unit {0}
+Written script old new result = (choices : List LineChoice) × Appends old new (replayed choices script).out × ((replayed choices script).end ≡ result)
+
+-- the same of a script that is read first, for which memory may be refused as well: then nothing was written
+abbrev pub WrittenOrUnread : List ℕ → Option (List ℕ) → Option (List ℕ) → Result (Unit {0}) ReplayFault → Type 0
+WrittenOrUnread script old new result = ((result ≡ Err ends.Short) × (new ≡ old)) ⊎ Written script old new result

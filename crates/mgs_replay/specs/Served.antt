@@ -18,9 +18,11 @@ use Rattle.mgs_model.specs.declared.errors.Keyed.TheVariants as keyed
 use Rattle.mgs_replay.specs.declared.client.Cause.TheVariants as causes
 use Rattle.mgs_script.specs.declared.line.LineFault.{LineFault}
 use Rattle.mgs_script.specs.declared.line.LineFault.TheVariants as lines
-use Rattle.mgs_script.specs.Lines.{Said}
+use Rattle.mgs_script.specs.Lines.{Said, said_in}
 use Rattle.mgs_replay.specs.Clients.{ended_by, TermFed}
-use Rattle.mgs_replay.specs.Players.{Label, label, Standing, Never, Has, Gone, Player, playing, standing_of, session_now, is_refused, Does, LineDoes, IsDue}
+use Rattle.mgs_replay.specs.Players.{Label, label, Standing, Never, Has, Gone, Player, playing, standing_of, session_now, is_refused}
+use Rattle.mgs_replay.specs.Turns.{Does, LineDoes, IsDue, Turned, TypesOne}
+use Rattle.mgs_replay.specs.declared.lines.TurnFault.{TurnFault}
 
 -- how a label stands, by its client
 abbrev pub standing_in : Client → Standing
@@ -151,3 +153,17 @@ Runs (Err lines.Short) s l t old new = is_refused s l ≡ false
 abbrev pub RunsSaid : Result (Unit {0}) LineFault → Player → Option Said → Player → List ℕ → List ℕ → Type 0
 RunsSaid (Ok done) s l t old new = (print : List ℕ) × LineDoes l s t print × (new ≡ old ++ print)
 RunsSaid (Err fault) s l t old new = IsDue fault l s
+
+-- THE SAME OVER THE ENGINE AND THE TERMINALS
+
+-- a byte of a label
+abbrev pub TypesLabel : Serving → List Labelled → List ℕ → ℕ → Serving → List Labelled → Type 0
+TypesLabel e xs name byte f ys = TypesOne (session_in name xs) (player_of e xs) name byte (player_of f ys)
+
+-- a line
+abbrev pub RunsOn : Result (Unit {0}) LineFault → Serving → List Labelled → Said → Serving → List Labelled → List ℕ → List ℕ → Type 0
+RunsOn result e xs l f ys old new = Runs result (player_of e xs) l (player_of f ys) old new
+
+-- a line as it stands in the script, and what was written of it
+abbrev pub TurnsLine : Result (Unit {0}) TurnFault → Serving → List Labelled → List ℕ → Serving → List Labelled → Option (List ℕ) → Option (List ℕ) → Type 0
+TurnsLine result e xs line f ys old new = Turned result (player_of e xs) (said_in line) (player_of f ys) old new

@@ -4,11 +4,10 @@ ghost use Rattle.mgs_replay.specs.Faults.{fault_of, end_at, IsPlayed, IsSet};
 ghost use Rattle.mgs_script.specs.Lines.{said_in, needs_memory};
 ghost use Rattle.mgs_model.specs.World.{World};
 ghost use Rattle.mgs_script.specs.Scripts.{lines_of};
-ghost use Rattle.mgs_replay.specs.Settings.{first_world};
-ghost use Rattle.mgs_replay.specs.Players.{setting, playing, IsDue};
-ghost use Rattle.mgs_replay.specs.Plays.{Written};
-ghost use Rattle.mgs_replay.specs.Served.{player_of, IsReady};
-ghost use Rattle.mgs_replay.specs.Turns.{Turned, PlaysOn, SetsSaid, SetUp};
+ghost use Rattle.mgs_replay.specs.Players.{setting, playing};
+ghost use Rattle.mgs_replay.specs.Replayed.{Written};
+ghost use Rattle.mgs_replay.specs.Served.{IsReady, TurnsLine};
+ghost use Rattle.mgs_replay.specs.Turns.{IsDue, PlaysOn, SetsSaid, SetUp};
 
 use crate::calls::Server;
 use crate::clients::Clients;
@@ -61,7 +60,7 @@ fn turn<T: Marked + Drop, W: Write>(
 ) -> Result<(), TurnFault>
     requires { IsReady server.old clients.old }
     ensures ready { OnOk result (IsReady server.new clients.new) }
-    ensures turned { Turned result (player_of server.old clients.old) (said_in line.now) (player_of server.new clients.new) (W.contents writer.old) (W.contents writer.new) }
+    ensures turned { TurnsLine result server.old clients.old line.now server.new clients.new (W.contents writer.old) (W.contents writer.new) }
 {
     out.clear();
     match step_line(alloc, server, clients, out, line) {
@@ -132,6 +131,7 @@ fn set_line<'a>(alloc: Global, setup: &mut Setup<'a>, line: &'a [u8]) -> Result<
 }
 
 // Runs the lines before the first `open`: its number, and the script from it on, if there is one.
+#[tactic(auto, using(crate::proofs::Standing::leads_first))]
 fn set_up<'a>(
     alloc: Global,
     setup: &mut Setup<'a>,
@@ -181,7 +181,7 @@ pub(crate) fn play<T: Marked + Drop, W: Write>(
 ) -> Result<(), ReplayFault>
     requires { length script.now ≤ SCRIPT_LIMIT }
     ensures line { IsPlayed result }
-    ensures written { Written first_world script.now (W.contents writer.old) (W.contents writer.new) result }
+    ensures written { Written script.now (W.contents writer.old) (W.contents writer.new) result }
 {
     let mut setup = Setup::new(alloc);
     match set_up(alloc, &mut setup, script) {

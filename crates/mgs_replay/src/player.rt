@@ -8,8 +8,10 @@ ghost use Rattle.mgs_replay.specs.declared.client.Client.TheVariants as client_s
 ghost use Rattle.mgs_script.specs.Lines.{line_view, Open, Keys, Close, said_in, needs_memory};
 ghost use Rattle.mgs_replay.specs.Prints.{refusal_text};
 ghost use Rattle.mgs_replay.specs.Clients.{client_of, shown_text};
-ghost use Rattle.mgs_replay.specs.Players.{label as called, Has, playing, standing_of, had_session, TypesOne, Types, Closes, IsDue};
-ghost use Rattle.mgs_replay.specs.Served.{labels_in, session_in, player_of, clients_keyed, IsReady, IsWaiting, NotBad, Prints, Runs, RunsSaid, short_or};
+ghost use Rattle.mgs_replay.specs.Players.{label as called, Has, playing, standing_of, had_session};
+ghost use Rattle.mgs_replay.specs.Replayed.{closed};
+ghost use Rattle.mgs_replay.specs.Turns.{TypesOne, Types, IsDue};
+ghost use Rattle.mgs_replay.specs.Served.{labels_in, session_in, player_of, clients_keyed, IsReady, IsWaiting, NotBad, Prints, Runs, RunsOn, RunsSaid, TypesLabel, short_or};
 
 use crate::calls::{Server, byte, close, open, tell_all};
 use crate::client::{Cause, Client};
@@ -127,7 +129,7 @@ fn open_line<T: Marked + Drop>(
 ) -> Result<(), LineFault>
     requires { IsReady server.old clients.old }
     ensures ready { OnOk result (IsReady server.new clients.new) }
-    ensures runs { Runs result (player_of server.old clients.old) (Open label user.now rows cols) (player_of server.new clients.new) out.old.items out.new.items }
+    ensures runs { RunsOn result server.old clients.old (Open label user.now rows cols) server.new clients.new out.old.items out.new.items }
 {
     if clients.client(&label).is_some() {
         return Err(LineFault::Bad);
@@ -184,7 +186,7 @@ fn type_one<T: Marked + Drop>(
 ) -> Result<(), Short>
     requires { IsReady server.old clients.old }
     ensures ready { OnOk result (IsReady server.new clients.new) }
-    ensures types { OnOk result (TypesOne (session_in label.now clients.old) (player_of server.old clients.old) label.now key (player_of server.new clients.new)) }
+    ensures types { OnOk result (TypesLabel server.old clients.old label.now key server.new clients.new) }
 {
     match session_of(clients, label) {
         Some(id) => type_key(alloc, server, clients, label, id, key),
@@ -192,6 +194,7 @@ fn type_one<T: Marked + Drop>(
     }
 }
 
+#[tactic(auto, using(crate::proofs::Players::types_none))]
 fn type_all<T: Marked + Drop>(
     alloc: Global,
     server: &mut Server<T>,
@@ -232,7 +235,7 @@ fn close_session<T: Marked + Drop>(
     requires ready { IsReady server.old clients.old }
     requires session { session_in label.now clients.old ≡ Some id }
     ensures ready { OnOk result (IsReady server.new clients.new) }
-    ensures closes { OnOk result (Closes (Some id) (player_of server.old clients.old) label.now (player_of server.new clients.new)) }
+    ensures closes { OnOk result (player_of server.new clients.new ≡ closed (Some id) (player_of server.old clients.old) label.now) }
 {
     match close(alloc, server, id) {
         Ok(()) => {
@@ -252,7 +255,7 @@ fn close_label<T: Marked + Drop>(
 ) -> Result<(), Short>
     requires { IsReady server.old clients.old }
     ensures ready { OnOk result (IsReady server.new clients.new) }
-    ensures closes { OnOk result (Closes (session_in label.now clients.old) (player_of server.old clients.old) label.now (player_of server.new clients.new)) }
+    ensures closes { OnOk result (player_of server.new clients.new ≡ closed (session_in label.now clients.old) (player_of server.old clients.old) label.now) }
 {
     match session_of(clients, label) {
         Some(id) => close_session(alloc, server, clients, label, id),
@@ -260,6 +263,7 @@ fn close_label<T: Marked + Drop>(
     }
 }
 
+#[tactic(auto, using(crate::proofs::Players::types_run))]
 fn keys_line<T: Marked + Drop>(
     alloc: Global,
     server: &mut Server<T>,
@@ -277,6 +281,7 @@ fn keys_line<T: Marked + Drop>(
     played(type_all(alloc, server, clients, label, keys))
 }
 
+#[tactic(auto, using(crate::proofs::Players::closes_run))]
 fn close_line<T: Marked + Drop>(
     alloc: Global,
     server: &mut Server<T>,
@@ -294,6 +299,7 @@ fn close_line<T: Marked + Drop>(
 }
 
 // A line from the first `open` on. What it prints is put after `out`.
+#[tactic(auto, using(crate::proofs::Players::nothing_run))]
 fn run_line<T: Marked + Drop>(
     alloc: Global,
     server: &mut Server<T>,

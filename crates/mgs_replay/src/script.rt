@@ -1,8 +1,7 @@
 // Reads a script, and replays it.
 ghost use Rattle.std.specs.Prelude.{◌≡◌, ◌+◌, ◌≤◌, length, IfOk, IfSome};
 ghost use Rattle.mgs_replay.specs.Faults.{IsCounted};
-ghost use Rattle.mgs_replay.specs.Settings.{first_world};
-ghost use Rattle.mgs_replay.specs.Plays.{WrittenOrUnread};
+ghost use Rattle.mgs_replay.specs.Replayed.{WrittenOrUnread};
 ghost use Rattle.mgs_replay.specs.Reads.{PieceRead, TakesAtMost, LeavesUnread, KeepsLimit};
 
 use crate::lines::play;
@@ -80,7 +79,7 @@ pub fn replay<R: Read, W: Write>(
     reader: &mut R,
     writer: &mut W,
 ) -> Result<(), ReplayFault>
-    ensures written { IfSome (R.remaining reader.old) (λ script. WrittenOrUnread first_world script (W.contents writer.old) (W.contents writer.new) result) }
+    ensures written { IfSome (R.remaining reader.old) (λ script. WrittenOrUnread script (W.contents writer.old) (W.contents writer.new) result) }
     ensures line { IsCounted result }
     ensures unread { LeavesUnread result (W.contents writer.old) (W.contents writer.new) }
     ensures limit { KeepsLimit (R.remaining reader.old) result (W.contents writer.old) (W.contents writer.new) }
@@ -96,7 +95,7 @@ pub fn replay_over<T: Marked + Drop, R: Read, W: Write>(
     reader: &mut R,
     writer: &mut W,
 ) -> Result<(), ReplayFault>
-    ensures written { IfSome (R.remaining reader.old) (λ script. WrittenOrUnread first_world script (W.contents writer.old) (W.contents writer.new) result) }
+    ensures written { IfSome (R.remaining reader.old) (λ script. WrittenOrUnread script (W.contents writer.old) (W.contents writer.new) result) }
     ensures line { IsCounted result }
     ensures unread { LeavesUnread result (W.contents writer.old) (W.contents writer.new) }
     ensures limit { KeepsLimit (R.remaining reader.old) result (W.contents writer.old) (W.contents writer.new) }

@@ -6,13 +6,13 @@ use Rattle.mgs_keys.specs.Words.{◌>>=◌, word_of, words_after, words_of}
 use Rattle.mgs_keys.specs.Tokens.{keys_of}
 use Rattle.mgs_script.specs.Words.{name_of, any_word_of, text_of, size_said}
 use Rattle.mgs_script.specs.Lines.{Said, Group, Buffer, OwnGroup, Entry, Text, Open, Keys, Show, Close, group_said, buffer_said, owngroup_said, entry_said, text_said, open_said, keys_said, kind_named, said_as, said_by_kind, label_typed, label_after}
-use Rattle.mgs_script.specs.declared.kind.Kind.{Kind}
-use Rattle.mgs_script.specs.declared.kind.Kind.TheVariants as kinds
+use Rattle.mgs_script.specs.declared.kind.LineKind.{LineKind}
+use Rattle.mgs_script.specs.declared.kind.LineKind.TheVariants as kinds
 
 abbrev Labels : Option (List ℕ) → Option Said → Type 0
 Labels label said = IfSome said (λ s. label ≡ label_typed s)
 
-pub kind_labels : (k : Kind) (t : List ℕ) → Labels (label_after k t) (said_as k t)
+pub kind_labels : (k : LineKind) (t : List ℕ) → Labels (label_after k t) (said_as k t)
 unfolding group_said buffer_said owngroup_said entry_said text_said open_said keys_said
 kind_labels kinds.User t = refl
 kind_labels kinds.Group t = by (words_after t)
@@ -86,8 +86,8 @@ kind_labels kinds.Close t = by (name_of t)
     by None = tt
     by (Some x) = refl
 
-pub label_said : (t rest : List ℕ) (k : Kind) → Some k ≡ kind_named (word_of t) → Some rest ≡ words_after t → IfSome (said_by_kind t) (λ said. label_after k rest ≡ label_typed said)
+pub label_said : (t rest : List ℕ) (k : LineKind) → Some k ≡ kind_named (word_of t) → Some rest ≡ words_after t → IfSome (said_by_kind t) (λ said. label_after k rest ≡ label_typed said)
 unfolding said_by_kind
 label_said t rest k kind after =
-    subst (λ (o : Option Kind). Labels (label_after k rest) (o >>= λ x. words_after t >>= λ r. said_as x r)) kind
+    subst (λ (o : Option LineKind). Labels (label_after k rest) (o >>= λ x. words_after t >>= λ r. said_as x r)) kind
     (subst (λ (o : Option (List ℕ)). Labels (label_after k rest) (o >>= λ r. said_as k r)) after (kind_labels k rest))

@@ -9,8 +9,8 @@ use Rattle.mgs_script.specs.declared.line.Line.{Line}
 use Rattle.mgs_script.specs.declared.line.Line.TheVariants as code
 use Rattle.mgs_script.specs.declared.line.LineFault.{LineFault}
 use Rattle.mgs_script.specs.declared.line.LineFault.TheVariants.{Bad, Short}
-use Rattle.mgs_script.specs.declared.kind.Kind.{Kind}
-use Rattle.mgs_script.specs.declared.kind.Kind.TheVariants as kinds
+use Rattle.mgs_script.specs.declared.kind.LineKind.{LineKind}
+use Rattle.mgs_script.specs.declared.kind.LineKind.TheVariants as kinds
 
 -- what a line says
 pub data Said : Type 0 where
@@ -27,7 +27,7 @@ pub data Said : Type 0 where
   Close : (label : List ℕ) → Said
 
 -- the first word of a line
-abbrev pub kind_named : List ℕ → Option Kind
+abbrev pub kind_named : List ℕ → Option LineKind
 kind_named w =
     if bytes_eq w (codes "user") then Some kinds.User
     else if bytes_eq w (codes "group") then Some kinds.Group
@@ -90,7 +90,7 @@ keys_said t = do
   Some (Keys label keys)
 
 -- what stands after the first word, by what the word says; the form of a new user's name is checked where the user is added
-abbrev pub said_as : Kind → List ℕ → Option Said
+abbrev pub said_as : LineKind → List ℕ → Option Said
 said_as kinds.User t = Some (User t)
 said_as kinds.Group t = group_said t
 said_as kinds.Buffer t = buffer_said t
@@ -167,6 +167,6 @@ label_typed (Show label) = None
 label_typed (Close label) = None
 
 -- the label that stands after the first word, where that begins a line of keys
-abbrev pub label_after : Kind → List ℕ → Option (List ℕ)
+abbrev pub label_after : LineKind → List ℕ → Option (List ℕ)
 label_after kinds.Keys t = name_of (word_of t)
 label_after _ t = None

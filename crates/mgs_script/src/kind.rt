@@ -4,7 +4,7 @@ ghost use Rattle.mgs_script.specs.Lines.{kind_named};
 
 // The first word of a script's line.
 #[derive(Clone, Copy)]
-pub(crate) enum Kind {
+pub(crate) enum LineKind {
     User,
     Group,
     Buffer,
@@ -18,29 +18,29 @@ pub(crate) enum Kind {
 }
 
 // The kind of line that a word begins.
-pub(crate) fn kind_of(word: &str) -> Option<Kind>
+pub(crate) fn kind_of(word: &str) -> Option<LineKind>
     ensures { result ≡ kind_named word.now }
 {
     if word == "user" {
-        Some(Kind::User)
+        Some(LineKind::User)
     } else if word == "group" {
-        Some(Kind::Group)
+        Some(LineKind::Group)
     } else if word == "buffer" {
-        Some(Kind::Buffer)
+        Some(LineKind::Buffer)
     } else if word == "owngroup" {
-        Some(Kind::OwnGroup)
+        Some(LineKind::OwnGroup)
     } else if word == "entry" {
-        Some(Kind::Entry)
+        Some(LineKind::Entry)
     } else if word == "text" {
-        Some(Kind::Text)
+        Some(LineKind::Text)
     } else if word == "open" {
-        Some(Kind::Open)
+        Some(LineKind::Open)
     } else if word == "keys" {
-        Some(Kind::Keys)
+        Some(LineKind::Keys)
     } else if word == "show" {
-        Some(Kind::Show)
+        Some(LineKind::Show)
     } else if word == "close" {
-        Some(Kind::Close)
+        Some(LineKind::Close)
     } else {
         None
     }

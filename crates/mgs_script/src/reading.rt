@@ -3,7 +3,7 @@ ghost use Rattle.std.specs.Prelude.{◌≡◌, Some, IfSome};
 ghost use Rattle.std.specs.Option.{option_map};
 ghost use Rattle.mgs_script.specs.Lines.{line_view, group_said, buffer_said, owngroup_said, entry_said, text_said, open_said, keys_said, said_by_kind, said_in, is_passed_over, GivesLine, label_typed, label_after};
 
-use crate::kind::{Kind, kind_of};
+use crate::kind::{LineKind, kind_of};
 use crate::line::{Line, LineFault};
 use crate::text::read_text;
 use crate::word::{any_word, cut_text, name_in, size, words};
@@ -111,18 +111,18 @@ fn line_by_kind(alloc: Global, text: &str) -> Result<Line<'_>, LineFault>
         return Err(LineFault::Bad);
     };
     match kind {
-        Kind::User => Ok(Line::User { name: rest }),
-        Kind::Group => group_line(alloc, rest),
-        Kind::Buffer => buffer_line(rest).ok_or(LineFault::Bad),
-        Kind::OwnGroup => owngroup_line(rest).ok_or(LineFault::Bad),
-        Kind::Entry => entry_line(rest).ok_or(LineFault::Bad),
-        Kind::Text => text_line(alloc, rest),
-        Kind::Open => open_line(rest).ok_or(LineFault::Bad),
-        Kind::Keys => keys_line(alloc, rest),
-        Kind::Show => name_in(rest)
+        LineKind::User => Ok(Line::User { name: rest }),
+        LineKind::Group => group_line(alloc, rest),
+        LineKind::Buffer => buffer_line(rest).ok_or(LineFault::Bad),
+        LineKind::OwnGroup => owngroup_line(rest).ok_or(LineFault::Bad),
+        LineKind::Entry => entry_line(rest).ok_or(LineFault::Bad),
+        LineKind::Text => text_line(alloc, rest),
+        LineKind::Open => open_line(rest).ok_or(LineFault::Bad),
+        LineKind::Keys => keys_line(alloc, rest),
+        LineKind::Show => name_in(rest)
             .map(|label| Line::Show { label })
             .ok_or(LineFault::Bad),
-        Kind::Close => name_in(rest)
+        LineKind::Close => name_in(rest)
             .map(|label| Line::Close { label })
             .ok_or(LineFault::Bad),
     }
@@ -154,11 +154,11 @@ pub fn read_line(alloc: Global, line: &[u8]) -> Result<Line<'_>, LineFault>
 }
 
 // The label that stands after the first word, where that begins a line of keys.
-fn label_after(kind: Kind, rest: &str) -> Option<Name>
+fn label_after(kind: LineKind, rest: &str) -> Option<Name>
     ensures { result ≡ label_after kind rest.now }
 {
     match kind {
-        Kind::Keys => name_in(cut_text(rest).0),
+        LineKind::Keys => name_in(cut_text(rest).0),
         _ => None,
     }
 }

@@ -12,7 +12,7 @@ use Rattle.mgs_wire.specs.Connections.{Connection, Logging_in, Serving, Refused,
 use Rattle.mgs_wire.specs.Pumps.{PumpsIn, Finishes, Leaves, WritesFirst}
 use Rattle.mgs_server.specs.declared.peer.Peer.{Peer}
 use Rattle.mgs_server.specs.Calls.{Calls}
-use Rattle.mgs_server.specs.Peers.{Desk, desk, peers_of, under, IsChanged, AreTaken, Taken, Step, Reads, Writes as Writing, Stops, GivesUp, Expires, Move, Comes, Serves, Goes, IsStep, AreSteps, Stepped, IsMove, AreMoves, Moved, IsOverAt, IsUnread, is_closing, is_taking}
+use Rattle.mgs_server.specs.Peers.{ServerState, server_state, peers_of, under, IsChanged, AreTaken, Taken, Step, Reads, Writes as Writing, Stops, GivesUp, Expires, Move, Comes, Serves, Goes, IsStep, AreSteps, Stepped, IsMove, AreMoves, Moved, IsOverAt, IsUnread, is_closing, is_taking}
 use Rattle.mgs_server.proofs.Calling.{calls_breaks, calls_pumped, calls_then, calls_written, none_made}
 
 -- SLABS
@@ -153,37 +153,37 @@ module _ {E : Type 0} (does : E → Call → E → Type 0) (live : ℕ → E →
 
   -- ALL
 
-  abbrev Moves : Desk E → Desk E → Type 0
+  abbrev Moves : ServerState E → ServerState E → Type 0
   Moves old new = Moved does live pending tickets old new
 
-  pub none_moved : (old new : Desk E) → new ≡ old → Moves old new
+  pub none_moved : (old new : ServerState E) → new ≡ old → Moves old new
   none_moved old new e = record { moves = []; made = e }
 
-  one_moved : (old new : Desk E) (m : Move) → IsMove does live pending tickets old m new → Moves old new
+  one_moved : (old new : ServerState E) (m : Move) → IsMove does live pending tickets old m new → Moves old new
   one_moved old new m p = record { moves = m ∷ []; made = (new, p, refl) }
 
-  moves_next : (old mid new : Desk E) (xs ys : List Move) → AreMoves does live pending tickets old xs mid → AreMoves does live pending tickets mid ys new → AreMoves does live pending tickets old (xs ++ ys) new
+  moves_next : (old mid new : ServerState E) (xs ys : List Move) → AreMoves does live pending tickets old xs mid → AreMoves does live pending tickets mid ys new → AreMoves does live pending tickets old (xs ++ ys) new
   moves_next old mid new [] ys p q = subst (λ d. AreMoves does live pending tickets d ys new) p q
   moves_next old mid new (x ∷ xs) ys p q = (p.0, p.1, moves_next p.0 mid new xs ys p.2 q)
 
-  pub moved_then : (old mid new : Desk E) → Moves old mid → Moves mid new → Moves old new
+  pub moved_then : (old mid new : ServerState E) → Moves old mid → Moves mid new → Moves old new
   moved_then old mid new p q = record { moves = p.moves ++ q.moves; made = moves_next old mid new p.moves q.moves p.made q.made }
 
   -- one connection was read and written
-  pub served_moved : (key : ℕ) (conn next : Connection) (old new : E) (before now : ℕ → Option Connection) → before key ≡ Some conn → IsChanged key (Some next) before now → Steps conn old next new → Moves (desk old before) (desk new now)
-  served_moved key conn next old new before now found c p = one_moved (desk old before) (desk new now) (Serves key p.steps) (conn, next, found, c, p.made)
+  pub served_moved : (key : ℕ) (conn next : Connection) (old new : E) (before now : ℕ → Option Connection) → before key ≡ Some conn → IsChanged key (Some next) before now → Steps conn old next new → Moves (server_state old before) (server_state new now)
+  served_moved key conn next old new before now found c p = one_moved (server_state old before) (server_state new now) (Serves key p.steps) (conn, next, found, c, p.made)
 
   -- one was closed
-  pub gone_moved : (key : ℕ) (s : E) (before now : ℕ → Option Connection) → IsOverAt key before → IsChanged key None before now → Moves (desk s before) (desk s now)
-  gone_moved key s before now over c = one_moved (desk s before) (desk s now) (Goes key) (over, c, refl)
+  pub gone_moved : (key : ℕ) (s : E) (before now : ℕ → Option Connection) → IsOverAt key before → IsChanged key None before now → Moves (server_state s before) (server_state s now)
+  gone_moved key s before now over c = one_moved (server_state s before) (server_state s now) (Goes key) (over, c, refl)
 
-  taken_keys : (s : E) (keys : List ℕ) (before now : ℕ → Option Connection) → AreTaken before keys now → Moves (desk s before) (desk s now)
-  taken_keys s [] before now p = none_moved (desk s before) (desk s now) (ap (desk s) p)
+  taken_keys : (s : E) (keys : List ℕ) (before now : ℕ → Option Connection) → AreTaken before keys now → Moves (server_state s before) (server_state s now)
+  taken_keys s [] before now p = none_moved (server_state s before) (server_state s now) (ap (server_state s) p)
   taken_keys s (key ∷ keys) before now p =
-      moved_then (desk s before) (desk s p.0) (desk s now) (one_moved (desk s before) (desk s p.0) (Comes key) (p.1, p.2, refl)) (taken_keys s keys p.0 now p.3)
+      moved_then (server_state s before) (server_state s p.0) (server_state s now) (one_moved (server_state s before) (server_state s p.0) (Comes key) (p.1, p.2, refl)) (taken_keys s keys p.0 now p.3)
 
   -- some came
-  pub taken_moved : (s : E) (before now : ℕ → Option Connection) → Taken before now → Moves (desk s before) (desk s now)
+  pub taken_moved : (s : E) (before now : ℕ → Option Connection) → Taken before now → Moves (server_state s before) (server_state s now)
   taken_moved s before now p = taken_keys s p.keys before now p.taken
 
   -- CALLS: what is done with connections is nothing but calls to the server
@@ -199,14 +199,14 @@ module _ {E : Type 0} (does : E → Call → E → Type 0) (live : ℕ → E →
   calls_steps [] conn next old new p = none_made does old new p.1
   calls_steps (s ∷ ss) conn next old new p = calls_then does old p.1 new (calls_step s conn p.0 old p.1 p.2) (calls_steps ss p.0 next p.1 new p.3)
 
-  calls_move : (m : Move) (old new : Desk E) → IsMove does live pending tickets old m new → Calls does old.served new.served
+  calls_move : (m : Move) (old new : ServerState E) → IsMove does live pending tickets old m new → Calls does old.served new.served
   calls_move (Comes key) old new p = none_made does old.served new.served p.2
   calls_move (Serves key steps) old new p = calls_steps steps p.0 p.1 old.served new.served p.4
   calls_move (Goes key) old new p = none_made does old.served new.served p.2
 
-  calls_moves : (ms : List Move) (old new : Desk E) → AreMoves does live pending tickets old ms new → Calls does old.served new.served
-  calls_moves [] old new p = none_made does old.served new.served (ap (λ (d : Desk E). d.served) p)
+  calls_moves : (ms : List Move) (old new : ServerState E) → AreMoves does live pending tickets old ms new → Calls does old.served new.served
+  calls_moves [] old new p = none_made does old.served new.served (ap (λ (d : ServerState E). d.served) p)
   calls_moves (m ∷ ms) old new p = calls_then does old.served p.0.served new.served (calls_move m old p.0 p.1) (calls_moves ms p.0 new p.2)
 
-  pub moved_calls : (old new : Desk E) → Moves old new → Calls does old.served new.served
+  pub moved_calls : (old new : ServerState E) → Moves old new → Calls does old.served new.served
   moved_calls old new p = calls_moves p.moves old new p.made

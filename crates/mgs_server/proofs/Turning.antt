@@ -20,7 +20,7 @@ use Rattle.mgs_engine.proofs.RunLemmas.{run-append, saves_first, store_left}
 use Rattle.mgs_server.specs.declared.peer.Peer.{Peer}
 use Rattle.mgs_server.specs.Calls.{AreMade, Calls}
 use Rattle.mgs_server.specs.Listening.{Listening}
-use Rattle.mgs_server.specs.Peers.{Moved, desk, peers_of, slots_of, under}
+use Rattle.mgs_server.specs.Peers.{Moved, server_state, server_with, slots_of, under}
 use Rattle.mgs_server.specs.Turns.{Ran, Turns, answer_of, asked_by, live_in}
 use Rattle.mgs_server.proofs.Moving.{moved_calls, moved_then}
 
@@ -100,9 +100,9 @@ ran old new (c ∷ cs) h =
     }
 
 -- what the sockets did, and then each that ended was told
-pub turned : (old new : Listening) (served : Serving) → Moved Does live_in pending_of old.tickets (desk old.serving (under old.peers)) (desk served (under new.peers)) → new.serving ≡ record served { ended = [] } → new.tickets ≡ old.tickets → new.port ≡ old.port → Turns old new
+pub turned : (old new : Listening) (served : Serving) → Moved Does live_in pending_of old.tickets (server_state old.serving (under old.peers)) (server_state served (under new.peers)) → new.serving ≡ record served { ended = [] } → new.tickets ≡ old.tickets → new.port ≡ old.port → Turns old new
 turned old new served moved told tickets port =
-    let c : Calls Does old.serving served = moved_calls Does live_in pending_of old.tickets (desk old.serving (under old.peers)) (desk served (under new.peers)) moved in
+    let c : Calls Does old.serving served = moved_calls Does live_in pending_of old.tickets (server_state old.serving (under old.peers)) (server_state served (under new.peers)) moved in
     let r : Ran old.serving c.calls served served = ran old.serving served c.calls c.made in
     record {
       served = served;
@@ -122,15 +122,15 @@ turned old new served moved told tickets port =
 
 -- the same of a slab of connections, and of the view of a server: those that are ready were served, and those that came too late closed
 pub turned_in : {S : Type 0} (serving between served told : Serving) (peers before mid now : Slab (Peer S)) (tickets : List (List ℕ × List ℕ)) (port : ℕ) (old : Listening) → before ≡ peers
-    → Moved Does live_in pending_of tickets (desk serving (peers_of before)) (desk between (peers_of mid)) → Moved Does live_in pending_of tickets (desk between (peers_of mid)) (desk served (peers_of now))
+    → Moved Does live_in pending_of tickets (server_with serving before) (server_with between mid) → Moved Does live_in pending_of tickets (server_with between mid) (server_with served now)
     → told ≡ record served { ended = [] } → record { serving = serving; peers = slots_of peers; tickets = tickets; port = port } ≡ old → Turns old (record { serving = told; peers = slots_of now; tickets = tickets; port = port })
 turned_in {S} serving between served told peers before mid now tickets port old waited ready late heard seen =
     let first : Listening = record { serving = serving; peers = slots_of peers; tickets = tickets; port = port } in
     let last : Listening = record { serving = told; peers = slots_of now; tickets = tickets; port = port } in
-    let moved : Moved Does live_in pending_of tickets (desk serving (peers_of before)) (desk served (peers_of now)) =
-    moved_then Does live_in pending_of tickets (desk serving (peers_of before)) (desk between (peers_of mid)) (desk served (peers_of now)) ready late in
+    let moved : Moved Does live_in pending_of tickets (server_with serving before) (server_with served now) =
+    moved_then Does live_in pending_of tickets (server_with serving before) (server_with between mid) (server_with served now) ready late in
     subst (λ (l : Listening). Turns l last) seen
-    (turned first last served (subst (λ (slab : Slab (Peer S)). Moved Does live_in pending_of tickets (desk serving (peers_of slab)) (desk served (peers_of now))) waited moved) heard refl refl)
+    (turned first last served (subst (λ (slab : Slab (Peer S)). Moved Does live_in pending_of tickets (server_with serving slab) (server_with served now)) waited moved) heard refl refl)
 
 -- TELLING: there is one less to be told, until none is left
 

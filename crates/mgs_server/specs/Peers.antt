@@ -5,17 +5,17 @@ use Rattle.mgs_wire.specs.declared.pump.PumpedIn.{PumpedIn}
 use Rattle.mgs_wire.specs.declared.pump.PumpedIn.TheVariants.{Took, Idle, Finished, Failed}
 use Rattle.mgs_wire.specs.declared.pump.PumpedOut.{PumpedOut}
 use Rattle.mgs_wire.specs.Calls.{Call}
-use Rattle.mgs_wire.specs.Connections.{Connection, Logging_in, Serving, Refused, Over, Breaks, is_logging_in, is_over, is_reading, stopped, waiting}
-use Rattle.mgs_wire.specs.Pumps.{PumpsIn, Finishes, WritesFirst}
+use Rattle.mgs_wire.specs.Connections.{Connection, Logging_in, Serving, Refused, Over, Breaks, is_logging_in, is_over, is_reading, stopped}
+use Rattle.mgs_wire.specs.Pumps.{PumpsIn, PumpsOut, Finishes}
 use Rattle.mgs_server.specs.declared.peer.Peer.{Peer}
 
 -- what is served, and the connection under each key, where there is one
-pub record Desk (E : Type 0) : Type 0 where
+pub record ServerState (E : Type 0) : Type 0 where
   pub served : E
   pub peers : ℕ → Option Connection
 
-abbrev pub desk : {E : Type 0} → E → (ℕ → Option Connection) → Desk E
-desk s peers = record { served = s; peers = peers }
+abbrev pub server_state : {E : Type 0} → E → (ℕ → Option Connection) → ServerState E
+server_state s peers = record { served = s; peers = peers }
 
 -- the connection under a key of these
 abbrev pub under : List (Option Connection) → ℕ → Option Connection
@@ -26,6 +26,9 @@ slots_of slab = map (option_map (λ p. p.conn)) slab.slots
 
 abbrev pub peers_of : {S : Type 0} → Slab (Peer S) → ℕ → Option Connection
 peers_of slab = under (slots_of slab)
+
+abbrev pub server_with : {E S : Type 0} → E → Slab (Peer S) → ServerState E
+server_with s slab = server_state s (peers_of slab)
 
 -- one key has something else now
 pub record IsChanged (key : ℕ) (slot : Option Connection) (old new : ℕ → Option Connection) : Type 0 where
@@ -55,6 +58,10 @@ is_taking Failed = false
 -- one that goes on is as it was, and so is what is served
 abbrev pub IsUnread : {E : Type 0} → Connection → E → Connection → E → Type 0
 IsUnread conn old next new = is_closing next ≡ false → (next ≡ conn) × (new ≡ old)
+
+-- a connection is read from its own stream
+abbrev pub ReadsPeer : {E S : Type 0} → (E → Call → E → Type 0) → (ℕ → E → Bool) → (S → Option (List ℕ)) → List (List ℕ × List ℕ) → PumpedIn → Peer S → E → Peer S → E → Type 0
+ReadsPeer does live remaining tickets answer peer old next new = PumpsIn does live tickets answer (remaining peer.stream) (remaining next.stream) peer.conn old next.conn new
 
 -- NEW ONES, of which nothing was read, each under a key that had none
 abbrev pub AreTaken : (ℕ → Option Connection) → List ℕ → (ℕ → Option Connection) → Type 0
@@ -91,7 +98,7 @@ module _ {E : Type 0} (does : E → Call → E → Type 0) (live : ℕ → E →
   -- what is read is from whatever its stream has, and what is written to whatever its stream holds
   abbrev pub IsStep : Connection → E → Step → Connection → E → Type 0
   IsStep conn old (Reads answer) next new = (left rest : Option (List ℕ)) × PumpsIn does live tickets answer left rest conn old next new × Finishes live answer conn old next new
-  IsStep conn old (Writes answer) next new = (held holds : Option (List ℕ)) × WritesFirst does answer (waiting pending conn old) held holds conn old next new
+  IsStep conn old (Writes answer) next new = (held holds : Option (List ℕ)) × PumpsOut does pending answer held holds conn old next new
   IsStep conn old Stops next new = (is_reading live conn old ≡ false) × (next ≡ stopped conn) × (new ≡ old)
   IsStep conn old GivesUp next new = Breaks does conn old next new
   IsStep conn old Expires next new = (is_logging_in conn ≡ true) × (next ≡ Over None) × (new ≡ old)
@@ -105,21 +112,21 @@ module _ {E : Type 0} (does : E → Call → E → Type 0) (live : ℕ → E →
     pub steps : List Step
     pub made : AreSteps conn old steps next new
 
-  abbrev pub IsMove : Desk E → Move → Desk E → Type 0
+  abbrev pub IsMove : ServerState E → Move → ServerState E → Type 0
   IsMove old (Comes key) new = (old.peers key ≡ None) × IsChanged key (Some (Logging_in [])) old.peers new.peers × (new.served ≡ old.served)
   IsMove old (Serves key steps) new =
       (conn next : Connection) × (old.peers key ≡ Some conn) × IsChanged key (Some next) old.peers new.peers × AreSteps conn old.served steps next new.served
   IsMove old (Goes key) new = IsOverAt key old.peers × IsChanged key None old.peers new.peers × (new.served ≡ old.served)
 
-  abbrev pub AreMoves : Desk E → List Move → Desk E → Type 0
+  abbrev pub AreMoves : ServerState E → List Move → ServerState E → Type 0
   AreMoves old [] new = new ≡ old
-  AreMoves old (m ∷ ms) new = (mid : Desk E) × IsMove old m mid × AreMoves mid ms new
+  AreMoves old (m ∷ ms) new = (mid : ServerState E) × IsMove old m mid × AreMoves mid ms new
 
   -- nothing but such moves leads from one to the other
-  pub record Moved (old new : Desk E) : Type 0 where
+  pub record Moved (old new : ServerState E) : Type 0 where
     pub moves : List Move
     pub made : AreMoves old moves new
 
 -- whatever the tickets are
-abbrev pub MovedByAny : {E : Type 0} → (E → Call → E → Type 0) → (ℕ → E → Bool) → (ℕ → E → List ℕ) → Desk E → Desk E → Type 0
+abbrev pub MovedByAny : {E : Type 0} → (E → Call → E → Type 0) → (ℕ → E → Bool) → (ℕ → E → List ℕ) → ServerState E → ServerState E → Type 0
 MovedByAny does live pending old new = (tickets : List (List ℕ × List ℕ)) → Moved does live pending tickets old new

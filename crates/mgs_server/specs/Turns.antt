@@ -11,7 +11,7 @@ use Rattle.mgs_engine.specs.Does.{Does}
 use Rattle.mgs_engine.specs.Serving.{Serving, pending_of}
 use Rattle.mgs_server.specs.Calls.{AreMade}
 use Rattle.mgs_server.specs.Listening.{Listening}
-use Rattle.mgs_server.specs.Peers.{Moved, desk, under}
+use Rattle.mgs_server.specs.Peers.{Moved, server_state, under}
 
 -- what was asked by a call, and what its answer was
 abbrev pub asked_by : Call → Asked
@@ -41,7 +41,7 @@ pub record Ran (old : Serving) (calls : List Call) (served new : Serving) : Type
 -- then each session that ended was told
 pub record Turns (old new : Listening) : Type 0 where
   pub served : Serving
-  pub moved : Moved Does live_in pending_of old.tickets (desk old.serving (under old.peers)) (desk served (under new.peers))
+  pub moved : Moved Does live_in pending_of old.tickets (server_state old.serving (under old.peers)) (server_state served (under new.peers))
   pub told : new.serving ≡ record served { ended = [] }
   pub calls : List Call
   pub made : AreMade Does old.serving calls served

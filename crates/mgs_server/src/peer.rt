@@ -1,9 +1,9 @@
 // Connections with their streams.
 ghost use Rattle.std.specs.Prelude.{◌≡◌, ◌<◌, ℕ, [], true, false, List, IfOk, IfSome};
 ghost use Rattle.mgs_wire.specs.Connections.{Breaks, Logging_in, is_over, is_reading};
-ghost use Rattle.mgs_wire.specs.Pumps.{PumpsIn, Finishes};
+ghost use Rattle.mgs_wire.specs.Pumps.{Finishes};
 ghost use Rattle.mgs_server.specs.declared.peer.TheConstants.{BYTES_AT_ONCE};
-ghost use Rattle.mgs_server.specs.Peers.{IsUnread, Stepped, is_closing, is_taking};
+ghost use Rattle.mgs_server.specs.Peers.{IsUnread, ReadsPeer, Stepped, is_closing, is_taking};
 
 use crate::accept::both_ways;
 use mgs_model::{SessionId, Short, Tickets};
@@ -52,7 +52,7 @@ impl<S: Read + Write + Drop> Peer<S> {
 
     /// Reads its stream once, at most `BYTES_AT_ONCE` bytes, and hands them on, as `pump_in` does.
     pub(crate) fn read<E: Sessions>(&mut self, engine: &mut E, tickets: &Tickets) -> PumpedIn
-        ensures read { PumpsIn E.does E.live tickets.now result (S.remaining self.old.stream) (S.remaining self.new.stream) self.old.conn engine.old self.new.conn engine.new }
+        ensures read { ReadsPeer E.does E.live S.remaining tickets.now result self.old engine.old self.new engine.new }
         ensures finished { Finishes E.live result self.old.conn engine.old self.new.conn engine.new }
         ensures steps { Stepped E.does E.live E.pending tickets.now self.old.conn engine.old self.new.conn engine.new }
         ensures unread { is_taking result ≡ false → IsUnread self.old.conn engine.old self.new.conn engine.new }

@@ -1,6 +1,6 @@
 // The sockets of a server.
 ghost use Rattle.std.specs.Prelude.{◌≡◌, ◌≢◌, [], true, IfOk, IsNone};
-ghost use Rattle.mgs_server.specs.Peers.{IsOverAt, IsUnread, Moved, MovedByAny, Stepped, Taken, desk, peers_of, slots_of};
+ghost use Rattle.mgs_server.specs.Peers.{IsOverAt, IsUnread, Moved, MovedByAny, Stepped, Taken, server_with, peers_of, slots_of};
 
 use crate::accept::accept_all;
 use crate::fault::{ListenFault, PollFailed};
@@ -128,7 +128,7 @@ fn read_peer<E: Sessions>(
 
 // Whether a connection is there that is done with, once what waits for its stream was written.
 fn is_done<E: Sessions>(engine: &mut E, peers: &mut Slab<Peer<TcpStream>>, key: usize) -> bool
-    ensures moved { MovedByAny E.does E.live E.pending (desk engine.old (peers_of peers.old)) (desk engine.new (peers_of peers.new)) }
+    ensures moved { MovedByAny E.does E.live E.pending (server_with engine.old peers.old) (server_with engine.new peers.new) }
     ensures over { result ≡ true → IsOverAt key (peers_of peers.new) }
 {
     match peers.get_mut(key) {
@@ -139,7 +139,7 @@ fn is_done<E: Sessions>(engine: &mut E, peers: &mut Slab<Peer<TcpStream>>, key: 
 
 // Writes what waits for a connection, and closes it where it is done with.
 fn write_one<E: Sessions>(engine: &mut E, peers: &mut Slab<Peer<TcpStream>>, key: usize)
-    ensures { MovedByAny E.does E.live E.pending (desk engine.old (peers_of peers.old)) (desk engine.new (peers_of peers.new)) }
+    ensures { MovedByAny E.does E.live E.pending (server_with engine.old peers.old) (server_with engine.new peers.new) }
 {
     if is_done(engine, peers, key) {
         let _ = peers.try_remove(key);
@@ -173,7 +173,7 @@ fn key_of(peers: &Slab<Peer<TcpStream>>, id: SessionId, from: usize) -> usize {
 // Writes what waits for the connections of sessions, and closes those that are done with. No more than 64 sessions are open, or ended and
 // not told.
 fn write_due<E: Sessions>(engine: &mut E, peers: &mut Slab<Peer<TcpStream>>)
-    ensures { MovedByAny E.does E.live E.pending (desk engine.old (peers_of peers.old)) (desk engine.new (peers_of peers.new)) }
+    ensures { MovedByAny E.does E.live E.pending (server_with engine.old peers.old) (server_with engine.new peers.new) }
 {
     let mut id = 0;
     let mut key = 0;
@@ -197,7 +197,7 @@ fn read_one<E: Sessions>(
     peers: &mut Slab<Peer<TcpStream>>,
     event: &Event,
 )
-    ensures { Moved E.does E.live E.pending tickets.now (desk engine.old (peers_of peers.old)) (desk engine.new (peers_of peers.new)) }
+    ensures { Moved E.does E.live E.pending tickets.now (server_with engine.old peers.old) (server_with engine.new peers.new) }
 {
     if let Some(peer) = peers.get_mut(event.token().0) {
         let _reported = read_peer(registry, engine, tickets, peer, event);
@@ -212,7 +212,7 @@ fn serve_one<E: Sessions>(
     peers: &mut Slab<Peer<TcpStream>>,
     event: &Event,
 )
-    ensures { Moved E.does E.live E.pending tickets.now (desk engine.old (peers_of peers.old)) (desk engine.new (peers_of peers.new)) }
+    ensures { Moved E.does E.live E.pending tickets.now (server_with engine.old peers.old) (server_with engine.new peers.new) }
 {
     read_one(registry, engine, tickets, peers, event);
     write_one(engine, peers, event.token().0);
@@ -227,7 +227,7 @@ fn serve_ready<E: Sessions>(
     peers: &mut Slab<Peer<TcpStream>>,
     events: &Events,
 )
-    ensures { Moved E.does E.live E.pending tickets.now (desk engine.old (peers_of peers.old)) (desk engine.new (peers_of peers.new)) }
+    ensures { Moved E.does E.live E.pending tickets.now (server_with engine.old peers.old) (server_with engine.new peers.new) }
 {
     for event in events {
         serve_one(registry, engine, tickets, peers, event);
@@ -241,7 +241,7 @@ fn is_expired<E: Sessions>(
     key: usize,
     now: Instant,
 ) -> bool
-    ensures moved { MovedByAny E.does E.live E.pending (desk engine.old (peers_of peers.old)) (desk engine.new (peers_of peers.new)) }
+    ensures moved { MovedByAny E.does E.live E.pending (server_with engine.old peers.old) (server_with engine.new peers.new) }
     ensures over { result ≡ true → IsOverAt key (peers_of peers.new) }
 {
     match peers.get_mut(key) {
@@ -257,7 +257,7 @@ fn expire_one<E: Sessions>(
     key: usize,
     now: Instant,
 )
-    ensures { MovedByAny E.does E.live E.pending (desk engine.old (peers_of peers.old)) (desk engine.new (peers_of peers.new)) }
+    ensures { MovedByAny E.does E.live E.pending (server_with engine.old peers.old) (server_with engine.new peers.new) }
 {
     if is_expired(engine, peers, key, now) {
         let _ = peers.try_remove(key);
@@ -274,7 +274,7 @@ fn is_logging_in(peers: &Slab<Peer<TcpStream>>, key: usize) -> bool {
 
 // Closes each connection whose login line has not ended in time. True: there are others whose line has not ended yet.
 fn expire_all<E: Sessions>(engine: &mut E, peers: &mut Slab<Peer<TcpStream>>, now: Instant) -> bool
-    ensures { MovedByAny E.does E.live E.pending (desk engine.old (peers_of peers.old)) (desk engine.new (peers_of peers.new)) }
+    ensures { MovedByAny E.does E.live E.pending (server_with engine.old peers.old) (server_with engine.new peers.new) }
 {
     let mut are_left = false;
     for key in 0..peers.capacity() {
@@ -328,7 +328,7 @@ impl Sockets {
 
     /// Takes the connections that wait, reads each that was reported once, and writes what waits for each.
     pub(crate) fn serve<E: Sessions>(&mut self, engine: &mut E, tickets: &Tickets)
-        ensures { Moved E.does E.live E.pending tickets.now (desk engine.old (peers_of self.old.peers)) (desk engine.new (peers_of self.new.peers)) }
+        ensures { Moved E.does E.live E.pending tickets.now (server_with engine.old self.old.peers) (server_with engine.new self.new.peers) }
     {
         let registry = self.poll.registry();
         let before = self.peers.len();
@@ -347,7 +347,7 @@ impl Sockets {
     /// Closes each connection whose login line has not ended 60 seconds after it came, by the clock. One that cannot be read closes
     /// none, and none is read where each login line has ended.
     pub(crate) fn expire<E: Sessions, C: Clock>(&mut self, engine: &mut E, clock: &C)
-        ensures { MovedByAny E.does E.live E.pending (desk engine.old (peers_of self.old.peers)) (desk engine.new (peers_of self.new.peers)) }
+        ensures { MovedByAny E.does E.live E.pending (server_with engine.old self.old.peers) (server_with engine.new self.new.peers) }
     {
         if !self.are_new {
             return;

@@ -285,9 +285,9 @@ fn is_denied(
 ) -> bool {
     let bob = named(rt, "bob");
     assert!(rt; all.has(name));
-    let is_listed = all.relist_as(directory, &bob, name, List::new()) != lacks(Right::WriteAcl);
+    let is_listed = all.set_list_as(directory, &bob, name, List::new()) != lacks(Right::WriteAcl);
     assert!(rt; all.has(name));
-    let is_owned = all.reown_as(directory, &bob, name, bob) != lacks(Right::WriteOwner);
+    let is_owned = all.set_owner_as(directory, &bob, name, bob) != lacks(Right::WriteOwner);
     assert!(rt; all.has(name));
     let is_grouped = all.set_group_as(directory, &bob, name, None) != lacks(Right::WriteOwner);
     assert!(rt; all.has(name));

@@ -1,9 +1,7 @@
 // Decisions that are kept.
-ghost use Rattle.std.specs.Prelude.{ℕ, List as Items, ◌≡◌, []};
-ghost use Rattle.mgs_model.specs.Access.{Directory as Users};
-ghost use Rattle.mgs_model.specs.declared.owners.Owners.{Owners as Owned};
-ghost use Rattle.mgs_model.specs.declared.entry.Entry.{Entry};
+ghost use Rattle.std.specs.Prelude.{◌≡◌, []};
 ghost use Rattle.mgs_cache.specs.Kept.{AreRight};
+ghost use Rattle.mgs_text_tests.specs.Judged.{StayRight};
 
 use crate::people::{entry_of, list_of, named, owned, staff};
 use mgs_acl::List;
@@ -47,7 +45,7 @@ fn ask(
 )
     requires { AreRight place directory.now owners.now list.now judge.old }
     ensures right { AreRight place directory.now owners.now list.now judge.new }
-    ensures others { (other : ℕ) (users : Users) (whose : Owned) (entries : Items Entry) → (place ≡ other → ⊥) → AreRight other users whose entries judge.old → AreRight other users whose entries judge.new }
+    ensures others { StayRight place judge.old judge.new }
 {
     for (user, bits, wanted) in requests {
         let (mask, group) = (Mask::from_bits(*bits), owners.group.as_ref());

@@ -11,7 +11,7 @@ use Rattle.mgs_wire.specs.declared.pump.PumpedIn.TheVariants.{Took, Idle, Finish
 use Rattle.mgs_wire.specs.declared.pump.PumpedOut.{PumpedOut}
 use Rattle.mgs_wire.specs.declared.pump.PumpedOut.TheVariants as out
 use Rattle.mgs_wire.specs.Calls.{Call}
-use Rattle.mgs_wire.specs.Connections.{Connection, is_reading, stopped, Receives, Ends, Breaks, Writes}
+use Rattle.mgs_wire.specs.Connections.{Connection, is_reading, stopped, waiting, Receives, Ends, Breaks, Writes}
 
 -- what a read comes to by the error that it gave: where the reader would block nothing has changed, and any other error is a failure
 pub record HearsOf {E : Type 0} (does : E → Call → E → Type 0) (kind : ErrorKind) (answer : PumpedIn) (conn : Connection) (old : E) (next : Connection) (new : E) : Type 0 where
@@ -64,3 +64,7 @@ pub record WritesFirst {E : Type 0} (does : E → Call → E → Type 0) (outcom
   pub counted : IsCount outcome count (length bytes)
   pub written : Appends held holds (take count bytes)
   pub leaves : Leaves does outcome count conn old next new
+
+-- so of the bytes that wait for a connection
+abbrev pub PumpsOut : {E : Type 0} → (E → Call → E → Type 0) → (ℕ → E → List ℕ) → PumpedOut → Option (List ℕ) → Option (List ℕ) → Connection → E → Connection → E → Type 0
+PumpsOut does pending result held holds conn old next new = WritesFirst does result (waiting pending conn old) held holds conn old next new

@@ -4,8 +4,8 @@ ghost use Rattle.mgs_wire.specs.declared.limits.TheConstants.{READ_LIMIT};
 ghost use Rattle.std.specs.Io.{ReadsAtMost};
 ghost use Rattle.std.specs.Io.KnownBytes.{Appends};
 ghost use Rattle.std.specs.IoError.{error_kind};
-ghost use Rattle.mgs_wire.specs.Connections.{is_reading, waiting};
-ghost use Rattle.mgs_wire.specs.Pumps.{PumpsIn, Finishes, Hears, IsCount, StopsBy, WritesFirst};
+ghost use Rattle.mgs_wire.specs.Connections.{is_reading};
+ghost use Rattle.mgs_wire.specs.Pumps.{PumpsIn, Finishes, Hears, IsCount, PumpsOut, StopsBy};
 
 use crate::conn::Conn;
 use crate::limits::READ_LIMIT;
@@ -146,7 +146,7 @@ fn write_some<W: Write>(writer: &mut W, bytes: &[u8]) -> (usize, PumpedOut)
 /// Answers: `Drained`: nothing waits any more; a refused connection is then over. `Blocked`: the writer would block. `Failed`: any
 /// other error of the writer, or it took 0 bytes; the session is closed, and the connection is over.
 pub fn pump_out<E: Sessions, W: Write>(conn: &mut Conn, engine: &mut E, writer: &mut W) -> PumpedOut
-    ensures { WritesFirst E.does result (waiting E.pending conn.old engine.old) (W.contents writer.old) (W.contents writer.new) conn.old engine.old conn.new engine.new }
+    ensures { PumpsOut E.does E.pending result (W.contents writer.old) (W.contents writer.new) conn.old engine.old conn.new engine.new }
 {
     let (count, outcome) = write_some(writer, conn.waiting(engine));
     conn.wrote(engine, count);

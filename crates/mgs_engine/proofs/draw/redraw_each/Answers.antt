@@ -4,7 +4,7 @@ use Rattle.mgs_engine.specs.declared.screen.Screen.{Screen}
 use Rattle.std.proofs.lemmas.List.Elements.{All-set}
 use Rattle.mgs_world.specs.Worlds.{sizes}
 use Rattle.mgs_core.specs.Kept.{Kept}
-use Rattle.mgs_core.specs.Steps.{differs_at}
+use Rattle.mgs_core.specs.Calls.{differs_at}
 use Rattle.mgs_engine.specs.Screens.{IsDrawn, IsKnown, IsReadyApart, IsRedrawn, IsSessionScreen, shown_size}
 use Rattle.mgs_engine.proofs.ScreenLemmas.{rest_at, rest_after, same_set}
 use Rattle.mgs_engine.proofs.Repaints.{redrawn_next, redrawn_all}

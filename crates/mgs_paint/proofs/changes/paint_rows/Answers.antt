@@ -8,9 +8,12 @@ use Rattle.mgs_paint.proofs.changes.paint_rows.Goals as goal
 pub returns-clause-repaints : goal.returns-clause-repaints
 returns-clause-repaints c =
     let old = c.args.old.now in
-    let new = c.args.new.now in
-    record {
-      bounded = grown c.args.out.now.items c.put_changes.new.out.items (bytes_of (changes old new)) _ c.put_changes.ensures.items (omega arith);
-      draws = (changes old new, refl, changes_lead old new c.rows-old_rows.ensures.picture c.rows-new_rows.ensures.picture (sym c.requires.rows) (sym c.requires.cols));
-      quiet = changes_same old new;
-    }
+    let new = c.args.new.now in (
+      bytes_of (changes old new),
+      c.put_changes.ensures.items,
+      record {
+        bounded = grown c.args.out.now.items c.put_changes.new.out.items (bytes_of (changes old new)) _ c.put_changes.ensures.items (omega arith);
+        draws = (changes old new, refl, changes_lead old new c.rows-old_rows.ensures.picture c.rows-new_rows.ensures.picture (sym c.requires.rows) (sym c.requires.cols));
+        quiet = changes_same old new;
+      },
+    )

@@ -1,5 +1,5 @@
-use Rattle.mgs_replay.proofs.Replaying.{is_replayed}
+use Rattle.mgs_replay.proofs.Replaying.{is_determined}
 use Rattle.mgs_replay.proofs.law.output_is_determined.Goals as goal
 
 pub returns : goal.returns
-returns c = is_replayed
+returns c = is_determined

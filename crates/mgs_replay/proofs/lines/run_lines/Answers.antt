@@ -1,9 +1,24 @@
-use Rattle.std.proofs.Common.{arith, []}
+use Rattle.std.proofs.Common.{List, arith, [], sym, subst}
 use Rattle.mgs_replay.specs.Players.{playing}
 use Rattle.mgs_script.specs.Scripts.{lines_of}
-use Rattle.mgs_replay.specs.Served.{player_of}
-use Rattle.mgs_replay.proofs.Standing.{lines_left, stands_next, stands_end, ends_on, left_cut, left_none, left_shorter}
+use Rattle.mgs_replay.specs.declared.client.Labelled.{Labelled}
+use Rattle.mgs_replay.specs.Served.{IsReady, player_of}
+use Rattle.mgs_replay.proofs.Events.{ready_first}
+use Rattle.mgs_replay.proofs.Standing.{Stands, lines_left, stands_first, stands_next, stands_end, ends_on, left_cut, left_none, left_shorter}
 use Rattle.mgs_replay.proofs.lines.run_lines.Goals as goal
+
+pub loop-rest-init : goal.loop-rest-init
+loop-rest-init g c =
+    let server = c.args.server.now in
+    let all = lines_of c.args.text.now in
+    let contents = g.W.Write.contents c.args.writer.now in
+    record {
+      ready = subst (λ (xs : List Labelled). IsReady server xs) (sym c.new-clients.ensures) (ready_first server c.requires.sessions c.requires.queues c.requires.ended);
+      stands = subst (λ (xs : List Labelled). Stands c.args.first (playing server.world []) all contents contents c.args.first (player_of server xs) all) (sym c.new-clients.ensures)
+          (stands_first c.args.first (playing server.world []) all contents);
+      first = c.requires.first;
+      counted = omega (arith, c.requires.counted);
+    }
 
 pub returns-in-Err-clause-written : goal.returns-in-Err-clause-written
 returns-in-Err-clause-written g c =

@@ -1,6 +1,7 @@
 use Rattle.std.proofs.Common.{[], Option, sym, subst}
 use Rattle.mgs_script.specs.Lines.{Said, line_view}
-use Rattle.mgs_replay.specs.Players.{LineDoes, setting}
+use Rattle.mgs_replay.specs.Players.{setting}
+use Rattle.mgs_replay.specs.Turns.{LineDoes}
 use Rattle.mgs_replay.proofs.Setting.{set_does}
 use Rattle.mgs_replay.proofs.lines.set_line.Goals as goal
 

@@ -1,5 +1,6 @@
 use Rattle.std.proofs.Common.{drop}
-use Rattle.mgs_replay.specs.Players.{Player, Types}
+use Rattle.mgs_replay.specs.Players.{Player}
+use Rattle.mgs_replay.specs.Turns.{Types}
 use Rattle.mgs_replay.specs.Served.{IsReady, player_of}
 use Rattle.mgs_replay.proofs.player.type_all.Given as goal
 

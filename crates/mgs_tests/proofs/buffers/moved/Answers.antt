@@ -1,4 +1,5 @@
-use Rattle.std.proofs.Common.{◌+◌, ◌≤◌, length, refl, sym, ap, subst, arith}
+use Rattle.std.proofs.Common.{◌+◌, ◌≤◌, length, sym, ap, subst, arith}
+use Rattle.mgs_model.proofs.Moved.{edited_name}
 use Rattle.mgs_buffers.specs.MarkedBuffer.{MarkedBuffer, HasBuffer, marked_edited}
 use Rattle.mgs_buffers.proofs.Changes.{marked_at-added, HasBuffer-added, IsMark-added, IsMark-edited, HasBuffer-changed}
 use Rattle.mgs_tests.proofs.buffers.moved.Goals as goal
@@ -18,7 +19,7 @@ edit_as-requires-clause-room g c =
 pub pos-now-requires-clause-kept : goal.pos-now-requires-clause-kept
 pos-now-requires-clause-kept g c =
     subst (HasBuffer c.args.name.now) (sym c.in-Ok.ensures.ok)
-    (HasBuffer-changed c.args.name.now (marked_edited 0 0 c.args.put.now) (λ k. refl) c.add_mark.new.self (HasBuffer-added _ _ _ _ _ c.requires.kept c.in_ok-id.ensures.ok))
+    (HasBuffer-changed c.args.name.now (marked_edited 0 0 c.args.put.now) (λ k. edited_name 0 0 c.args.put.now k.buffer) c.add_mark.new.self (HasBuffer-added _ _ _ _ _ c.requires.kept c.in_ok-id.ensures.ok))
 
 pub pos-now-requires-clause-mark : goal.pos-now-requires-clause-mark
 pos-now-requires-clause-mark g c =
@@ -28,7 +29,7 @@ pos-now-requires-clause-mark g c =
 pub drop_mark-requires-clause-kept : goal.drop_mark-requires-clause-kept
 drop_mark-requires-clause-kept g c =
     subst (HasBuffer c.args.name.now) (sym c.in-Ok.ensures.ok)
-    (HasBuffer-changed c.args.name.now (marked_edited 0 0 c.args.put.now) (λ k. refl) c.add_mark.new.self (HasBuffer-added _ _ _ _ _ c.requires.kept c.in_ok-id.ensures.ok))
+    (HasBuffer-changed c.args.name.now (marked_edited 0 0 c.args.put.now) (λ k. edited_name 0 0 c.args.put.now k.buffer) c.add_mark.new.self (HasBuffer-added _ _ _ _ _ c.requires.kept c.in_ok-id.ensures.ok))
 
 pub drop_mark-requires-clause-mark : goal.drop_mark-requires-clause-mark
 drop_mark-requires-clause-mark g c =
