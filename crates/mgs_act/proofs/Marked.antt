@@ -7,7 +7,7 @@ use Rattle.std.proofs.lemmas.Option.{get_or_from_slice_get}
 use Rattle.mgs_model.specs.Access.{Directory, decision}
 use Rattle.mgs_model.specs.World.{Buffer, Item, has_id}
 use Rattle.mgs_model.specs.World as model
-use Rattle.mgs_model.specs.Outcome.{Effect, No_effect, Keep, Keep_mark, Mark_at}
+use Rattle.mgs_model.specs.Outcome.{Effect, No_effect, Keep_position, Keep_mark, Mark_at}
 use Rattle.mgs_laws.specs.Refusals.{effect_takes_memory, takes_memory}
 use Rattle.mgs_model.specs.Plans as plans
 use Rattle.mgs_model.specs.Acts.{edit_of, fails, finished, is_too_large}
@@ -92,20 +92,20 @@ mark_ends : (p : ℕ) (f : plans.Finish) (e : Effect) (state : model.State) (x :
 mark_ends p f e state x =
     let whole = session_arranged (ended (record f { mark = Mark_at p }) e state) x in
     ap (λ (ws : List model.Window). record whole { windows = ws })
-    (at_twice (window_adjusted x.search f.point Keep_mark f.top None) (window_adjusted None Keep (Mark_at p) Keep None) x.selected x.windows)
+    (at_twice (window_adjusted x.search f.point Keep_mark f.top None) (window_adjusted None Keep_position (Mark_at p) Keep_position None) x.selected x.windows)
 
 -- THE SESSIONS
 
 marked_there : (ks ls : List MarkedBuffer) (xs : List Session) (id at mid p : ℕ) (h : Session) (x : WindowMarks) (c : plans.Change) (behind : ℕ) (text : List ℕ) (f : Finish) → IsSound ks xs → HasBuffer x.name ks → IsReserved x.name x.mark mid ks ls → at ≡ position_or_len (session_id id) xs → at < length xs → slice_get xs at ≡ Some h → window_marks_of h ≡ Some x → AreMarks ks x → state_of h.state ≡ idle (state_of h.state) → IsMark x.name mid (marks_gone x (finish_read text h.kill behind f) (edited_by x.name c ls)) → IsSound (marks_gone x (finish_read text h.kill behind f) (edited_by x.name c ls)) (slice_set xs at (session_marked mid (session_finished (finish_read text h.kill behind f) h)))
     → (let left = finish_read text h.kill behind f in
     map (session_of (change_first (marked_named x.name) (marked_placed mid p) (marks_gone x left (edited_by x.name c ls)))) (slice_set xs at (session_marked mid (session_finished left h)))
-    ≡ change_first (has_id id) (session_arranged (ended (record left { mark = Mark_at p }) (edit_of x.name c) (state_of h.state))) (map (session_of (edited_by x.name c ls)) xs))
+    ≡ change_first (has_id id) (session_arranged (ended (record left { mark = Mark_at p }) (edit_of x.name c.a c.b c.put) (state_of h.state))) (map (session_of (edited_by x.name c ls)) xs))
 marked_there ks ls xs id at mid p h x c behind text f sound kept r place within is sel marks fresh mark held =
     let left = finish_read text h.kill behind f in
     let state = state_of h.state in
     let ls2 = marks_gone x left (edited_by x.name c ls) in
     let y = session_finished left h in
-    let e = edit_of x.name c in
+    let e = edit_of x.name c.a c.b c.put in
     let zs = map (session_of (edited_by x.name c ls)) xs in
     let there : at ≡ position_or_len (has_id id) zs = place ∙ sym (position_or_len-map (session_of (edited_by x.name c ls)) (has_id id) xs) in
     let arranged : model.Session → model.Session = session_arranged (ended (unmarked left) e state) in
@@ -174,10 +174,10 @@ held_then ks ls xs at mid h x c f g sound kept r is sel marks =
 marked_sessions : (ks ls : List MarkedBuffer) (xs : List Session) (id at mid p : ℕ) (h : Session) (x : WindowMarks) (c : plans.Change) (behind : ℕ) (text : List ℕ) (f : Finish) → c.a ≤ c.b → c.b ≤ length (marked_at x.name ks).buffer.text → IsSound ks xs → HasBuffer x.name ks → IsReserved x.name x.mark mid ks ls → at ≡ position_or_len (session_id id) xs → at < length xs → slice_get xs at ≡ Some h → window_marks_of h ≡ Some x → AreMarks ks x → state_of h.state ≡ idle (state_of h.state) → IsMark x.name mid (marks_gone x (finish_read text h.kill behind f) (edited_by x.name c ls))
     → (let left = finish_read text h.kill behind f in
     map (session_of (change_first (marked_named x.name) (marked_placed mid p) (marks_gone x left (edited_by x.name c ls)))) (followed x.name (edit_told (length (marked_at x.name ks).buffer.text) c) (slice_set xs at (session_marked mid (session_finished left h))))
-    ≡ change_first (has_id id) (session_arranged (ended (record left { mark = Mark_at p }) (edit_of x.name c) (state_of h.state))) (map (session_after (edit_of x.name c)) (map (session_of ks) xs)))
+    ≡ change_first (has_id id) (session_arranged (ended (record left { mark = Mark_at p }) (edit_of x.name c.a c.b c.put) (state_of h.state))) (map (session_after (edit_of x.name c.a c.b c.put)) (map (session_of ks) xs)))
 marked_sessions ks ls xs id at mid p h x c behind text f order room sound kept r place within is sel marks fresh mark =
     let left = finish_read text h.kill behind f in
-    let arranged : model.Session → model.Session = session_arranged (ended (record left { mark = Mark_at p }) (edit_of x.name c) (state_of h.state)) in
+    let arranged : model.Session → model.Session = session_arranged (ended (record left { mark = Mark_at p }) (edit_of x.name c.a c.b c.put) (state_of h.state)) in
     let o = edit_told (length (marked_at x.name ks).buffer.text) c in
     let ys = followed x.name o xs in
     let none = search_at_rest h.state fresh in
@@ -189,10 +189,10 @@ marked_sessions ks ls xs id at mid p h x c behind text f order room sound kept r
     ∙ marked_there ks ls ys id at mid p h x c behind text f sound_f kept r (place_followed x.name o xs id at place) (within_followed x.name o xs at within) found sel marks fresh mark (held_then ks ls ys at mid h x c left left sound_f kept r found sel marks_l)
     ∙ ap (λ (n : ℕ). change_first (has_id id) arranged (map (session_of (edited_by x.name c ls)) (followed x.name (edit_told n c) xs))) (sym same)
     ∙ ap (change_first (has_id id) arranged) (sessions_went x.name c ls xs order (omega (arith, same, room)) (mark_is_kept x.name x.point ls marks_l.point))
-    ∙ ap (λ (ss : List model.Session). change_first (has_id id) arranged (map (session_after (edit_of x.name c)) ss)) (reserved_sessions x mid ks ls xs sound kept r)
+    ∙ ap (λ (ss : List model.Session). change_first (has_id id) arranged (map (session_after (edit_of x.name c.a c.b c.put)) ss)) (reserved_sessions x mid ks ls xs sound kept r)
 
 pub marked_so : (directory : Directory) (ks ls : List MarkedBuffer) (xs : List Session) (next : Option ℕ) (id at mid p : ℕ) (h : Session) (x : WindowMarks) (c : plans.Change) (behind : ℕ) (text : List ℕ) (f : Finish) → c.a ≤ c.b → c.b ≤ length (marked_at x.name ks).buffer.text → IsSound ks xs → HasBuffer x.name ks → IsReserved x.name x.mark mid ks ls → at ≡ position_or_len (session_id id) xs → at < length xs → slice_get xs at ≡ Some h → window_marks_of h ≡ Some x → AreMarks ks x → state_of h.state ≡ idle (state_of h.state) → f.mark ≡ Some p → is_too_large (kill_read text h.kill f.kill) ≡ false
-    → (let left = finish_read text h.kill behind f in world_of directory (change_first (marked_named x.name) (marked_placed mid p) (marks_gone x left (edited_by x.name c ls))) (followed x.name (edit_told (length (marked_at x.name ks).buffer.text) c) (slice_set xs at (session_marked mid (session_finished left h)))) next ≡ apply (world_of directory ks xs next) id (finished (state_of h.state) left (edit_of x.name c)))
+    → (let left = finish_read text h.kill behind f in world_of directory (change_first (marked_named x.name) (marked_placed mid p) (marks_gone x left (edited_by x.name c ls))) (followed x.name (edit_told (length (marked_at x.name ks).buffer.text) c) (slice_set xs at (session_marked mid (session_finished left h)))) next ≡ apply (world_of directory ks xs next) id (finished (state_of h.state) left (edit_of x.name c.a c.b c.put)))
 marked_so directory ks ls xs next id at mid p h x c behind text f order room sound kept r place within is sel marks fresh told small =
     let left = finish_read text h.kill behind f in
     let state = state_of h.state in
@@ -201,10 +201,10 @@ marked_so directory ks ls xs next id at mid p h x c behind text f order room sou
     let marks_l = reserved_marks x mid ks ls kept r marks in
     let mark = mark_there x mid c left ls (reserved_mark x.mark mid ks ls xs at h x refl sound kept is sel r) marks_l in
     same_world directory _ _ _ _ (id_after next)
-    (buffers_placed x.name mid p (marks_gone x left ls1) ∙ gone_buffers x.name x.top left.top ls2 ∙ gone_buffers x.name x.point left.point ls1 ∙ edited_buffers x.name c ls ∙ ap (buffers_after (edit_of x.name c)) (reserved_buffers x.name x.mark mid ks ls r))
+    (buffers_placed x.name mid p (marks_gone x left ls1) ∙ gone_buffers x.name x.top left.top ls2 ∙ gone_buffers x.name x.point left.point ls1 ∙ edited_buffers x.name c ls ∙ ap (buffers_after (edit_of x.name c.a c.b c.put)) (reserved_buffers x.name x.mark mid ks ls r))
     (marked_sessions ks ls xs id at mid p h x c behind text f order room sound kept r place within is sel marks fresh mark ∙ sym (no_quit x.name c id _))
-    ∙ ap (λ m. apply (world_of directory ks xs next) id (ended (record left { mark = mark_read m }) (edit_of x.name c) state)) (sym told)
-    ∙ ap (λ b. apply (world_of directory ks xs next) id (cond b (fails state KillTooLarge) (ended left (edit_of x.name c) state))) (sym small)
+    ∙ ap (λ m. apply (world_of directory ks xs next) id (ended (record left { mark = mark_read m }) (edit_of x.name c.a c.b c.put) state)) (sym told)
+    ∙ ap (λ b. apply (world_of directory ks xs next) id (cond b (fails state KillTooLarge) (ended left (edit_of x.name c.a c.b c.put) state))) (sym small)
 
 -- ANY ACTION
 
@@ -274,8 +274,8 @@ finish_takes state f e p small told =
 pub marking_takes : (state : model.State) (x : WindowMarks) (ks : List MarkedBuffer) (kill : List ℕ) (action : Action) (p : ℕ) → CanBeDone ks x kill action → mark_told action ≡ Some p → takes_memory (outcome_through state x ks kill action) ≡ true
 marking_takes state x ks kill (Fails message) p can told = cc
 marking_takes state x ks kill (Edits mask c) p can told =
-    let text = (marked_at x.name ks).buffer.text in
-    finish_takes state (change_read text kill c).finish (edit_of x.name (change_read text kill c)) p can.small (ap mark_read told)
+    let change = change_read (marked_at x.name ks).buffer.text kill c in
+    finish_takes state change.finish (edit_of x.name change.a change.b change.put) p can.small (ap mark_read told)
 marking_takes state x ks kill (Undoes u) p can told = cc
 marking_takes state x ks kill (Moves f) p can told =
     let text = (marked_at x.name ks).buffer.text in

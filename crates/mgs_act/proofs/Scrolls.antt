@@ -7,7 +7,7 @@ use Rattle.std.proofs.lemmas.Option.{get_or_from_slice_get}
 use Rattle.mgs_model.specs.Access.{Directory}
 use Rattle.mgs_model.specs.World.{has_id}
 use Rattle.mgs_model.specs.World as model
-use Rattle.mgs_model.specs.Outcome.{Keep, Keep_mark}
+use Rattle.mgs_model.specs.Outcome.{Keep_position, Keep_mark}
 use Rattle.mgs_model.specs.Plans.{acted_state, row_scrolled}
 use Rattle.mgs_model.specs.Acts.{scrolls_rows}
 use Rattle.mgs_model.specs.Apply.{apply, change_at, change_first, session_arranged, window_adjusted}
@@ -46,7 +46,7 @@ changed_there F f g zero (y ∷ ys) x is does =
 changed_there F f g (suc k) (y ∷ ys) x is does = ap (λ zs. F y ∷ zs) (changed_there F f g k ys x is does)
 
 abbrev row_by : ℕ → model.Window → model.Window
-row_by row w = window_adjusted None Keep Keep_mark Keep (Some row) w
+row_by row w = window_adjusted None Keep_position Keep_mark Keep_position (Some row) w
 
 -- a window without a text
 row_seen : (ks : List MarkedBuffer) (rows : RowPane) (row : ℕ) (w : Window) → w.shows ≡ None → window_shown ks w.height None rows ≡ row_by row (window_shown ks w.height None w.rows) → window_of ks (rows_set rows w) ≡ row_by row (window_of ks w)

@@ -9,7 +9,7 @@ use Rattle.mgs_model.specs.Acts.{edit_of, fails, finished, finished_state, is_to
 use Rattle.mgs_laws.specs.Apart.{touched_by}
 use Rattle.mgs_model.specs.Apply.{apply}
 use Rattle.mgs_model.specs.Events.{saved_by}
-use Rattle.mgs_model.specs.Outcome.{Effect, No_effect, Edit, Adjust}
+use Rattle.mgs_model.specs.Outcome.{Effect, No_effect, Edit, Adjust, Keep_search}
 use Rattle.mgs_laws.specs.Refusals.{takes_memory}
 use Rattle.mgs_model.specs.Plans as plans
 use Rattle.mgs_model.specs.Text.{is_edit}
@@ -35,13 +35,13 @@ use Rattle.mgs_world.specs.Worlds.{state_at, state_of, state_or_first, session_i
 
 finished_saves_none : (state : State) (f : plans.Finish) (e : Effect) → saved_by e ≡ [] → saved_by (finished state f e).effect ≡ []
 finished_saves_none state f e none =
-    elim (is_too_large f.kill) as (λ b. saved_by (cond b (fails state KillTooLarge) (record { state = finished_state f state; kill = f.kill; arrange = Adjust f.point f.mark f.top None f.sought; effect = e })).effect ≡ []) [ true ↦ refl | false ↦ none ]
+    elim (is_too_large f.kill) as (λ b. saved_by (cond b (fails state KillTooLarge) (record { state = finished_state f state; kill = f.kill; arrange = Adjust f.point f.mark f.top None Keep_search; effect = e })).effect ≡ []) [ true ↦ refl | false ↦ none ]
 
-edit_saves_none : (name : List ℕ) (c : plans.Change) → saved_by (edit_of name c) ≡ []
+edit_saves_none : (name : List ℕ) (c : plans.Change) → saved_by (edit_of name c.a c.b c.put) ≡ []
 edit_saves_none name c = elim (is_edit c.a c.b c.put) as (λ b. saved_by (cond b (Edit name c.a c.b c.put) No_effect) ≡ []) [ true ↦ refl | false ↦ refl ]
 
-change_saves_none : (state : State) (name : List ℕ) (c : plans.Change) → saved_by (finished state c.finish (edit_of name c)).effect ≡ []
-change_saves_none state name c = finished_saves_none state c.finish (edit_of name c) (edit_saves_none name c)
+change_saves_none : (state : State) (name : List ℕ) (c : plans.Change) → saved_by (finished state c.finish (edit_of name c.a c.b c.put)).effect ≡ []
+change_saves_none state name c = finished_saves_none state c.finish (edit_of name c.a c.b c.put) (edit_saves_none name c)
 
 through_saves_none : (state : State) (x : WindowMarks) (ks : List MarkedBuffer) (kill : List ℕ) (action : Action) → saved_by (outcome_through state x ks kill action).effect ≡ []
 through_saves_none state x ks kill (Fails message) = refl
@@ -92,4 +92,4 @@ copy_done directory at ks ls xs ys x source place touched done touches = quietly
 pub copy_takes : (at : ℕ) (ks : List MarkedBuffer) (xs : List Session) (x : WindowMarks) (source : List ℕ) (place : ℕ) → TakesMemory at (Copies x source place) ks xs
 copy_takes at ks xs x source place = λ directory id next h here found.
     let c = insertion_of place (marked_at source ks).buffer.text in
-    finish_takes (state_of h.state) c.finish (edit_of x.name c) place refl refl
+    finish_takes (state_of h.state) c.finish (edit_of x.name c.a c.b c.put) place refl refl

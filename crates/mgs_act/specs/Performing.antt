@@ -43,7 +43,7 @@ abbrev pub IsEdit : plans.Change → Type 0
 IsEdit c = is_edit c.a c.b c.put ≡ true
 
 abbrev pub HasRoom : List ℕ → List MarkedBuffer → plans.Change → Type 0
-HasRoom name ks c = is_full (length (marked_at name ks).buffer.text) (marked_at name ks).buffer.serial c ≡ false
+HasRoom name ks c = is_full (length (marked_at name ks).buffer.text) (marked_at name ks).buffer.serial c.a c.b c.put ≡ false
 
 abbrev pub buffers_edited : List ℕ → plans.Change → List MarkedBuffer → List MarkedBuffer
 buffers_edited name c ks = change_first (marked_named name) (marked_edited c.a c.b c.put) ks

@@ -4,7 +4,7 @@ ghost use Rattle.mgs_laws.specs.Apart.{touched_by};
 ghost use Rattle.mgs_model.specs.World.{State};
 ghost use Rattle.mgs_model.specs.declared.entry.Decision.TheVariants.{Granted};
 ghost use Rattle.mgs_buffers.specs.MarkedBuffer.{HasBuffer, marked_at};
-ghost use Rattle.mgs_plan.specs.Actions.{AreMarks, edited_by, insertion_mask};
+ghost use Rattle.mgs_plan.specs.Actions.{AreMarks, edited_by};
 ghost use Rattle.mgs_plan.specs.declared.outcome.Outcome.TheVariants.{Copies};
 ghost use Rattle.mgs_plan.specs.Inserting.{CanPut, IsInserted, buffers_inserted, insertion_of, leaving, put_outcome, session_inserted, target_decision};
 ghost use Rattle.mgs_act.specs.Doing.{CanDo, IsQuietlyDone};
@@ -18,24 +18,13 @@ use crate::performing::{edit_by, leave};
 use mgs_buffers::Buffers;
 use mgs_edit::{Finish, Goes};
 use mgs_marks::Marked;
-use mgs_model::{Kind, Mask, Message, Name, Right, Short, Touched};
-use mgs_plan::{edit_of_insertion, follow};
+use mgs_model::{Kind, Message, Name, Short, Touched};
+use mgs_plan::{edit_of_insertion, follow, insertion_mask};
 use mgs_policy::Directory;
 use mgs_session::Session;
 use mgs_text::Text;
 use mgs_windows::WindowMarks;
 use mgs_world::{give_up_mark, reserve_mark, set_mark};
-
-/// The right that an insertion at a place of a text of so many characters needs.
-fn insertion_mask(place: usize, size: usize) -> Mask
-    ensures { result ≡ insertion_mask place size }
-{
-    Mask::of(if place == size {
-        Right::AppendData
-    } else {
-        Right::WriteData
-    })
-}
 
 /// What the insertion of these characters touches.
 fn touched_by_insertion(name: &Name, put: &[char]) -> Touched

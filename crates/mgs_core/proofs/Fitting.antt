@@ -1,18 +1,19 @@
--- Further replacements are left by an alteration only where its session goes on to replace.
+-- Further replacements are left by a replacement only where its session goes on to replace.
 use Rattle.std.proofs.Common.{◌≡◌, ℕ, ◌<◌, length, Bool, true, false, cond, List, map, Option, Some, None, refl, sym, ap, subst, ◌∙◌}
 use Rattle.std.specs.Prelude.{Result, Ok, Err}
 use Rattle.std.specs.Option.{option_map}
 use Rattle.mgs_model.specs.World.{World, Session, State, find_session, has_id}
 use Rattle.mgs_model.specs.View.{View, view, serial_told, size_told, text_in}
-use Rattle.mgs_model.specs.Outcome.{Effect, Outcome, Run, Adjust, Quit}
-use Rattle.mgs_model.specs.Plans.{Change, Failing, Finish, Goes_on, ModePlan, Over, acted_state, alteration}
-use Rattle.mgs_model.specs.Acts.{Target, allowed, around, counted, edit_of, edited_by, edits, fails, failing_in, finished, finished_state, is_full, is_too_large, judged, mode_left, needs, outcome, permitted, target, without_all}
+use Rattle.mgs_model.specs.Outcome.{Effect, Outcome, Run, Quit}
+use Rattle.mgs_model.specs.Plans.{acted_state}
+use Rattle.mgs_model.specs.Seeking.{Failing, Goes_on, Keep_mode, ModePlan, Over, SearchChange, replace}
+use Rattle.mgs_model.specs.Acts.{Target, allowed, around_search, edit_of, fails, failing_in, is_full, judged, mode_left, needs, outcome, permitted, replaced_by, replaces_one, search_finished, target, without_all}
 use Rattle.mgs_model.specs.declared.entry.Decision.{Decision}
 use Rattle.mgs_model.specs.declared.entry.Decision.TheVariants.{Granted, DeniedBy, NotGranted}
 use Rattle.mgs_model.specs.declared.message.Message.{Message}
-use Rattle.mgs_model.specs.declared.message.Message.TheVariants.{BufferFull, KillTooLarge}
-use Rattle.mgs_model.specs.declared.session.Alteration.{Alteration}
-use Rattle.mgs_model.specs.declared.session.Command.TheVariants.{Alter}
+use Rattle.mgs_model.specs.declared.message.Message.TheVariants.{BufferFull, NoBuffer, Silent}
+use Rattle.mgs_model.specs.declared.session.Replacement.{Replacement}
+use Rattle.mgs_model.specs.declared.session.Command.TheVariants.{Replace}
 use Rattle.mgs_model.specs.declared.session.Mode.TheVariants.{Replacing}
 use Rattle.mgs_model.specs.Apply.{act, after_quit, applied, apply, change_first, session_after, session_arranged}
 use Rattle.mgs_model.specs.Events.{with_state}
@@ -32,40 +33,34 @@ failed_fits state message = fit_none (fails state message).state refl
 
 -- what such a session holds may become
 module _ (state : State) (mode : state.mode ≡ Replacing) (some : 0 < length state.old) (rest : has_all (without_all state.todo) ≡ false) where
-  finished_fits : (f : Finish) (e : Effect) → IsFit (finished state f e).state
-  finished_fits f e = by (is_too_large f.kill)
-    where
-      over : (c : ModePlan) → IsFit (mode_left c (counted state.count f.replaced) state.todo (record (acted_state state) { echo = f.told; kind = f.kind }))
-      over Goes_on = λ h. (mode, some)
-      over Over = fit_none (mode_left Over (counted state.count f.replaced) state.todo (record (acted_state state) { echo = f.told; kind = f.kind })) rest
-      over (Failing failing) = λ h. (ap (failing_in failing) mode, some)
+  mode_fits : (c : ModePlan) → IsFit (mode_left c (record (acted_state state) { echo = Silent }))
+  mode_fits Keep_mode = λ h. (mode, some)
+  mode_fits (Goes_on n) = λ h. (mode, some)
+  mode_fits (Over n) = fit_none (mode_left (Over n) (record (acted_state state) { echo = Silent })) rest
+  mode_fits (Failing failing) = λ h. (ap (failing_in failing) mode, some)
 
-      by : (c : Bool) → IsFit (cond c (fails state KillTooLarge) (record { state = finished_state f state; kill = f.kill; arrange = Adjust f.point f.mark f.top None f.sought; effect = e })).state
-      by true = failed_fits state KillTooLarge
-      by false = over f.mode
-
-  edits_fit : (o : Option Target) (plan : Target → Result Change Message) → IsFit (edits state o plan).state
-  edits_fit None plan = fit_none (edits state None plan).state refl
-  edits_fit (Some t) plan = by (plan t)
+  replaces_fit : (o : Option Target) (plan : Target → Result SearchChange Message) → IsFit (replaces_one state o plan).state
+  replaces_fit None plan = failed_fits state NoBuffer
+  replaces_fit (Some t) plan = by (plan t)
     where
-      full : (c : Change) (b : Bool) → IsFit (cond b (fails state BufferFull) (finished state c.finish (edit_of t.buffer.name c))).state
+      full : (c : SearchChange) (b : Bool) → IsFit (cond b (fails state BufferFull) (search_finished state c.finish (edit_of t.buffer.name c.a c.b c.put))).state
       full c true = failed_fits state BufferFull
-      full c false = finished_fits c.finish (edit_of t.buffer.name c)
+      full c false = mode_fits c.finish.mode
 
-      by : (p : Result Change Message) → IsFit (edited_by state t.buffer p).state
+      by : (p : Result SearchChange Message) → IsFit (replaced_by state t.buffer p).state
       by (Err message) = failed_fits state message
-      by (Ok c) = full c (is_full (size_told t.buffer.told) (serial_told t.buffer.told) c)
+      by (Ok c) = full c (is_full (size_told t.buffer.told) (serial_told t.buffer.told) c.a c.b c.put)
 
   permitted_fits : (d : Decision) (o : Outcome) → IsFit o.state → IsFit (permitted state d o).state
   permitted_fits Granted o h = h
   permitted_fits (DeniedBy n right) o h = fit_none (permitted state (DeniedBy n right) o).state refl
   permitted_fits (NotGranted right) o h = fit_none (permitted state (NotGranted right) o).state refl
 
-pub altered_fits : (v : View) (c : Alteration) (n : Option ℕ) (typed : List ℕ) (stored : Bool) → v.session.state.mode ≡ Replacing → 0 < length v.session.state.old → has_all (without_all v.session.state.todo) ≡ false → IsFit (outcome v (Run (Alter c) n typed) stored).state
+replacement_fits : (v : View) (c : Replacement) (n : Option ℕ) (typed : List ℕ) (stored : Bool) → v.session.state.mode ≡ Replacing → 0 < length v.session.state.old → has_all (without_all v.session.state.todo) ≡ false → IsFit (outcome v (Run (Replace c) n typed) stored).state
 unfolding outcome
-altered_fits v c n typed stored mode some rest =
-    permitted_fits v.session.state mode some rest (judged v (needs v (Run (Alter c) n typed))) (allowed v (Run (Alter c) n typed) stored)
-    (edits_fit v.session.state mode some rest (target v) (λ t. alteration c (text_in t.buffer.full) (around v.session n typed t)))
+replacement_fits v c n typed stored mode some rest =
+    permitted_fits v.session.state mode some rest (judged v (needs v (Run (Replace c) n typed))) (allowed v (Run (Replace c) n typed) stored)
+    (replaces_fit v.session.state mode some rest (target v) (λ t. replace c (text_in t.buffer.full) (around_search v.session typed t)))
 
 -- what the session of an act holds then
 state_applied : (P : State → Type 0) (w : World) (id : ℕ) (o : Outcome) → P o.state → (y : Session) → find_session id (apply w id o).sessions ≡ Some y → P y.state
@@ -87,16 +82,16 @@ state_applied P w id o h y found = by o.effect refl
         cc
     by f q = stays (λ xs. ap (λ g. after_quit g id xs) q)
 
-altered_acted : (w : World) (id : ℕ) (state : State) (c : Alteration) (n : Option ℕ) (typed : List ℕ) (stored : Bool) (x y : Session) → find_session id w.sessions ≡ Some x → state.mode ≡ Replacing → 0 < length state.old → has_all (without_all state.todo) ≡ false
-    → find_session id (act (with_state id (λ was. state) w) id (Run (Alter c) n typed) stored).sessions ≡ Some y → IsFit y.state
-altered_acted w id state c n typed stored x y found mode some rest stays =
+replacement_acted : (w : World) (id : ℕ) (state : State) (c : Replacement) (n : Option ℕ) (typed : List ℕ) (stored : Bool) (x y : Session) → find_session id w.sessions ≡ Some x → state.mode ≡ Replacing → 0 < length state.old → has_all (without_all state.todo) ≡ false
+    → find_session id (act (with_state id (λ was. state) w) id (Run (Replace c) n typed) stored).sessions ≡ Some y → IsFit y.state
+replacement_acted w id state c n typed stored x y found mode some rest stays =
     let v : View = begun_view (λ was. state) (view w x) in
-    state_applied IsFit (with_state id (λ was. state) w) id (outcome v (Run (Alter c) n typed) stored) (altered_fits v c n typed stored mode some rest) y
-    (sym (ap (λ o. find_session id (applied (with_state id (λ was. state) w) id (option_map (λ z. outcome z (Run (Alter c) n typed) stored) o)).sessions) (seen_begun w id (λ was. state) x found)) ∙ stays)
+    state_applied IsFit (with_state id (λ was. state) w) id (outcome v (Run (Replace c) n typed) stored) (replacement_fits v c n typed stored mode some rest) y
+    (sym (ap (λ o. find_session id (applied (with_state id (λ was. state) w) id (option_map (λ z. outcome z (Run (Replace c) n typed) stored) o)).sessions) (seen_begun w id (λ was. state) x found)) ∙ stays)
 
 -- of a replacement, where all further ones are to be done
 pub replaced_fits : (w : World) (id : ℕ) (state : State) (b : Before) (byte_act : ByteAct) (stored : Bool) (x y : Session) → find_session id w.sessions ≡ Some x → is_replacement byte_act ≡ true → IsFit state → has_all state.todo ≡ true → has_all (without_all state.todo) ≡ false
     → find_session id (act (with_state id (λ was. deciding_state b byte_act state) w) id (model_act state b byte_act) stored).sessions ≡ Some y → IsFit y.state
 replaced_fits w id state b (byte_acts.Replace last) stored x y found is fit all rest stays =
-    let fits = fit all in altered_acted w id state (replacement last) None state.input stored x y found fits.0 fits.1 rest stays
+    let fits = fit all in replacement_acted w id state (replacement last) None state.input stored x y found fits.0 fits.1 rest stays
 replaced_fits w id state b _ stored x y found is fit all rest stays = cc

@@ -7,17 +7,17 @@ use Rattle.mgs_model.specs.View.{View}
 use Rattle.mgs_model.specs.Turns.{Keep, Do, command_turn, key_turn, line_turn, read_turn}
 use Rattle.mgs_model.specs.declared.message.Message.TheVariants.{Silent}
 use Rattle.mgs_model.specs.declared.session.Command.{Command}
-use Rattle.mgs_model.specs.declared.session.Command.TheVariants.{Insert, InsertReading, Move, Alter, Scroll, Set, Rearrange, Ask, Entries, ListEntries, UndoEdit, NotModified, SaveBuffer, Exit}
+use Rattle.mgs_model.specs.declared.session.Command.TheVariants.{Insert, InsertReading, Move, Alter, Seek, Scroll, Set, Rearrange, Ask, Entries, ListEntries, UndoEdit, NotModified, SaveBuffer, Exit}
 use Rattle.mgs_model.specs.declared.session.EntryChange.{EntryChange}
 use Rattle.mgs_model.specs.declared.session.EntryChange.TheVariants.{DeleteEntry}
 use Rattle.mgs_model.specs.declared.session.Motion.{Motion}
-use Rattle.mgs_model.specs.declared.session.Motion.TheVariants.{GoToLine, StartSearch, SearchOn, SearchFor, StartReplace, SkipMatch}
-use Rattle.mgs_model.specs.declared.session.Alteration.{Alteration}
-use Rattle.mgs_model.specs.declared.session.Alteration.TheVariants.{ReplaceMatch, ReplaceLast}
+use Rattle.mgs_model.specs.declared.session.Motion.TheVariants.{GoToLine}
+use Rattle.mgs_model.specs.declared.session.Seeking.{Seeking}
+use Rattle.mgs_model.specs.declared.session.Seeking.TheVariants.{StartSearch}
 use Rattle.mgs_model.specs.declared.session.Setting.{Setting}
 use Rattle.mgs_model.specs.declared.session.Setting.TheVariants.{CallMacro}
 use Rattle.mgs_laws.proofs.LeftToDo.{is_single}
-use Rattle.mgs_maps.specs.Held.{Held, FedBy, is_bound, is_bound_alteration, is_bound_change, is_bound_motion}
+use Rattle.mgs_maps.specs.Held.{Held, FedBy, is_bound, is_bound_change}
 use Rattle.mgs_maps.specs.declared.maps.Fed.TheVariants as fed
 use Rattle.mgs_mini.specs.Typing.{PromptInput}
 use Rattle.mgs_session.specs.declared.State.{State}
@@ -25,12 +25,11 @@ use Rattle.mgs_session.specs.declared.search.Search.{Search}
 use Rattle.mgs_world.specs.Worlds.{state_of}
 use Rattle.mgs_plan.specs.declared.key_act.KeyAct.{KeyAct}
 use Rattle.mgs_plan.specs.declared.key_act.KeyAct.TheVariants as acts
-use Rattle.mgs_edit.specs.Reading.{is_alteration_planned}
 use Rattle.mgs_plan.specs.Actions.{act_of, is_entry_done, is_setting_done}
 use Rattle.mgs_world.specs.Worlds.{idle}
 use Rattle.mgs_core.specs.Prompted.{state_turn}
 use Rattle.mgs_core.specs.ByteSteps.{is_call, is_exit}
-use Rattle.mgs_core.specs.KeyActs.{command_act, is_acted, line_act, motion_act, started_by, started_state}
+use Rattle.mgs_core.specs.KeyActs.{command_act, is_acted, line_act, motion_act, started_by, started_in, started_state}
 
 -- AS A KEY
 
@@ -44,24 +43,28 @@ plain_turn v o byte still none =
     ap (λ (s : Option Search). state_turn v (record o { search = s }) byte) still
     ∙ ap (λ (p : Option PromptInput). state_turn v (record o { search = None; prompt = p }) byte) none
 
--- a bound command is done at once, or asks for its line
+-- a command is done at once, or asks for its line
 line_done : (state : model.State) (n : Option ℕ) → line_turn state n ≡ Do (started_state (started_by (line_act n)) state) (act_of (line_act n))
 line_done state None = refl
 line_done state (Some n) = refl
 
-motion_done : (state : model.State) (n : Option ℕ) (c : Motion) → is_bound_motion c ≡ true → command_turn state n (Move c) ≡ Do (started_state (started_by (motion_act c n)) state) (act_of (motion_act c n))
-motion_done state n GoToLine h = line_done state n
-motion_done state n (StartSearch d) h = refl
-motion_done state n _ h = refl
+motion_done : (state : model.State) (n : Option ℕ) (c : Motion) → command_turn state n (Move c) ≡ Do (started_state (started_by (motion_act c n)) state) (act_of (motion_act c n))
+motion_done state n GoToLine = line_done state n
+motion_done state n _ = refl
+
+seeking_done : (state : model.State) (n : Option ℕ) (c : Seeking) → command_turn state n (Seek c) ≡ Do (started_state (started_in c) state) (outcomes.Run (Seek c) n [])
+seeking_done state n (StartSearch d) = refl
+seeking_done state n _ = refl
 
 setting_done : (state : model.State) (n : Option ℕ) (c : Setting) → is_call (Set c) ≡ false → command_turn state n (Set c) ≡ Do state (outcomes.Run (Set c) n [])
 setting_done state n CallMacro h = cc
 setting_done state n _ h = refl
 
-pub command_done : (state : model.State) (n : Option ℕ) (c : Command) → is_bound c ≡ true → is_call c ≡ false → command_turn state n c ≡ Do (started_state (started_by (command_act c n)) state) (act_of (command_act c n))
-command_done state n (Move c) h e = motion_done state n c h
-command_done state n (Set c) h e = setting_done state n c e
-command_done state n _ h e = refl
+pub command_done : (state : model.State) (n : Option ℕ) (c : Command) → is_call c ≡ false → command_turn state n c ≡ Do (started_state (started_by (command_act c n)) state) (act_of (command_act c n))
+command_done state n (Move c) e = motion_done state n c
+command_done state n (Seek c) e = seeking_done state n c
+command_done state n (Set c) e = setting_done state n c e
+command_done state n _ e = refl
 
 -- a word goes on
 pub turn_kept : (v : View) (o : State) (byte : ℕ) (k : Held) → o.search ≡ None → o.prompt ≡ None → FedBy fed.Pending (key_read o.keyboard.argument o.keyboard.keys byte) k → state_turn v o byte ≡ Keep (state_of (record o { echo = Silent; keyboard = k; prompt = None; search = None }))
@@ -74,24 +77,18 @@ turn_command v o byte k c n still none e = plain_turn v o byte still none ∙ ap
 pub turn_unbound : (v : View) (o : State) (byte : ℕ) (k : Held) → o.search ≡ None → o.prompt ≡ None → FedBy fed.Unbound (key_read o.keyboard.argument o.keyboard.keys byte) k → state_turn v o byte ≡ Do (idle (state_of o)) outcomes.Unbound
 turn_unbound v o byte k still none e = plain_turn v o byte still none ∙ ap (read_turn (silent o)) e.0
 
--- the motions and alterations of the table are done by the act, and the settings but one
+-- the commands of the table are done by the act, but for one setting
 line_here : (n : Option ℕ) → is_acted (line_act n) ≡ true
 line_here None = refl
 line_here (Some n) = refl
 
-motion_here : (n : Option ℕ) (c : Motion) → is_bound_motion c ≡ true → is_acted (motion_act c n) ≡ true
-motion_here n GoToLine h = line_here n
-motion_here n (StartSearch d) h = refl
-motion_here n (SearchOn d step) h = cc
-motion_here n (SearchFor d) h = cc
-motion_here n StartReplace h = cc
-motion_here n SkipMatch h = cc
-motion_here n _ h = refl
+motion_here : (n : Option ℕ) (c : Motion) → is_acted (motion_act c n) ≡ true
+motion_here n GoToLine = line_here n
+motion_here n _ = refl
 
-alteration_here : (c : Alteration) → is_bound_alteration c ≡ true → is_alteration_planned c ≡ true
-alteration_here ReplaceMatch h = cc
-alteration_here ReplaceLast h = cc
-alteration_here _ h = refl
+seeking_here : (n : Option ℕ) (c : Seeking) → is_bound (Seek c) ≡ true → is_acted (acts.Run (Seek c) n) ≡ true
+seeking_here n (StartSearch d) h = refl
+seeking_here n _ h = cc
 
 setting_here : (c : Setting) → is_call (Set c) ≡ false → is_setting_done c ≡ true
 setting_here CallMacro h = cc
@@ -105,8 +102,9 @@ change_here _ h = cc
 pub command_here : (n : Option ℕ) (c : Command) → is_bound c ≡ true → is_exit c ≡ false → is_call c ≡ false → is_acted (command_act c n) ≡ true
 command_here n (Insert c) b p q = refl
 command_here n (InsertReading c) b p q = refl
-command_here n (Move c) b p q = motion_here n c b
-command_here n (Alter c) b p q = alteration_here c b
+command_here n (Move c) b p q = motion_here n c
+command_here n (Alter c) b p q = refl
+command_here n (Seek c) b p q = seeking_here n c b
 command_here n (Scroll c) b p q = refl
 command_here n (Set c) b p q = setting_here c q
 command_here n (Rearrange c) b p q = refl

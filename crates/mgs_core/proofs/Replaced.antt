@@ -9,10 +9,10 @@ use Rattle.mgs_model.specs.World.{Todo, Replace_all}
 use Rattle.mgs_model.specs.View.{View}
 use Rattle.mgs_model.specs.Turns.{Turn, Keep, Do, replace_turn, replacing}
 use Rattle.mgs_model.specs.declared.message.Message.TheVariants.{Quitting, Replaced, Silent}
-use Rattle.mgs_model.specs.declared.session.Alteration.TheVariants.{ReplaceLast, ReplaceMatch}
-use Rattle.mgs_model.specs.declared.session.Command.TheVariants.{Move}
+use Rattle.mgs_model.specs.declared.session.Replacement.TheVariants.{ReplaceLast, ReplaceMatch}
+use Rattle.mgs_model.specs.declared.session.Command.TheVariants.{Seek}
 use Rattle.mgs_model.specs.declared.session.Mode.TheVariants.{Plain}
-use Rattle.mgs_model.specs.declared.session.Motion.TheVariants.{SkipMatch}
+use Rattle.mgs_model.specs.declared.session.Seeking.TheVariants.{SkipMatch}
 use Rattle.mgs_buffers.specs.MarkedBuffer.{MarkedBuffer}
 use Rattle.mgs_session.specs.Replacing.{Replacing}
 use Rattle.mgs_session.specs.declared.search.Search.{Search}
@@ -37,7 +37,7 @@ use Rattle.mgs_core.proofs.Stepped.{acts_same, kept_none, kept_same, none_stays}
 abbrev pub keyed_turn : model.State → ReplaceKey → Turn
 keyed_turn state keys.Replaces = replacing state ReplaceMatch
 keyed_turn state keys.ReplacesLast = replacing state ReplaceLast
-keyed_turn state keys.Skips = Do state (Run (Move SkipMatch) None state.input)
+keyed_turn state keys.Skips = Do state (Run (Seek SkipMatch) None state.input)
 keyed_turn state keys.ReplacesAll = Keep (record state { todo = Replace_all ∷ state.todo })
 keyed_turn state keys.Ends = Keep (record state { echo = Replaced state.count; mode = Plain; input = []; old = []; count = 0 })
 keyed_turn state keys.Quits = Keep (failed_state Quitting state)

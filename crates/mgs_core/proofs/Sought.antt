@@ -15,9 +15,9 @@ use Rattle.mgs_model.specs.declared.search.Direction.{Direction}
 use Rattle.mgs_model.specs.declared.search.Direction.TheVariants.{Forward, Backward}
 use Rattle.mgs_model.specs.declared.search.SearchStep.{SearchStep}
 use Rattle.mgs_model.specs.declared.search.SearchStep.TheVariants as step
-use Rattle.mgs_model.specs.declared.session.Command.TheVariants.{Move}
+use Rattle.mgs_model.specs.declared.session.Command.TheVariants.{Seek}
 use Rattle.mgs_model.specs.declared.session.Mode.TheVariants.{Searching}
-use Rattle.mgs_model.specs.declared.session.Motion.TheVariants.{SearchOn}
+use Rattle.mgs_model.specs.declared.session.Seeking.TheVariants.{SearchOn}
 use Rattle.mgs_model.specs.declared.sequence.Sequence.{Sequence}
 use Rattle.mgs_model.specs.declared.sequence.Sequence.TheVariants.{Whole, Begun, Broken}
 use Rattle.mgs_buffers.specs.MarkedBuffer.{MarkedBuffer}
@@ -150,12 +150,12 @@ module _ (d : Directory) (ks : List MarkedBuffer) (y new : Session) (name : List
   abbrev state_read : Held → model.State
   state_read h = record (state_of (reading h x).state) { echo = Silent }
 
-  steps_on : (h : Held) (k : SearchStep) → ((v : View) → state_turn v x.state byte ≡ Do (record (state_read h) { mode = Searching g.direction g.failing; input = g.pattern }) (Run (Move (SearchOn g.direction k)) None g.pattern)) → new ≡ searching r (told Silent (reading h (unsearched y)))
+  steps_on : (h : Held) (k : SearchStep) → ((v : View) → state_turn v x.state byte ≡ Do (record (state_read h) { mode = Searching g.direction g.failing; input = g.pattern }) (Run (Seek (SearchOn g.direction k)) None g.pattern)) → new ≡ searching r (told Silent (reading h (unsearched y)))
       → IsByteStep d ks (searching s (unsearched y)) new byte b (Acts (byte_acts.Seek k))
   steps_on h k turn is =
       acts_same (SeesNames d ks x.user) (λ v. state_turn v x.state byte) x new (searching r (told Silent (reading h z))) is refl (λ bs. refl) b (byte_acts.Seek k) alone refl tt (λ v sees. turn v) refl (λ wants. cc) (λ wants. cc) (λ h. cc)
 
-  sought_on : (k : SearchStep) → (k ≡ step.Ends → ⊥) → (k ≡ step.Quits → ⊥) → (k ≡ step.Leaves → ⊥) → sought_turn state byte g k ≡ Do (record state { mode = Searching g.direction g.failing; input = g.pattern }) (Run (Move (SearchOn g.direction k)) None g.pattern)
+  sought_on : (k : SearchStep) → (k ≡ step.Ends → ⊥) → (k ≡ step.Quits → ⊥) → (k ≡ step.Leaves → ⊥) → sought_turn state byte g k ≡ Do (record state { mode = Searching g.direction g.failing; input = g.pattern }) (Run (Seek (SearchOn g.direction k)) None g.pattern)
   sought_on step.Ends ends quits leaves = absurd (ends refl)
   sought_on step.Quits ends quits leaves = absurd (quits refl)
   sought_on step.Leaves ends quits leaves = absurd (leaves refl)

@@ -4,18 +4,19 @@ use Rattle.std.specs.List.{flat_map}
 use Rattle.std.specs.Option.{option_map}
 use Rattle.mgs_model.specs.World.{World, State, Search, Session, find_session, has_id}
 use Rattle.mgs_model.specs.View.{View, view, text_in, size_told}
-use Rattle.mgs_model.specs.Outcome.{Act, Run, Outcome, KillPlan, Keep_kill, Arrange, Adjust, Stay, Keep, Keep_mark, Begin, Effect, No_effect}
-use Rattle.mgs_model.specs.Plans.{Finish, failed_state, motion, stays}
-use Rattle.mgs_model.specs.Acts.{Request, Target, acts_at, allowed, around, finished_state, judged, moves, needs, or_else, outcome, permitted, request_judged, target}
+use Rattle.mgs_model.specs.Outcome.{Act, Run, Outcome, KillPlan, Keep_kill, Arrange, Adjust, Stay, Keep_position, Keep_mark, Begin, Effect, No_effect}
+use Rattle.mgs_model.specs.Plans.{failed_state}
+use Rattle.mgs_model.specs.Seeking.{Keep_mode, SearchFinish, seek}
+use Rattle.mgs_model.specs.Acts.{Request, Target, acts_at, allowed, around_search, judged, needs, or_else, outcome, permitted, request_judged, search_finished_state, seeks, target}
 use Rattle.mgs_model.specs.Apply.{act, applied, apply, change_first, outcome_in, searches, session_after, session_arranged}
 use Rattle.mgs_model.specs.Events.{act_effects, effect_in, state_set, saved_by, with_state}
 use Rattle.mgs_model.specs.declared.entry.Decision.{Decision}
 use Rattle.mgs_model.specs.declared.entry.Decision.TheVariants.{Granted, DeniedBy, NotGranted}
 use Rattle.mgs_model.specs.declared.message.Message.TheVariants.{Denied, NoBuffer}
 use Rattle.mgs_model.specs.declared.search.Direction.{Direction}
-use Rattle.mgs_model.specs.declared.session.Command.TheVariants.{Move}
-use Rattle.mgs_model.specs.declared.session.Motion.{Motion}
-use Rattle.mgs_model.specs.declared.session.Motion.TheVariants.{StartSearch}
+use Rattle.mgs_model.specs.declared.session.Command.TheVariants.{Seek}
+use Rattle.mgs_model.specs.declared.session.Seeking.{Seeking}
+use Rattle.mgs_model.specs.declared.session.Seeking.TheVariants.{StartSearch}
 use Rattle.mgs_model.proofs.Firsts.{change_first_found, change_twice, find-change_first}
 use Rattle.mgs_store.specs.Stores.{StoreTold, told_more}
 use Rattle.mgs_plan.specs.declared.key_act.KeyAct.{KeyAct}
@@ -28,7 +29,7 @@ use Rattle.mgs_core.specs.KeyActs.{started_by, started_state, started_world}
 -- THE ACT, by a session that holds this and has these positions of a search
 module _ (w : World) (id : ℕ) (o : State) (d : Direction) (n : Option ℕ) (x : Session) (found : find_session id w.sessions ≡ Some x) (stored : Bool) where
   abbrev c : Act
-  c = Run (Move (StartSearch d)) n []
+  c = Run (Seek (StartSearch d)) n []
 
   -- with this record it is decided
   abbrev state : State
@@ -69,15 +70,15 @@ module _ (w : World) (id : ℕ) (o : State) (d : Direction) (n : Option ℕ) (x 
       ∙ change_twice (has_id id) (session_arranged o) (put r) (λ y. session_arranged o (put None y)) (λ y. refl) (same r) w.sessions
       in ap (λ (ys : List Session). record w { sessions = ys }) (once s ∙ sym (once None))
 
-  blind_moves : (t : Option Target) → IsBlind (moves state t (λ (t : Target). motion (StartSearch d) (text_in t.buffer.full) (around (seen None).session n [] t)))
-  blind_moves None = blind (failed_state NoBuffer state) Keep_kill Stay (λ s y. refl)
-  blind_moves (Some t) =
+  blind_seeks : (t : Option Target) → IsBlind (seeks state t (λ (t : Target). seek (StartSearch d) (text_in t.buffer.full) (around_search (seen None).session [] t)))
+  blind_seeks None = blind (failed_state NoBuffer state) Keep_kill Stay (λ s y. refl)
+  blind_seeks (Some t) =
       let place : ℕ = acts_at t.window.positions (size_told t.buffer.told) in
-      let f : Finish = record stays { sought = Begin t.buffer.name place place } in
-      blind (finished_state f state) Keep_kill (Adjust Keep Keep_mark Keep None f.sought) (λ s y. refl)
+      let f : SearchFinish = record { point = Keep_position; sought = Begin t.buffer.name place place; mode = Keep_mode } in
+      blind (search_finished_state f state) Keep_kill (Adjust Keep_position Keep_mark Keep_position None f.sought) (λ s y. refl)
 
   blind_permitted : (e : Decision) → IsBlind (permitted state e (allowed (seen None) c stored))
-  blind_permitted Granted = blind_moves (target (seen None))
+  blind_permitted Granted = blind_seeks (target (seen None))
   blind_permitted (DeniedBy m right) = blind (failed_state (Denied (DeniedBy m right)) state) Keep_kill Stay (λ s y. refl)
   blind_permitted (NotGranted right) = blind (failed_state (Denied (NotGranted right)) state) Keep_kill Stay (λ s y. refl)
 
@@ -101,14 +102,14 @@ module _ (w : World) (id : ℕ) (o : State) (d : Direction) (n : Option ℕ) (x 
       (change_twice (has_id id) (state_set (searching_state d)) (state_set (λ was. o)) (λ y. state_set (searching_state d) (state_set (λ was. o) y)) (λ y. refl) (λ y. refl) w.sessions
       ∙ change_first_found (has_id id) (λ y. state_set (searching_state d) (state_set (λ was. o) y)) (put (cond (searches o.mode) x.search None)) x w.sessions found refl)
 
-  pub started_act : act (with_state id (searching_state d) (with_state id (λ was. o) w)) id (Run (Move (StartSearch d)) n []) stored ≡ act (with_state id (λ was. searching_state d o) w) id (Run (Move (StartSearch d)) n []) stored
+  pub started_act : act (with_state id (searching_state d) (with_state id (λ was. o) w)) id (Run (Seek (StartSearch d)) n []) stored ≡ act (with_state id (λ was. searching_state d o) w) id (Run (Seek (StartSearch d)) n []) stored
   started_act =
       ap (λ (v : World). act v id c stored) then_put
       ∙ act_there (cond (searches o.mode) x.search None)
       ∙ sym (act_there x.search)
       ∙ sym (ap (λ (v : World). act v id c stored) at_once)
 
-  pub started_effects : act_effects (with_state id (searching_state d) (with_state id (λ was. o) w)) id (Run (Move (StartSearch d)) n []) stored ≡ act_effects (with_state id (λ was. searching_state d o) w) id (Run (Move (StartSearch d)) n []) stored
+  pub started_effects : act_effects (with_state id (searching_state d) (with_state id (λ was. o) w)) id (Run (Seek (StartSearch d)) n []) stored ≡ act_effects (with_state id (λ was. searching_state d o) w) id (Run (Seek (StartSearch d)) n []) stored
   started_effects =
       ap (λ (v : World). act_effects v id c stored) then_put
       ∙ effects_there (cond (searches o.mode) x.search None)
@@ -119,7 +120,7 @@ module _ (w : World) (id : ℕ) (o : State) (d : Direction) (n : Option ℕ) (x 
 abbrev pub IsBegun : World → ℕ → State → KeyAct → World → StoreTold → StoreTold → Type 0
 IsBegun w id o a new before after = ActedBy (started_world (started_by a) id (with_state id (λ was. o) w)) new before after id (act_of a) → ActedBy (with_state id (λ was. started_state (started_by a) o) w) new before after id (act_of a)
 
-begun_search : (w : World) (id : ℕ) (o : State) (d : Direction) (n : Option ℕ) (x : Session) (new : World) (before after : StoreTold) → find_session id w.sessions ≡ Some x → IsBegun w id o (acts.Run (Move (StartSearch d)) n) new before after
+begun_search : (w : World) (id : ℕ) (o : State) (d : Direction) (n : Option ℕ) (x : Session) (new : World) (before after : StoreTold) → find_session id w.sessions ≡ Some x → IsBegun w id o (acts.Run (Seek (StartSearch d)) n) new before after
 begun_search w id o d n x new before after found did = record {
   stored = did.stored;
   world = did.world ∙ started_act w id o d n x found did.stored;
@@ -127,11 +128,11 @@ begun_search w id o d n x new before after found did = record {
   saves = did.saves ∙ ap (λ (es : List Effect). told_more (flat_map saved_by es) before.accepted) (started_effects w id o d n x found did.stored);
 }
 
-begun_motion : (w : World) (id : ℕ) (o : State) (c : Motion) (n : Option ℕ) (x : Session) (new : World) (before after : StoreTold) → find_session id w.sessions ≡ Some x → IsBegun w id o (acts.Run (Move c) n) new before after
-begun_motion w id o (StartSearch d) n x new before after found did = begun_search w id o d n x new before after found did
-begun_motion w id o _ n x new before after found did = did
+begun_seeking : (w : World) (id : ℕ) (o : State) (c : Seeking) (n : Option ℕ) (x : Session) (new : World) (before after : StoreTold) → find_session id w.sessions ≡ Some x → IsBegun w id o (acts.Run (Seek c) n) new before after
+begun_seeking w id o (StartSearch d) n x new before after found did = begun_search w id o d n x new before after found did
+begun_seeking w id o _ n x new before after found did = did
 
 pub begun_act : (w : World) (id : ℕ) (o : State) (a : KeyAct) (x : Session) (new : World) (before after : StoreTold) → find_session id w.sessions ≡ Some x → IsBegun w id o a new before after
 begun_act w id o acts.Unbound x new before after found did = did
-begun_act w id o (acts.Run (Move c) n) x new before after found did = begun_motion w id o c n x new before after found did
+begun_act w id o (acts.Run (Seek c) n) x new before after found did = begun_seeking w id o c n x new before after found did
 begun_act w id o (acts.Run _ n) x new before after found did = did

@@ -304,7 +304,7 @@ module _ (Sees : View → Type 0) (comes : View → Turn) (x new : Session) (c :
   acts_step b bound goes_on calls alone same again search =
       let a = command_act c n in
       acts_same Sees comes x new (resting x) same refl (none_stays x.state (resting x).state refl) b (byte_acts.Act a) alone refl (command_here n c bound goes_on calls)
-      (λ v sees. turn v sees ∙ command_done (state_of (resting x).state) n c bound calls) refl (λ wants. again) (λ wants. search None) (λ h. cc)
+      (λ v sees. turn v sees ∙ command_done (state_of (resting x).state) n c calls) refl (λ wants. again) (λ wants. search None) (λ h. cc)
 
 is_exit_of : (c : Command) → is_exit c ≡ true → c ≡ Exit
 is_exit_of Exit h = refl

@@ -16,10 +16,11 @@ use Rattle.mgs_model.specs.Events.{act_effects, state_set, refused_state, saved_
 use Rattle.mgs_laws.specs.Refusals.{may_be_refused}
 use Rattle.mgs_model.specs.declared.search.Direction.{Direction}
 use Rattle.mgs_model.specs.declared.search.SearchStep.{SearchStep}
-use Rattle.mgs_model.specs.declared.session.Command.TheVariants.{Alter, Exit, LeaveSearch, Move}
+use Rattle.mgs_model.specs.declared.session.Command.TheVariants as commands
+use Rattle.mgs_model.specs.declared.session.Command.TheVariants.{Exit, LeaveSearch, Seek}
 use Rattle.mgs_model.specs.declared.session.Mode.{Mode}
 use Rattle.mgs_model.specs.declared.session.Mode.TheVariants.{Replacing as replacing_mode, Searching}
-use Rattle.mgs_model.specs.declared.session.Motion.TheVariants.{SearchOn, SkipMatch, StartReplace}
+use Rattle.mgs_model.specs.declared.session.Seeking.TheVariants.{SearchOn, SkipMatch, StartReplace}
 use Rattle.mgs_model.specs.Searching.{Sought}
 use Rattle.mgs_mini.specs.Typing.{PromptInput}
 use Rattle.mgs_session.specs.declared.search.Aim.{Aim}
@@ -41,7 +42,7 @@ use Rattle.mgs_plan.specs.Beginning.{search_held, search_or_none}
 use Rattle.mgs_plan.specs.Actions.{act_of}
 use Rattle.mgs_plan.specs.declared.key_act.KeyAct.{KeyAct}
 use Rattle.mgs_plan.specs.Tells.{touched_in}
-use Rattle.mgs_plan.proofs.Quiet.{quiet_leaving, quiet_motion}
+use Rattle.mgs_plan.proofs.Quiet.{quiet_leaving, quiet_seeking}
 use Rattle.mgs_plan.specs.Searching.{meant}
 use Rattle.mgs_buffers.specs.MarkedBuffer.{AreWithinLimit, MarkedBuffer}
 use Rattle.mgs_session.specs.declared.Session.{Session}
@@ -130,20 +131,20 @@ left_within at ks xs h = by (search_held at xs)
 
 -- A STEP OF A SEARCH
 
-seek_found : (o : Option Session) (step : SearchStep) → is_finding (search_or_none o) ≡ true → (s : Search) × (f : Sought) × (search_or_none o ≡ Some s) × (s.aim ≡ Find f) × (seek_act (state_or_first o).mode step (state_or_first o).input ≡ Run (Move (SearchOn f.direction step)) None f.pattern)
+seek_found : (o : Option Session) (step : SearchStep) → is_finding (search_or_none o) ≡ true → (s : Search) × (f : Sought) × (search_or_none o ≡ Some s) × (s.aim ≡ Find f) × (seek_act (state_or_first o).mode step (state_or_first o).input ≡ Run (Seek (SearchOn f.direction step)) None f.pattern)
 seek_found None step h = cc
 seek_found (Some x) step h = by x.state.search refl h
   where
-    aims : (s : Search) (a : Aim) → x.state.search ≡ Some s → s.aim ≡ a → finds a ≡ true → (s : Search) × (f : Sought) × (x.state.search ≡ Some s) × (s.aim ≡ Find f) × (seek_act (state_of x.state).mode step (state_of x.state).input ≡ Run (Move (SearchOn f.direction step)) None f.pattern)
+    aims : (s : Search) (a : Aim) → x.state.search ≡ Some s → s.aim ≡ a → finds a ≡ true → (s : Search) × (f : Sought) × (x.state.search ≡ Some s) × (s.aim ≡ Find f) × (seek_act (state_of x.state).mode step (state_of x.state).input ≡ Run (Seek (SearchOn f.direction step)) None f.pattern)
     aims s (Find f) is of_s h = (s, f, is, of_s, ap (λ (o : Option Search). seek_act (mode_in o x.state.prompt) step (input_in o x.state.prompt)) is ∙ ap (λ (a : Aim). seek_act (aim_mode a) step (aim_input a)) of_s)
     aims s (Replace r) is of_s h = cc
 
-    by : (o : Option Search) → x.state.search ≡ o → is_finding o ≡ true → (s : Search) × (f : Sought) × (x.state.search ≡ Some s) × (s.aim ≡ Find f) × (seek_act (state_of x.state).mode step (state_of x.state).input ≡ Run (Move (SearchOn f.direction step)) None f.pattern)
+    by : (o : Option Search) → x.state.search ≡ o → is_finding o ≡ true → (s : Search) × (f : Sought) × (x.state.search ≡ Some s) × (s.aim ≡ Find f) × (seek_act (state_of x.state).mode step (state_of x.state).input ≡ Run (Seek (SearchOn f.direction step)) None f.pattern)
     by None is h = cc
     by (Some s) is h = aims s s.aim is refl h
 
 -- it is what the session at a place looks for
-pub seek_there : (xs : List Session) (at : ℕ) (step : SearchStep) → is_finding (search_held at xs) ≡ true → (s : Search) × (f : Sought) × (search_held at xs ≡ Some s) × (s.aim ≡ Find f) × (seek_act (state_at at xs).mode step (state_at at xs).input ≡ Run (Move (SearchOn f.direction step)) None f.pattern)
+pub seek_there : (xs : List Session) (at : ℕ) (step : SearchStep) → is_finding (search_held at xs) ≡ true → (s : Search) × (f : Sought) × (search_held at xs ≡ Some s) × (s.aim ≡ Find f) × (seek_act (state_at at xs).mode step (state_at at xs).input ≡ Run (Seek (SearchOn f.direction step)) None f.pattern)
 seek_there xs at step h = seek_found (slice_get xs at) step h
 
 -- or what it replaces
@@ -168,50 +169,50 @@ pub acted_byte_act : (touched : Touched) (old new : World) (before after : Store
 acted_byte_act touched old new before after id state b byte_act a is did = subst (λ (e : ByteAct). DoneBy touched (deciding_world b e id old) new before after id (model_act state b e)) (sym is) did
 
 pub skipped_quietly : (old new : World) (t : StoreTold) (id : ℕ) (xs : List Session) (at : ℕ) (b : Before) (byte_act : ByteAct) → byte_act ≡ byte_acts.Skip → IsReady byte_act (search_held at xs) (state_at at xs)
-    → ((s : Search) (r : Replacing) → search_held at xs ≡ Some s → s.aim ≡ Replace r → new ≡ act old id (Run (Move SkipMatch) None r.put) true) → DoneBy Nowhere (deciding_world b byte_act id old) new t t id (model_act (state_at at xs) b byte_act)
+    → ((s : Search) (r : Replacing) → search_held at xs ≡ Some s → s.aim ≡ Replace r → new ≡ act old id (Run (Seek SkipMatch) None r.put) true) → DoneBy Nowhere (deciding_world b byte_act id old) new t t id (model_act (state_at at xs) b byte_act)
 skipped_quietly old new t id xs at b byte_act is ready world =
     let there = replace_there xs at (subst (λ (e : ByteAct). IsReady e (search_held at xs) (state_at at xs)) is ready) in
     let put = there.1.put in
     subst (λ (e : ByteAct). DoneBy Nowhere (deciding_world b e id old) new t t id (model_act (state_at at xs) b e)) (sym is)
-    (subst (λ (put : List ℕ). DoneBy Nowhere old new t t id (Run (Move SkipMatch) None put)) (sym there.4)
-    (quietly Nowhere old new t id (Run (Move SkipMatch) None put) refl (world there.0 there.1 there.2 there.3) (sym (quiet_motion old id None put true SkipMatch))))
+    (subst (λ (put : List ℕ). DoneBy Nowhere old new t t id (Run (Seek SkipMatch) None put)) (sym there.4)
+    (quietly Nowhere old new t id (Run (Seek SkipMatch) None put) refl (world there.0 there.1 there.2 there.3) (sym (quiet_seeking old id None put true SkipMatch))))
 
 pub replaced_quietly : (touched : Touched) (old new : World) (t : StoreTold) (id : ℕ) (xs : List Session) (at : ℕ) (b : Before) (byte_act : ByteAct) (last : Bool) → byte_act ≡ byte_acts.Replace last → IsReady byte_act (search_held at xs) (state_at at xs)
-    → ((s : Search) (r : Replacing) → search_held at xs ≡ Some s → s.aim ≡ Replace r → new ≡ act old id (Run (Alter (replacement last)) None r.put) true)
-    → ((s : Search) (r : Replacing) → search_held at xs ≡ Some s → s.aim ≡ Replace r → touched ≡ touched_in (outcome_in old id (Run (Alter (replacement last)) None r.put) true))
+    → ((s : Search) (r : Replacing) → search_held at xs ≡ Some s → s.aim ≡ Replace r → new ≡ act old id (Run (commands.Replace (replacement last)) None r.put) true)
+    → ((s : Search) (r : Replacing) → search_held at xs ≡ Some s → s.aim ≡ Replace r → touched ≡ touched_in (outcome_in old id (Run (commands.Replace (replacement last)) None r.put) true))
     → DoneBy touched (deciding_world b byte_act id old) new t t id (model_act (state_at at xs) b byte_act)
 replaced_quietly touched old new t id xs at b byte_act last is ready world tells =
     let there = replace_there xs at (subst (λ (e : ByteAct). IsReady e (search_held at xs) (state_at at xs)) is ready) in
     subst (λ (e : ByteAct). DoneBy touched (deciding_world b e id old) new t t id (model_act (state_at at xs) b e)) (sym is)
-    (subst (λ (put : List ℕ). DoneBy touched old new t t id (Run (Alter (replacement last)) None put)) (sym there.4)
-    (quietly touched old new t id (Run (Alter (replacement last)) None there.1.put) refl (world there.0 there.1 there.2 there.3) (tells there.0 there.1 there.2 there.3)))
+    (subst (λ (put : List ℕ). DoneBy touched old new t t id (Run (commands.Replace (replacement last)) None put)) (sym there.4)
+    (quietly touched old new t id (Run (commands.Replace (replacement last)) None there.1.put) refl (world there.0 there.1 there.2 there.3) (tells there.0 there.1 there.2 there.3)))
 
 pub replaced_may : (w : World) (id : ℕ) (xs : List Session) (at : ℕ) (b : Before) (byte_act : ByteAct) (last : Bool) → byte_act ≡ byte_acts.Replace last → IsReady byte_act (search_held at xs) (state_at at xs)
-    → ((s : Search) (r : Replacing) → search_held at xs ≡ Some s → s.aim ≡ Replace r → may_be_refused (outcome_in w id (Run (Alter (replacement last)) None r.put) true) ≡ true) → may_be_refused (outcome_in w id (model_act (state_at at xs) b byte_act) true) ≡ true
+    → ((s : Search) (r : Replacing) → search_held at xs ≡ Some s → s.aim ≡ Replace r → may_be_refused (outcome_in w id (Run (commands.Replace (replacement last)) None r.put) true) ≡ true) → may_be_refused (outcome_in w id (model_act (state_at at xs) b byte_act) true) ≡ true
 replaced_may w id xs at b byte_act last is ready may =
     let there = replace_there xs at (subst (λ (e : ByteAct). IsReady e (search_held at xs) (state_at at xs)) is ready) in
     ap (λ (e : ByteAct). may_be_refused (outcome_in w id (model_act (state_at at xs) b e) true)) is
-    ∙ ap (λ (put : List ℕ). may_be_refused (outcome_in w id (Run (Alter (replacement last)) None put) true)) there.4
+    ∙ ap (λ (put : List ℕ). may_be_refused (outcome_in w id (Run (commands.Replace (replacement last)) None put) true)) there.4
     ∙ may there.0 there.1 there.2 there.3
 
 pub started_replacing : (old new : World) (t : StoreTold) (id : ℕ) (state : model.State) (b : Before) (byte_act : ByteAct) (p : PromptInput) (pattern put : List ℕ) → byte_act ≡ byte_acts.StartReplacing → p ≡ asked_of b → pattern ≡ p.first → put ≡ p.input
-    → new ≡ act (with_state id (replacing_state pattern put) old) id (Run (Move StartReplace) None put) true → DoneBy Nowhere (deciding_world b byte_act id old) new t t id (model_act state b byte_act)
+    → new ≡ act (with_state id (replacing_state pattern put) old) id (Run (Seek StartReplace) None put) true → DoneBy Nowhere (deciding_world b byte_act id old) new t t id (model_act state b byte_act)
 started_replacing old new t id state b byte_act p pattern put is asked first input world =
     let f : List ℕ = (asked_of b).first in
     let v : World = with_state id (replacing_state pattern put) old in
     subst (λ (e : ByteAct). DoneBy Nowhere (deciding_world b e id old) new t t id (model_act state b e)) (sym is)
-    (subst (λ (xs : List ℕ). DoneBy Nowhere (with_state id (replacing_state f xs) old) new t t id (Run (Move StartReplace) None xs)) (input ∙ ap (λ (q : PromptInput). q.input) asked)
-    (subst (λ (xs : List ℕ). DoneBy Nowhere (with_state id (replacing_state xs put) old) new t t id (Run (Move StartReplace) None put)) (first ∙ ap (λ (q : PromptInput). q.first) asked)
-    (quietly Nowhere v new t id (Run (Move StartReplace) None put) refl world (sym (quiet_motion v id None put true StartReplace)))))
+    (subst (λ (xs : List ℕ). DoneBy Nowhere (with_state id (replacing_state f xs) old) new t t id (Run (Seek StartReplace) None xs)) (input ∙ ap (λ (q : PromptInput). q.input) asked)
+    (subst (λ (xs : List ℕ). DoneBy Nowhere (with_state id (replacing_state xs put) old) new t t id (Run (Seek StartReplace) None put)) (first ∙ ap (λ (q : PromptInput). q.first) asked)
+    (quietly Nowhere v new t id (Run (Seek StartReplace) None put) refl world (sym (quiet_seeking v id None put true StartReplace)))))
 
 pub sought_quietly : (old new : World) (t : StoreTold) (id : ℕ) (xs : List Session) (at : ℕ) (b : Before) (byte_act : ByteAct) (step : SearchStep) → byte_act ≡ byte_acts.Seek step → IsReady byte_act (search_held at xs) (state_at at xs)
-    → ((s : Search) (f : Sought) → search_held at xs ≡ Some s → s.aim ≡ Find f → new ≡ act old id (Run (Move (SearchOn f.direction step)) None f.pattern) true) → DoneBy Nowhere (deciding_world b byte_act id old) new t t id (model_act (state_at at xs) b byte_act)
+    → ((s : Search) (f : Sought) → search_held at xs ≡ Some s → s.aim ≡ Find f → new ≡ act old id (Run (Seek (SearchOn f.direction step)) None f.pattern) true) → DoneBy Nowhere (deciding_world b byte_act id old) new t t id (model_act (state_at at xs) b byte_act)
 sought_quietly old new t id xs at b byte_act step is ready world =
     let there = seek_there xs at step (subst (λ (e : ByteAct). IsReady e (search_held at xs) (state_at at xs)) is ready) in
     let f = there.1 in
     subst (λ (e : ByteAct). DoneBy Nowhere (deciding_world b e id old) new t t id (model_act (state_at at xs) b e)) (sym is)
     (subst (DoneBy Nowhere old new t t id) (sym there.4)
-    (quietly Nowhere old new t id (Run (Move (SearchOn f.direction step)) None f.pattern) refl (world there.0 f there.2 there.3) (sym (quiet_motion old id None f.pattern true (SearchOn f.direction step)))))
+    (quietly Nowhere old new t id (Run (Seek (SearchOn f.direction step)) None f.pattern) refl (world there.0 f there.2 there.3) (sym (quiet_seeking old id None f.pattern true (SearchOn f.direction step)))))
 
 pub quit_quietly : (old new : World) (t : StoreTold) (id : ℕ) (state : model.State) (b : Before) (byte_act : ByteAct) → byte_act ≡ byte_acts.QuitSearch → new ≡ act old id (Run LeaveSearch None []) true → DoneBy Nowhere (deciding_world b byte_act id old) new t t id (model_act state b byte_act)
 quit_quietly old new t id state b byte_act is world =
@@ -342,7 +343,7 @@ begun_byte_act : (w : World) (id : ℕ) (o : model.State) (b : Before) (byte_act
     → ActedBy (deciding_world b byte_act id (with_state id (λ was. o) w)) new before after id (model_act state b byte_act) → ActedBy (with_state id (λ was. deciding_state b byte_act o) w) new before after id (model_act state b byte_act)
 begun_byte_act w id o b (byte_acts.Act a) state x new before after found none did = begun_act w id o a x new before after found did
 begun_byte_act w id o b byte_acts.StartReplacing state x new before after found none did =
-    subst (λ (v : World). ActedBy v new before after id (Run (Move StartReplace) None (asked_of b).input)) (begun_replacing w id o (asked_of b).first (asked_of b).input x found (none refl)) did
+    subst (λ (v : World). ActedBy v new before after id (Run (Seek StartReplace) None (asked_of b).input)) (begun_replacing w id o (asked_of b).first (asked_of b).input x found (none refl)) did
 begun_byte_act w id o b _ state x new before after found none did = did
 
 -- of the session h at the place, which the turn makes y, before an act

@@ -8,8 +8,8 @@ use Rattle.mgs_model.specs.View.{View}
 use Rattle.mgs_model.specs.Outcome.{Act, Run}
 use Rattle.mgs_model.specs.Acts.{without_all}
 use Rattle.mgs_model.specs.Events.{refused_state}
-use Rattle.mgs_model.specs.declared.session.Alteration.TheVariants.{ReplaceMatch}
-use Rattle.mgs_model.specs.declared.session.Command.TheVariants.{Alter}
+use Rattle.mgs_model.specs.declared.session.Replacement.TheVariants.{ReplaceMatch}
+use Rattle.mgs_model.specs.declared.session.Command.TheVariants as commands
 use Rattle.mgs_model.specs.declared.session.Mode.TheVariants.{Replacing}
 use Rattle.mgs_model.specs.Apply.{searches}
 use Rattle.mgs_model.specs.declared.search.Direction.{Direction}
@@ -284,7 +284,7 @@ module _ (d : Directory) (ks : List MarkedBuffer) (x y new : Session) (taken : y
         further = λ e. (refl, ap (λ (ts : List Todo). has_all (without_all ts)) (left ∙ todo) ∙ rest);
       }
     where
-      or_true : (plays : Bool) → is_quiet plays (Run (Alter ReplaceMatch) None (state_of new.state).input) ≡ true
+      or_true : (plays : Bool) → is_quiet plays (Run (commands.Replace ReplaceMatch) None (state_of new.state).input) ≡ true
       or_true true = refl
       or_true false = refl
 

@@ -28,15 +28,12 @@ use Rattle.mgs_world.specs.Worlds.{aim_old, buffers_of, state_at, session_id, wo
 use Rattle.mgs_core.specs.declared.byte_acts.Before.{Before}
 use Rattle.mgs_core.specs.declared.byte_acts.ByteAct.{ByteAct}
 use Rattle.mgs_core.specs.Held.{AreSettled}
-use Rattle.mgs_act.specs.Doing.{DoneBy, IsRefusable}
+use Rattle.mgs_act.specs.Doing.{DoneBy}
+use Rattle.mgs_world.specs.Acted.{IsRefusable}
 use Rattle.mgs_core.specs.KeyActs.{started_by, started_world}
 use Rattle.mgs_core.specs.Calls.{IsStill, KeyedBy, closed, differs_at}
 use Rattle.mgs_core.specs.ByteActs.{before_of, deciding_world, is_replacement, may_want_memory, model_act, world_back}
 use Rattle.mgs_core.specs.Turns.{EventBy, IsLess, TurnedBy, is_played}
-
--- the world is as it was
-abbrev pub IsSameWorld : Directory → List MarkedBuffer → List MarkedBuffer → List Session → List Session → Type 0
-IsSameWorld directory ks ls xs ys = (next : Option ℕ) → world_of directory ls ys next ≡ world_of directory ks xs next
 
 -- all that was not touched is as it was
 abbrev pub AreApart : Touched → ℕ → Directory → List MarkedBuffer → List MarkedBuffer → List Session → List Session → Type 0

@@ -3,14 +3,15 @@ use Rattle.std.specs.Prelude.{◌≡◌, ℕ, Bool, true, false, List, [], Optio
 use Rattle.mgs_model.specs.World as model
 use Rattle.mgs_model.specs.World.{World, Buffer, has_id}
 use Rattle.mgs_model.specs.Outcome.{Act, Run, Unbound}
-use Rattle.mgs_model.specs.Turns.{answered}
+use Rattle.mgs_model.specs.Turns.{command_for}
 use Rattle.mgs_model.specs.Apply.{change_first}
 use Rattle.mgs_model.specs.Events.{with_state}
 use Rattle.mgs_model.specs.declared.message.Message.TheVariants.{NoMemory, Silent}
-use Rattle.mgs_model.specs.declared.session.Command.TheVariants.{Alter, LeaveSearch, Move}
+use Rattle.mgs_model.specs.declared.session.Command.TheVariants as commands
+use Rattle.mgs_model.specs.declared.session.Command.TheVariants.{LeaveSearch, Seek}
 use Rattle.mgs_model.specs.declared.session.Mode.{Mode}
 use Rattle.mgs_model.specs.declared.session.Mode.TheVariants.{Prompt, Searching}
-use Rattle.mgs_model.specs.declared.session.Motion.TheVariants.{SearchOn, SkipMatch, StartReplace}
+use Rattle.mgs_model.specs.declared.session.Seeking.TheVariants.{SearchOn, SkipMatch, StartReplace}
 use Rattle.mgs_model.specs.declared.session.Question.TheVariants.{RunWhich}
 use Rattle.mgs_model.specs.declared.search.SearchStep.{SearchStep}
 use Rattle.mgs_model.specs.declared.session.Kind.{Kind}
@@ -48,18 +49,18 @@ asked_of _ = record { question = RunWhich; first = []; input = []; waiting = NoK
 
 -- a step of the search that goes on in a mode
 abbrev pub seek_act : Mode → SearchStep → List ℕ → Act
-seek_act (Searching d failing) step input = Run (Move (SearchOn d step)) None input
+seek_act (Searching d failing) step input = Run (Seek (SearchOn d step)) None input
 seek_act _ step input = Unbound
 
 -- which act of the model it is, by a session that holds this, where this was there before
 abbrev pub model_act : model.State → Before → ByteAct → Act
 model_act state b (byte_acts.Act a) = act_of a
-model_act state b (byte_acts.Answer n) = Run (answered (asked_of b).question) n (meant (asked_of b).question state.pattern (asked_of b).input)
+model_act state b (byte_acts.Answer n) = Run (command_for (asked_of b).question) n (meant (asked_of b).question state.pattern (asked_of b).input)
 model_act state b (byte_acts.Seek step) = seek_act state.mode step state.input
 model_act state b byte_acts.QuitSearch = Run LeaveSearch None []
-model_act state b byte_acts.StartReplacing = Run (Move StartReplace) None (asked_of b).input
-model_act state b (byte_acts.Replace last) = Run (Alter (replacement last)) None state.input
-model_act state b byte_acts.Skip = Run (Move SkipMatch) None state.input
+model_act state b byte_acts.StartReplacing = Run (Seek StartReplace) None (asked_of b).input
+model_act state b (byte_acts.Replace last) = Run (commands.Replace (replacement last)) None state.input
+model_act state b byte_acts.Skip = Run (Seek SkipMatch) None state.input
 
 -- the record with which it is decided, and the world in which it is: what begins has its mode
 abbrev pub deciding_state : Before → ByteAct → model.State → model.State

@@ -69,7 +69,8 @@ pub record IsAlone (p : Playing) : Type 0 where
 abbrev pub SearchStays : State → State → Type 0
 SearchStays old new = (bs : List Buffer) → search_of bs new.search ≡ cond (searches (state_of new).mode) (search_of bs old.search) None
 
--- A STEP of a session, which sees what is seen and to which this comes next
+-- A STEP of a session, which sees what is seen and to which this comes next. It `plays` what a macro has, or else does what was typed; and
+-- `Left` holds of what is left to do
 
 -- what the session holds changed alone
 pub record StepKept (Sees : View → Type 0) (comes : View → Turn) (Left : List Todo → Type 0) (old new : Session) : Type 0 where

@@ -3,9 +3,11 @@ use Rattle.std.specs.Prelude.{◌||◌, ℕ, Bool, Option, Some, None, is_some}
 use Rattle.mgs_model.specs.World.{World, State}
 use Rattle.mgs_model.specs.Events.{with_state}
 use Rattle.mgs_model.specs.declared.session.Command.{Command}
-use Rattle.mgs_model.specs.declared.session.Command.TheVariants.{Move, Ask}
+use Rattle.mgs_model.specs.declared.session.Command.TheVariants.{Move, Seek, Ask}
 use Rattle.mgs_model.specs.declared.session.Motion.{Motion}
-use Rattle.mgs_model.specs.declared.session.Motion.TheVariants.{GoToLine, StartSearch}
+use Rattle.mgs_model.specs.declared.session.Motion.TheVariants.{GoToLine}
+use Rattle.mgs_model.specs.declared.session.Seeking.{Seeking}
+use Rattle.mgs_model.specs.declared.session.Seeking.TheVariants.{StartSearch}
 use Rattle.mgs_model.specs.declared.search.Direction.{Direction}
 use Rattle.mgs_model.specs.declared.session.Question.TheVariants.{GoToWhich}
 use Rattle.mgs_plan.specs.declared.key_act.KeyAct.{KeyAct}
@@ -28,12 +30,12 @@ command_act (Move c) n = motion_act c n
 command_act c n = acts.Run c n
 
 -- the direction of a search that an act starts
-abbrev pub started_in_motion : Motion → Option Direction
-started_in_motion (StartSearch d) = Some d
-started_in_motion _ = None
+abbrev pub started_in : Seeking → Option Direction
+started_in (StartSearch d) = Some d
+started_in _ = None
 
 abbrev pub started_by : KeyAct → Option Direction
-started_by (acts.Run (Move c) n) = started_in_motion c
+started_by (acts.Run (Seek c) n) = started_in c
 started_by _ = None
 
 -- the acts that a server does

@@ -1,19 +1,19 @@
 // What a byte asks for: the act of a key, or of the answer to a prompt.
 ghost use Rattle.std.specs.Prelude.{◌≡◌, ◌<◌, None, IfOk, OnOk, OnErr, length, true};
-ghost use Rattle.mgs_act.specs.Doing.{IsRefusable};
 ghost use Rattle.mgs_plan.specs.Actions.{act_of};
 ghost use Rattle.mgs_plan.specs.Beginning.{search_held};
+ghost use Rattle.mgs_world.specs.Acted.{IsRefusable, IsSameWorld};
 ghost use Rattle.mgs_world.specs.Sound.{IsSound};
 ghost use Rattle.mgs_world.specs.Worlds.{idle, state_at};
-ghost use Rattle.mgs_core.specs.AtPlace.{IsKeyActDone, IsActDone, IsSameWorld, LeavesFewer};
-ghost use Rattle.mgs_core.specs.KeyActs.{is_acted, started_by, started_in_motion};
+ghost use Rattle.mgs_core.specs.AtPlace.{IsKeyActDone, IsActDone, LeavesFewer};
+ghost use Rattle.mgs_core.specs.KeyActs.{is_acted, started_by, started_in};
 ghost use Rattle.mgs_core.specs.ByteActs.{CanDo, IsReady, asked_of, before_of, model_act, is_asked, may_want_memory};
 
 use mgs_act::{act, answer};
 use mgs_buffers::Buffers;
 use mgs_marks::Marked;
 use mgs_mini::Prompt;
-use mgs_model::{Command, Direction, Motion, SearchStep, Short, Touched};
+use mgs_model::{Command, Direction, SearchStep, Seeking, Short, Touched};
 use mgs_plan::KeyAct;
 use mgs_policy::Directory;
 use mgs_seek::{quit_search, replace, search_on, skip, start_replacing, start_search};
@@ -77,12 +77,12 @@ fn asked(before: &Before) -> &Prompt
     }
 }
 
-/// The direction of a search that a motion starts.
-fn started_in_motion(motion: Motion) -> Option<Direction>
-    ensures { result ≡ started_in_motion motion }
+/// The direction of a search that a command of a search starts.
+fn started_in(seeking: Seeking) -> Option<Direction>
+    ensures { result ≡ started_in seeking }
 {
-    match motion {
-        Motion::StartSearch(direction) => Some(direction),
+    match seeking {
+        Seeking::StartSearch(direction) => Some(direction),
         _ => None,
     }
 }
@@ -93,7 +93,7 @@ fn started_by(done: KeyAct) -> Option<Direction>
 {
     match done {
         KeyAct::Run(command, _) => match command {
-            Command::Move(motion) => started_in_motion(motion),
+            Command::Seek(seeking) => started_in(seeking),
             _ => None,
         },
         KeyAct::Unbound => None,

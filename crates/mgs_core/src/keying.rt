@@ -36,6 +36,7 @@ fn line_act(argument: Option<usize>) -> KeyAct
     }
 }
 
+/// What a motion comes to with an argument.
 fn motion_act(motion: Motion, argument: Option<usize>) -> KeyAct
     ensures { result ≡ motion_act motion argument }
 {

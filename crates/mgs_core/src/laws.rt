@@ -1,7 +1,6 @@
 // Laws of what is done. They are about the definitions that `Core` meets, so these calls take nothing and do nothing.
-ghost use Rattle.mgs_model.specs.Events.{SettledStays};
 ghost use Rattle.mgs_laws.specs.Holder.{KillStays, RulesKeepKills};
-ghost use Rattle.mgs_laws.specs.Lawful.{OutcomesAreLawful};
+ghost use Rattle.mgs_laws.specs.Lawful.{OutcomesAreLawful, SettledStays};
 
 /// Settling is done once: what is settled stays as it is when it settles again.
 pub fn settled_stays()

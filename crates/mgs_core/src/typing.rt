@@ -338,7 +338,7 @@ fn hold_sought(
     );
 }
 
-/// What a byte asks of a query-replace.
+/// What a query-replace is asked for.
 #[derive(Clone, Copy)]
 pub enum ReplaceKey {
     /// The match is replaced.
@@ -357,6 +357,7 @@ pub enum ReplaceKey {
     Other,
 }
 
+/// What a byte asks of a query-replace.
 fn replace_key(byte: u8) -> ReplaceKey
     ensures { result ≡ replace_key byte }
 {

@@ -1,7 +1,7 @@
 -- What a plan says: each is read as a plan of the model, given the text and the kill buffer that it is for.
-use Rattle.std.specs.Prelude.{◌≡◌, ℕ, ◌+◌, ◌-◌, ◌≤◌, Bool, true, false, not, List, [], ◌++◌, length, nat_lt, replicate, slice_range, Option, Some, None, Result, Ok, Err, if◌then◌else◌}
+use Rattle.std.specs.Prelude.{◌≡◌, ℕ, ◌+◌, ◌-◌, ◌≤◌, Bool, not, List, [], ◌++◌, length, nat_lt, replicate, slice_range, Option, Some, None, Result, Ok, Err, if◌then◌else◌}
 use Rattle.std.specs.List.{repeat}
-use Rattle.mgs_model.specs.Outcome.{PointPlan, Keep, At, MarkPlan, Keep_mark, Mark_at, KillPlan, Keep_kill, Kill_is, Keep_search}
+use Rattle.mgs_model.specs.Outcome.{PointPlan, Keep_position, At, MarkPlan, Keep_mark, Mark_at, KillPlan, Keep_kill, Kill_is}
 use Rattle.mgs_model.specs.Whites.{is_between, refilled}
 use Rattle.mgs_model.specs.Cases.{uppercased, lowercased, capitalized}
 use Rattle.mgs_model.specs.Plans as model
@@ -11,10 +11,6 @@ use Rattle.mgs_model.specs.declared.message.Message.{Message}
 use Rattle.mgs_model.specs.declared.message.Message.TheVariants.{Silent}
 use Rattle.mgs_model.specs.declared.session.Kind.{Kind}
 use Rattle.mgs_model.specs.declared.session.Kind.TheVariants.{Other, Kill}
-use Rattle.mgs_model.specs.declared.session.Motion.{Motion}
-use Rattle.mgs_model.specs.declared.session.Motion.TheVariants.{StartSearch, SearchOn, SearchFor, StartReplace, SkipMatch}
-use Rattle.mgs_model.specs.declared.session.Alteration.{Alteration}
-use Rattle.mgs_model.specs.declared.session.Alteration.TheVariants.{ReplaceMatch, ReplaceLast}
 use Rattle.mgs_edit.specs.declared.plan.Around.{Around}
 use Rattle.mgs_edit.specs.declared.plan.Goes.{Goes}
 use Rattle.mgs_edit.specs.declared.plan.Goes.TheVariants.{Stays, To, Behind}
@@ -58,7 +54,7 @@ put_read text kill (Filled a b fill len) = refilled fill (slice_range text a b)
 
 -- behind is where what is put in ends
 abbrev pub point_read : ℕ → Goes → PointPlan
-point_read behind Stays = Keep
+point_read behind Stays = Keep_position
 point_read behind (To p) = At p
 point_read behind Behind = At behind
 
@@ -67,7 +63,7 @@ mark_read None = Keep_mark
 mark_read (Some p) = Mark_at p
 
 abbrev pub top_read : Option ℕ → PointPlan
-top_read None = Keep
+top_read None = Keep_position
 top_read (Some p) = At p
 
 abbrev pub kill_joined : Joins → List ℕ → List ℕ → List ℕ
@@ -85,12 +81,9 @@ finish_read text kill behind f =
       point = point_read behind f.point;
       mark = mark_read f.mark;
       top = top_read f.top;
-      sought = Keep_search;
       kill = kill_read text kill f.kill;
       kind = f.kind;
       told = f.told;
-      replaced = 0;
-      mode = model.Goes_on;
     }
 
 abbrev pub change_read : List ℕ → List ℕ → Change → model.Change
@@ -206,24 +199,7 @@ IsTooLong size c killed answer =
 abbrev pub IsUndoTooLong : ℕ → Undone → Bool → Type 0
 IsUndoTooLong size u answer = (removed : List ℕ) → length removed ≡ u.len → answer ≡ is_long size u.from (u.from + u.gone) removed
 
--- COMMANDS
-
--- the motions that are planned here; those of a search are not
-abbrev pub is_planned : Motion → Bool
-is_planned (StartSearch d) = false
-is_planned (SearchOn d step) = false
-is_planned (SearchFor d) = false
-is_planned StartReplace = false
-is_planned SkipMatch = false
-is_planned _ = true
-
--- the alterations that are
-abbrev pub is_alteration_planned : Alteration → Bool
-is_alteration_planned ReplaceMatch = false
-is_alteration_planned ReplaceLast = false
-is_alteration_planned _ = true
-
--- the point goes behind what is put in; no mark is set, the top stays, and nothing is killed
+-- WHAT AN INSERTION LEAVES: the point goes behind what is put in; no mark is set, the top stays, and nothing is killed
 pub record LeavesBehind (f : Finish) : Type 0 where
   pub point : f.point ≡ Behind
   pub mark : f.mark ≡ None

@@ -1,8 +1,8 @@
 // Commands that take out characters of a text, and put in others.
-ghost use Rattle.std.specs.Prelude.{◌≡◌, ℕ, ◌≤◌, ◌<◌, ◌^◌, List, length, IfOk, true};
+ghost use Rattle.std.specs.Prelude.{◌≡◌, ℕ, ◌≤◌, ◌<◌, ◌^◌, List, length, IfOk};
 ghost use Rattle.mgs_model.specs.Plans.{alteration, exchanged_at};
 ghost use Rattle.mgs_model.specs.declared.session.Alteration.TheVariants.{DeleteChar, DeleteBackwardChar, KillLine, KillWord, BackwardKillWord, KillRegion, TransposeChars};
-ghost use Rattle.mgs_edit.specs.Reading.{ChangeWithin, IsWithin, deleted, is_alteration_planned, killing, IsChange};
+ghost use Rattle.mgs_edit.specs.Reading.{ChangeWithin, IsWithin, deleted, killing, IsChange};
 
 use crate::around::{goes, is_at_end, is_at_start, joins_behind, joins_in_front, times};
 use crate::cases::{case_region, case_words};
@@ -166,7 +166,6 @@ pub fn alteration<T: Text>(
 ) -> Result<Change, Message>
     requires place { around.now.place ≤ length (T.text text.now) }
     requires mark { IsWithin (length (T.text text.now)) around.now.mark }
-    requires planned { is_alteration_planned command ≡ true }
     ensures plan { IsChange (alteration command) around.now (T.text text.now) result }
     ensures within { (kill : List ℕ) → IfOk result (ChangeWithin (T.text text.now) kill) }
 {
@@ -188,7 +187,5 @@ pub fn alteration<T: Text>(
         Alteration::DeleteBlankLines => Ok(delete_blank_lines(text, around)),
         Alteration::JoinLine => join_line(text, around),
         Alteration::FillParagraph => Ok(fill_paragraph(text, around)),
-        // Replacements have no planner here.
-        Alteration::ReplaceMatch | Alteration::ReplaceLast => Err(Message::KeyNotBound),
     }
 }

@@ -1,8 +1,8 @@
 // Motions, which edit nothing.
-ghost use Rattle.std.specs.Prelude.{◌≡◌, ◌≤◌, ◌<◌, ◌^◌, length, IfOk, true, Ok};
+ghost use Rattle.std.specs.Prelude.{◌≤◌, ◌<◌, ◌^◌, length, IfOk, Ok};
 ghost use Rattle.mgs_model.specs.Plans.{lined, motion};
 ghost use Rattle.mgs_model.specs.declared.session.Motion.TheVariants.{ForwardChar, BackwardChar, GoToLine, NextLine, PreviousLine, ForwardWord, BackwardWord, ForwardParagraph, BackwardParagraph, Recenter, WhatCursorPosition, ExchangePointAndMark, CopyRegion};
-ghost use Rattle.mgs_edit.specs.Reading.{FinishWithin, IsWithin, is_planned, IsMotion};
+ghost use Rattle.mgs_edit.specs.Reading.{FinishWithin, IsWithin, IsMotion};
 
 use crate::around::{goal, goes, is_at_end, is_at_start, joins_behind, times};
 use crate::plan::{Around, Finish, Piece, STAYS};
@@ -213,7 +213,6 @@ pub fn motion<T: Text>(text: &T, around: &Around, command: Motion) -> Result<Fin
     requires place { around.now.place ≤ length (T.text text.now) }
     requires mark { IsWithin (length (T.text text.now)) around.now.mark }
     requires short { length (T.text text.now) < 2 ^ 32 }
-    requires planned { is_planned command ≡ true }
     ensures plan { IsMotion (motion command) around.now (T.text text.now) result }
     ensures within { IfOk result (FinishWithin (length (T.text text.now)) (length (T.text text.now))) }
 {
@@ -244,11 +243,5 @@ pub fn motion<T: Text>(text: &T, around: &Around, command: Motion) -> Result<Fin
             ..goes(0)
         }),
         Motion::CopyRegion => copy_region(text, around),
-        // A search has planners of its own.
-        Motion::StartSearch(_)
-        | Motion::SearchOn(_, _)
-        | Motion::SearchFor(_)
-        | Motion::StartReplace
-        | Motion::SkipMatch => Err(Message::KeyNotBound),
     }
 }

@@ -1,9 +1,9 @@
 -- Worked plans of the commands on case, white space and filling, computed by the definitions.
-use Rattle.std.proofs.Common.{◌≡◌, ℕ, false, List, [], ◌∷◌, ◌++◌, Option, Some, None, refl}
+use Rattle.std.proofs.Common.{◌≡◌, ℕ, List, [], ◌∷◌, ◌++◌, Option, Some, None, refl}
 use Rattle.std.specs.Prelude.{Result, Ok, Err, codes, length}
 use Rattle.mgs_model.specs.Text.{edited}
 use Rattle.mgs_model.specs.Cells.{glyph}
-use Rattle.mgs_model.specs.Outcome.{PointPlan, Keep, At}
+use Rattle.mgs_model.specs.Outcome.{PointPlan, Keep_position, At}
 use Rattle.mgs_model.specs.Plans.{Around, Change, alteration}
 use Rattle.mgs_model.specs.declared.message.Message.{Message}
 use Rattle.mgs_model.specs.declared.message.Message.TheVariants.{BeginningOfBuffer, EndOfBuffer, NoMark}
@@ -20,10 +20,6 @@ around text place argument mark =
       serial = 0;
       place = place;
       mark = mark;
-      origin = 0;
-      anchor = 0;
-      sought_here = false;
-      old = [];
       argument = argument;
       typed = [];
       kill = [];
@@ -86,10 +82,10 @@ no_space : altered DeleteHorizontalSpace (codes "a" ++ 32 ∷ 9 ∷ 32 ∷ 10 �
 no_space = refl
 
 -- BLANK LINES: those behind a line, up to the last one's white
-below : altered DeleteBlankLines (codes "a" ++ 10 ∷ 32 ∷ 10 ∷ 10 ∷ codes "b") 0 None None ≡ Ok (record { text = codes "a" ++ 10 ∷ codes "b"; point = Keep })
+below : altered DeleteBlankLines (codes "a" ++ 10 ∷ 32 ∷ 10 ∷ 10 ∷ codes "b") 0 None None ≡ Ok (record { text = codes "a" ++ 10 ∷ codes "b"; point = Keep_position })
 below = refl
 
-none_below : altered DeleteBlankLines (codes "a" ++ 10 ∷ codes "b") 0 None None ≡ Ok (record { text = codes "a" ++ 10 ∷ codes "b"; point = Keep })
+none_below : altered DeleteBlankLines (codes "a" ++ 10 ∷ codes "b") 0 None None ≡ Ok (record { text = codes "a" ++ 10 ∷ codes "b"; point = Keep_position })
 none_below = refl
 
 -- around a blank one they become one, and one alone loses its white
@@ -120,5 +116,5 @@ just_filled : altered FillParagraph (codes "abc" ++ 10 ∷ codes "defghi" ++ 10 
 unfolding glyph
 just_filled = refl
 
-not_filled : altered FillParagraph (codes "a" ++ 10 ∷ codes "  " ++ 10 ∷ []) 3 None None ≡ Ok (record { text = codes "a" ++ 10 ∷ codes "  " ++ 10 ∷ []; point = Keep })
+not_filled : altered FillParagraph (codes "a" ++ 10 ∷ codes "  " ++ 10 ∷ []) 3 None None ≡ Ok (record { text = codes "a" ++ 10 ∷ codes "  " ++ 10 ∷ []; point = Keep_position })
 not_filled = refl

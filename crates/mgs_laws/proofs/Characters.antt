@@ -15,9 +15,9 @@ use Rattle.mgs_model.specs.declared.search.Direction.TheVariants.{Forward}
 use Rattle.mgs_model.specs.declared.message.Message.TheVariants.{Silent, Denied, BadName, BadEntry, KeyNotBound, NoBuffer, NoMatch, NoMemory, NotANumber, Quitting}
 use Rattle.mgs_model.specs.declared.entry.EntryFault.TheVariants.{Who}
 use Rattle.mgs_model.specs.declared.session.Mode.TheVariants.{Plain, Prompt, Searching, Replacing}
-use Rattle.mgs_model.specs.declared.session.Command.TheVariants.{Ask, Move, Set}
+use Rattle.mgs_model.specs.declared.session.Command.TheVariants.{Ask, Seek, Set}
 use Rattle.mgs_model.specs.declared.session.Setting.TheVariants.{CallMacro}
-use Rattle.mgs_model.specs.declared.session.Motion.TheVariants.{StartSearch}
+use Rattle.mgs_model.specs.declared.session.Seeking.TheVariants.{StartSearch}
 use Rattle.mgs_model.specs.declared.session.Question.TheVariants.{SwitchTo, GoToWhich, EntryToInsert, SearchWhat, ReplaceWhat}
 use Rattle.mgs_model.specs.declared.right.Right.TheVariants.{ReadData}
 use Rattle.mgs_model.specs.declared.entry.Decision.TheVariants.{NotGranted}
@@ -76,7 +76,7 @@ stopped = (refl, refl, refl, refl)
 -- INCREMENTAL SEARCH
 
 abbrev sought : List ℕ → World
-sought bytes = doing (notes (codes "aébé")) (C (Move (StartSearch Forward)) None ∷ typed bytes)
+sought bytes = doing (notes (codes "aébé")) (C (Seek (StartSearch Forward)) None ∷ typed bytes)
 
 -- it is looked for with its last byte
 found : (points (sought (0xC3 ∷ [])) ≡ Some (0 ∷ [])) × (lines (sought (0xC3 ∷ [])) ≡ Some (Some (codes "I-search: "))) × (points (sought (0xC3 ∷ 0xA9 ∷ [])) ≡ Some (2 ∷ [])) × (lines (sought (0xC3 ∷ 0xA9 ∷ 19 ∷ [])) ≡ Some (Some (codes "I-search: é"))) × (points (sought (0xC3 ∷ 0xA9 ∷ 19 ∷ [])) ≡ Some (4 ∷ []))

@@ -14,11 +14,12 @@ use Rattle.mgs_model.specs.Events.{Open, run, turns, most_turns, path}
 use Rattle.mgs_laws.specs.Refusals.{refused_in, refused_act, may_be_refused}
 use Rattle.mgs_model.specs.declared.search.Direction.TheVariants.{Forward}
 use Rattle.mgs_model.specs.declared.message.Message.TheVariants.{NoMemory, Denied, InMacro, NoFurtherUndo, NoFile, Replaced, NoBuffer, NoSuchBuffer, Silent, KeyNotBound, Quitting, ImpossibleChange, NothingToYank, CharacterAt, BeginningOfBuffer}
-use Rattle.mgs_model.specs.declared.session.Command.TheVariants.{Insert, InsertReading, Move, Alter, Scroll, Set, Rearrange, Ask, Entries, UndoEdit, NotModified, SaveBuffer}
+use Rattle.mgs_model.specs.declared.session.Command.TheVariants.{Insert, InsertReading, Move, Alter, Seek, Scroll, Set, Rearrange, Ask, Entries, UndoEdit, NotModified, SaveBuffer}
 use Rattle.mgs_model.specs.declared.session.Insertion.TheVariants.{Yank}
 use Rattle.mgs_model.specs.declared.session.Scrolling.TheVariants.{ScrollUp, ScrollDown}
 use Rattle.mgs_model.specs.declared.session.ReadingInsertion.TheVariants.{NewlineAndIndent}
-use Rattle.mgs_model.specs.declared.session.Motion.TheVariants.{EndOfLine, NextLine, BufferEnd, WhatCursorPosition, SetMark, ExchangePointAndMark, MarkWholeBuffer, CopyRegion, StartSearch}
+use Rattle.mgs_model.specs.declared.session.Motion.TheVariants.{EndOfLine, NextLine, BufferEnd, WhatCursorPosition, SetMark, ExchangePointAndMark, MarkWholeBuffer, CopyRegion}
+use Rattle.mgs_model.specs.declared.session.Seeking.TheVariants.{StartSearch}
 use Rattle.mgs_model.specs.declared.session.Alteration.TheVariants.{DeleteChar, KillLine, KillWord, BackwardKillWord, KillRegion, TransposeChars, UpcaseWord}
 use Rattle.mgs_model.specs.declared.session.Setting.TheVariants.{StartMacro, CallMacro}
 use Rattle.mgs_model.specs.declared.session.Arrangement.TheVariants.{DeleteWindow, DeleteOtherWindows, SplitWindow, NextWindow, PreviousWindow, EnlargeWindow, ListBuffers}
@@ -246,16 +247,16 @@ unfolding turns path most_turns outcome next key_read
 anew = refl
 
 -- A SEARCH: two bytes of it, and a key that ends it and then moves on
-searched : points (doing (notes (codes "xabc")) (C (Move (StartSearch Forward)) None ∷ B 97 ∷ B 98 ∷ B 6 ∷ [])) ≡ Some (4 ∷ [])
+searched : points (doing (notes (codes "xabc")) (C (Seek (StartSearch Forward)) None ∷ B 97 ∷ B 98 ∷ B 6 ∷ [])) ≡ Some (4 ∷ [])
 unfolding turns path most_turns outcome next key_read
 searched = refl
 
-left_search : points (doing (notes (codes "xabc")) (B 6 ∷ C (Move (StartSearch Forward)) None ∷ B 98 ∷ B 7 ∷ [])) ≡ Some (1 ∷ [])
+left_search : points (doing (notes (codes "xabc")) (B 6 ∷ C (Seek (StartSearch Forward)) None ∷ B 98 ∷ B 7 ∷ [])) ≡ Some (1 ∷ [])
 unfolding turns path most_turns outcome next key_read
 left_search = refl
 
 -- the act that ends a search is refused: the search goes on as it was
-search_stays : points (doing (notes (codes "xabc")) (C (Move (StartSearch Forward)) None ∷ B 97 ∷ S 6 0 ∷ B 98 ∷ [])) ≡ Some (3 ∷ [])
+search_stays : points (doing (notes (codes "xabc")) (C (Seek (StartSearch Forward)) None ∷ B 97 ∷ S 6 0 ∷ B 98 ∷ [])) ≡ Some (3 ∷ [])
 unfolding turns path most_turns outcome next key_read
 search_stays = refl
 

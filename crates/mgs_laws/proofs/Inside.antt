@@ -3,7 +3,7 @@ use Rattle.std.proofs.Common.{[], ◌∷◌, ◌++◌, ◌≡◌, ℕ, zero, suc
 use Rattle.std.specs.Option.{option_map}
 use Rattle.mgs_model.specs.Names.{same_name}
 use Rattle.mgs_model.specs.World.{World, Buffer, Session, Window, Place, Search, State, Shows, Nothing, Buffer_of, Listing, List_of, is_named, has_id, find_session}
-use Rattle.mgs_model.specs.Outcome.{Act, Outcome, Effect, No_effect, Edit, Unmodified, SetList, SetOwners, Create, Kill, Save, Quit}
+use Rattle.mgs_model.specs.Outcome.{Act, Outcome, Effect, No_effect, Edit, Unmodified, Save}
 use Rattle.mgs_model.specs.Text.{shift, is_edit}
 use Rattle.mgs_model.specs.Apply.{change_first, buffers_after, buffer_edited, buffer_unmodified, is_in, session_after, session_arranged, window_moved, place_moved, search_moved, after_quit, apply, applied, outcome_in, act}
 use Rattle.mgs_model.specs.Turns.{Turn, Rest, Keep, Do}
@@ -40,11 +40,7 @@ buffers_inside shut No_effect p bs = refl
 buffers_inside shut (Edit n a b put) p bs = change_inside (erase shut) (is_named n) (buffer_edited a b put) bs (λ x e. edited_inside shut a b put x (inside_name shut n p x.name e))
 buffers_inside shut (Unmodified n) p bs = change_inside (erase shut) (is_named n) buffer_unmodified bs (λ x e. unmodified_inside (shut x.name) (inside_name shut n p x.name e) x)
 buffers_inside shut (Save n text) p bs = change_inside (erase shut) (is_named n) buffer_unmodified bs (λ x e. unmodified_inside (shut x.name) (inside_name shut n p x.name e) x)
-buffers_inside shut (SetList n l) p bs = absurd p
-buffers_inside shut (SetOwners n u) p bs = absurd p
-buffers_inside shut (Create n u) p bs = absurd p
-buffers_inside shut (Kill n) p bs = absurd p
-buffers_inside shut Quit p bs = absurd p
+buffers_inside shut _ p bs = absurd p
 
 -- where it is moved it is shut
 inside_choice : {A B : Type 0} (of : A → B) (f h : Bool) (made old : A) → (f ≡ true → h ≡ true) → (h ≡ true → of made ≡ of old) → of (cond f made old) ≡ of old
@@ -89,22 +85,14 @@ session_inside users shut No_effect p x = refl
 session_inside users shut (Edit n a b put) p x = edit_inside (users x.user) shut n a b put p x
 session_inside users shut (Unmodified n) p x = refl
 session_inside users shut (Save n text) p x = refl
-session_inside users shut (SetList n l) p x = absurd p
-session_inside users shut (SetOwners n u) p x = absurd p
-session_inside users shut (Create n u) p x = absurd p
-session_inside users shut (Kill n) p x = absurd p
-session_inside users shut Quit p x = absurd p
+session_inside users shut _ p x = absurd p
 
 quit_inside : (shut : List ℕ → Bool) (e : Effect) → InsideEffect shut e → (id : ℕ) (xs : List Session) → after_quit e id xs ≡ xs
 quit_inside shut No_effect p id xs = refl
 quit_inside shut (Edit n a b put) p id xs = refl
 quit_inside shut (Unmodified n) p id xs = refl
 quit_inside shut (Save n text) p id xs = refl
-quit_inside shut (SetList n l) p id xs = absurd p
-quit_inside shut (SetOwners n u) p id xs = absurd p
-quit_inside shut (Create n u) p id xs = absurd p
-quit_inside shut (Kill n) p id xs = absurd p
-quit_inside shut Quit p id xs = absurd p
+quit_inside shut _ p id xs = absurd p
 
 not_true : (c : Bool) → not c ≡ true → c ≡ false
 not_true true e = sym e

@@ -1,5 +1,6 @@
 pub mod After
 mod Edits
+mod Erasing
 pub mod Hide
 pub mod Redacted
 pub mod Acting

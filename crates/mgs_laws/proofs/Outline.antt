@@ -3,16 +3,17 @@ use Rattle.std.proofs.Common.{◌≡◌, ℕ, zero, suc, List, [], ◌∷◌, le
 use Rattle.std.specs.List.{list_any}
 use Rattle.std.specs.Option.{option_map}
 use Rattle.mgs_model.specs.Names.{same_name}
-use Rattle.mgs_model.specs.Text.{shift, is_edit}
-use Rattle.mgs_model.specs.World.{World, Buffer, Session, Window, Place, Search, first_state, Shows, Nothing, Buffer_of, Listing, List_of, is_named, has_id}
-use Rattle.mgs_model.specs.Outcome.{Outcome, PointPlan, Keep, At, At_origin, MarkPlan, Keep_mark, Mark_at, SearchPlan, Keep_search, No_search, Begin, Anchor_at, Source, Old, Come, Slot, is_old, Arrange, Stay, Adjust, Slots, Effect, No_effect, Edit, Unmodified, SetList, SetOwners, Create, Kill, Save, Quit}
-use Rattle.mgs_model.specs.Apply.{owners_after, change_first, buffers_after, buffer_edited, buffer_unmodified, new_buffer, is_in, is_of, window_moved, place_moved, search_moved, session_moved, empty_window, window_without_buffer, is_searched, state_without_search, session_without_buffer, session_after, set_place, left_places, places_left, place_in, place_point, place_mark, comer, window_at, source_window, has_positions, origin_or, point_after, mark_after, row_after, window_adjusted, window_put, windows_arranged, places_arranged, selected_arranged, search_after, search_arranged, searches, kill_after, session_arranged, after_quit, sessions_after, apply}
+use Rattle.mgs_model.specs.Text.{shift}
+use Rattle.mgs_model.specs.World.{World, Buffer, Session, Window, Place, Search, State, first_state, Shows, Nothing, Buffer_of, Listing, List_of}
+use Rattle.mgs_model.specs.Outcome.{Outcome, PointPlan, Keep_position, At, At_origin, MarkPlan, Keep_mark, Mark_at, SearchPlan, Keep_search, No_search, Begin, Anchor_at, Source, Old, Come, Slot, is_old, Arrange, Stay, Adjust, Slots, Effect, Edit, Kill}
+use Rattle.mgs_model.specs.Apply.{owners_after, buffer_unmodified, is_in, is_of, window_moved, place_moved, search_moved, session_moved, empty_window, window_without_buffer, is_searched, state_without_search, session_without_buffer, session_after, set_place, left_places, places_left, place_in, place_point, place_mark, comer, window_at, source_window, has_positions, origin_or, point_after, mark_after, row_after, window_adjusted, window_put, windows_arranged, places_arranged, selected_arranged, search_after, search_arranged, searches, kill_after, session_arranged}
+use Rattle.mgs_model.specs.Events.{state_set}
 use Rattle.mgs_model.specs.declared.owners.Owners.{Owners}
 use Rattle.mgs_model.specs.declared.entry.Entry.{Entry}
-use Rattle.mgs_laws.proofs.After.{user_after}
 use Rattle.mgs_laws.proofs.Edits.{buffer_made, place_made, search_made, window_made}
+use Rattle.mgs_laws.proofs.Erasing.{IsErasing, IsForgetting}
 use Rattle.mgs_model.proofs.Moved.{same_choice}
-use Rattle.mgs_model.proofs.Blind.{Blind-map, Blind-change, Blind-change_at, Blind-append, Blind-remove, Blind-filter, map_both, map_fixed, same_names}
+use Rattle.mgs_model.proofs.Blind.{Blind-map, Blind-change_at, Blind-filter, map_both, map_fixed, same_names}
 
 -- THE OUTLINE
 
@@ -82,10 +83,6 @@ erase_made : (h : Bool) (a b : ℕ) (put : List ℕ) (x : Buffer) → erase_if h
 erase_made true a b put x = refl
 erase_made false a b put x = refl
 
-erase_edited : (shut : List ℕ → Bool) (a b : ℕ) (put : List ℕ) (x : Buffer) → erase shut (buffer_edited a b put x) ≡ erase shut (buffer_edited a b put (erase shut x))
-erase_edited shut a b put x =
-    same_choice (erase shut) (is_edit a b put) (buffer_made a b put x) x (buffer_made a b put (erase shut x)) (erase shut x) (erase_made (shut x.name) a b put x) (sym (erase_same shut x))
-
 erase_unmodified : (h : Bool) (x : Buffer) → erase_if h (buffer_unmodified x) ≡ erase_if h (buffer_unmodified (erase_if h x))
 erase_unmodified true x = refl
 erase_unmodified false x = refl
@@ -98,16 +95,17 @@ erase_owners_set : (h : Bool) (owners : Owners) (x : Buffer) → erase_if h (rec
 erase_owners_set true owners x = refl
 erase_owners_set false owners x = refl
 
-pub erase_effect : (shut : List ℕ → Bool) (e : Effect) (xs : List Buffer) → map (erase shut) (buffers_after e xs) ≡ map (erase shut) (buffers_after e (map (erase shut) xs))
-erase_effect shut No_effect xs = map_fixed (erase shut) (erase_same shut) xs
-erase_effect shut (Edit name a b put) xs = Blind-change (erase shut) (erase_same shut) (is_named name) (λ x. refl) (buffer_edited a b put) (erase_edited shut a b put) xs
-erase_effect shut (Unmodified name) xs = Blind-change (erase shut) (erase_same shut) (is_named name) (λ x. refl) buffer_unmodified (λ x. erase_unmodified (shut x.name) x) xs
-erase_effect shut (SetList name entries) xs = Blind-change (erase shut) (erase_same shut) (is_named name) (λ x. refl) (λ x. record x { entries = entries }) (λ x. erase_list_set (shut x.name) entries x) xs
-erase_effect shut (SetOwners name new) xs = Blind-change (erase shut) (erase_same shut) (is_named name) (λ x. refl) (λ x. record x { owners = owners_after new x.owners }) (λ x. erase_owners_set (shut x.name) (owners_after new x.owners) x) xs
-erase_effect shut (Create name owner) xs = Blind-append (erase shut) (erase_same shut) xs (new_buffer name owner) (new_buffer name owner) refl
-erase_effect shut (Kill name) xs = Blind-remove (erase shut) (erase_same shut) (is_named name) (λ x. refl) xs
-erase_effect shut (Save name text) xs = Blind-change (erase shut) (erase_same shut) (is_named name) (λ x. refl) buffer_unmodified (λ x. erase_unmodified (shut x.name) x) xs
-erase_effect shut Quit xs = map_fixed (erase shut) (erase_same shut) xs
+pub erase_erasing : (shut : List ℕ → Bool) → IsErasing (erase shut)
+erase_erasing shut =
+    record {
+      twice = erase_same shut;
+      name = λ x. refl;
+      seen = λ d user x. refl;
+      made = λ a b put x. erase_made (shut x.name) a b put x;
+      unmodified = λ x. erase_unmodified (shut x.name) x;
+      listed = λ entries x. erase_list_set (shut x.name) entries x;
+      owned = λ new x. erase_owners_set (shut x.name) (owners_after new x.owners) x;
+    }
 
 -- FORGETTING TWICE
 
@@ -115,10 +113,10 @@ forget_window_twice : (f : Bool) (x : Window) → forget_window_if f (forget_win
 forget_window_twice true x = refl
 forget_window_twice false x = refl
 
-pub forget_window_same : (shut : List ℕ → Bool) (x : Window) → forget_window shut (forget_window shut x) ≡ forget_window shut x
+forget_window_same : (shut : List ℕ → Bool) (x : Window) → forget_window shut (forget_window shut x) ≡ forget_window shut x
 forget_window_same shut x = forget_window_twice (shows_shut shut x.shows) x
 
-pub forget_windows : (shut : List ℕ → Bool) (xs : List Window) → map (forget_window shut) xs ≡ map (forget_window shut) (map (forget_window shut) xs)
+forget_windows : (shut : List ℕ → Bool) (xs : List Window) → map (forget_window shut) xs ≡ map (forget_window shut) (map (forget_window shut) xs)
 forget_windows shut xs = map_fixed (forget_window shut) (forget_window_same shut) xs
 
 forget_place_twice : (f : Bool) (x : Place) → forget_place_if f (forget_place_if f x) ≡ forget_place_if f x
@@ -139,7 +137,7 @@ pub forget_search_same : (shut : List ℕ → Bool) (o : Option Search) → forg
 forget_search_same shut None = refl
 forget_search_same shut (Some x) = ap Some (forget_search_twice (shut x.name) x)
 
-pub forget_twice : (o : Bool) (shut : List ℕ → Bool) (x : Session) → forget_if o shut x ≡ forget_if o shut (forget_if o shut x)
+forget_twice : (o : Bool) (shut : List ℕ → Bool) (x : Session) → forget_if o shut x ≡ forget_if o shut (forget_if o shut x)
 forget_twice true shut x =
     λ i. record x {
       windows = forget_windows shut x.windows i;
@@ -147,9 +145,6 @@ forget_twice true shut x =
       search = sym (forget_search_same shut x.search) i;
     }
 forget_twice false shut x = refl
-
-pub forget_same : (users shut : List ℕ → Bool) (x : Session) → forget users shut (forget users shut x) ≡ forget users shut x
-forget_same users shut x = sym (forget_twice (users x.user) shut x)
 
 -- POSITIONS THAT GO BY AN EFFECT
 
@@ -214,13 +209,7 @@ forget_session_without_buffer true shut name x =
 forget_after : (o : Bool) (shut : List ℕ → Bool) (e : Effect) (x : Session) → forget_if o shut (session_after e x) ≡ forget_if o shut (session_after e (forget_if o shut x))
 forget_after o shut (Edit name a b put) x = forget_moved_session o shut name (shift a b (length put)) x
 forget_after o shut (Kill name) x = forget_session_without_buffer o shut name x
-forget_after o shut No_effect x = forget_twice o shut x
-forget_after o shut (Unmodified name) x = forget_twice o shut x
-forget_after o shut (SetList name entries) x = forget_twice o shut x
-forget_after o shut (SetOwners name new) x = forget_twice o shut x
-forget_after o shut (Create name owner) x = forget_twice o shut x
-forget_after o shut (Save name text) x = forget_twice o shut x
-forget_after o shut Quit x = forget_twice o shut x
+forget_after o shut _ x = forget_twice o shut x
 
 -- THE ACTING SESSION
 
@@ -253,7 +242,7 @@ places_left_forget shut i slots (x ∷ xs) ps qs e =
     choose true = e
     choose false = left_forget shut x ps qs e
 
-cond_twice : {A : Type 0} (f : Bool) (z x : A) → cond f z x ≡ cond f z (cond f z x)
+pub cond_twice : {A : Type 0} (f : Bool) (z x : A) → cond f z x ≡ cond f z (cond f z x)
 cond_twice true z x = refl
 cond_twice false z x = refl
 
@@ -302,7 +291,7 @@ origin_forget shut Listing (Some s) old = refl
 origin_forget shut (List_of m) (Some s) old = refl
 
 positions_forget : (shut : List ℕ → Bool) (shows : Shows) (search : Option Search) (plan : PointPlan) (old : ℕ) → cond (shows_shut shut shows) 0 (point_after shows search plan old) ≡ cond (shows_shut shut shows) 0 (point_after shows (forget_search shut search) plan (cond (shows_shut shut shows) 0 old))
-positions_forget shut shows search Keep old = cond_twice (shows_shut shut shows) 0 old
+positions_forget shut shows search Keep_position old = cond_twice (shows_shut shut shows) 0 old
 positions_forget shut shows search (At p) old = at_one (shows_shut shut shows) (has_positions shows)
   where
     at_one : (f c : Bool) → cond f 0 (cond c p old) ≡ cond f 0 (cond c p (cond f 0 old))
@@ -392,7 +381,7 @@ search_arranged_forget shut Stay x = sym (forget_search_same shut x.search)
 search_arranged_forget shut (Adjust point mark top row sought) x = search_after_forget shut sought x.search
 search_arranged_forget shut (Slots slots selected sought) x = search_after_forget shut sought x.search
 
-pub search_if_forget : (c : Bool) (shut : List ℕ → Bool) (x y : Option Search) → forget_search shut x ≡ forget_search shut y → forget_search shut (cond c x None) ≡ forget_search shut (cond c y None)
+search_if_forget : (c : Bool) (shut : List ℕ → Bool) (x y : Option Search) → forget_search shut x ≡ forget_search shut y → forget_search shut (cond c x None) ≡ forget_search shut (cond c y None)
 search_if_forget true shut x y e = e
 search_if_forget false shut x y e = refl
 
@@ -414,30 +403,22 @@ forget_arranged true shut p x =
 
 -- EVERY SESSION
 
-forget_session_after : (users shut : List ℕ → Bool) (e : Effect) (x : Session) → forget users shut (session_after e x) ≡ forget users shut (session_after e (forget users shut x))
-forget_session_after users shut e x =
-    ap (λ u. forget_if (users u) shut (session_after e x)) (user_after e x)
-    ∙ forget_after (users x.user) shut e x
-    ∙ ap (λ u. forget_if (users u) shut (session_after e (forget users shut x))) (sym (user_after e (forget users shut x)))
+forget_state : (o : Bool) (shut : List ℕ → Bool) (f : State → State) (x : Session) → forget_if o shut (state_set f x) ≡ forget_if o shut (state_set f (forget_if o shut x))
+forget_state false shut f x = refl
+forget_state true shut f x =
+    λ i. record (state_set f x) {
+      windows = forget_windows shut x.windows i;
+      places = forget_places shut x.places i;
+      search = search_if_forget (searches (f x.state).mode) shut x.search (forget_search shut x.search) (sym (forget_search_same shut x.search)) i;
+    }
 
-forget_quit : (users shut : List ℕ → Bool) (e : Effect) (id : ℕ) (xs : List Session) → map (forget users shut) (after_quit e id xs) ≡ map (forget users shut) (after_quit e id (map (forget users shut) xs))
-forget_quit users shut Quit id xs = Blind-filter (forget users shut) (forget_same users shut) (λ x. not (has_id id x)) (λ x. refl) xs
-forget_quit users shut _ id xs = map_fixed (forget users shut) (forget_same users shut) xs
-
-forget_sessions : (users shut : List ℕ → Bool) (id : ℕ) (o : Outcome) (xs : List Session) → map (forget users shut) (sessions_after id o xs) ≡ map (forget users shut) (sessions_after id o (map (forget users shut) xs))
-forget_sessions users shut id o xs =
-    forget_quit users shut o.effect id (change_first (has_id id) (session_arranged o) (map (session_after o.effect) xs))
-    ∙ ap (λ ys. map (forget users shut) (after_quit o.effect id ys)) same
-    ∙ sym (forget_quit users shut o.effect id (change_first (has_id id) (session_arranged o) (map (session_after o.effect) (map (forget users shut) xs))))
-  where
-    blind : (ys : List Session) → map (forget users shut) (change_first (has_id id) (session_arranged o) ys) ≡ map (forget users shut) (change_first (has_id id) (session_arranged o) (map (forget users shut) ys))
-    blind ys = Blind-change (forget users shut) (forget_same users shut) (has_id id) (λ x. refl) (session_arranged o) (λ x. forget_arranged (users x.user) shut o x) ys
-
-    same : map (forget users shut) (change_first (has_id id) (session_arranged o) (map (session_after o.effect) xs)) ≡ map (forget users shut) (change_first (has_id id) (session_arranged o) (map (session_after o.effect) (map (forget users shut) xs)))
-    same =
-        blind (map (session_after o.effect) xs)
-        ∙ ap (λ ys. map (forget users shut) (change_first (has_id id) (session_arranged o) ys)) (Blind-map (forget users shut) (forget users shut) (session_after o.effect) (forget_session_after users shut o.effect) xs)
-        ∙ sym (blind (map (session_after o.effect) (map (forget users shut) xs)))
-
-pub outline_apply : (users shut : List ℕ → Bool) (w : World) (id : ℕ) (o : Outcome) → outline users shut (apply w id o) ≡ outline users shut (apply (outline users shut w) id o)
-outline_apply users shut w id o = λ i. record w { buffers = erase_effect shut o.effect w.buffers i; sessions = forget_sessions users shut id o w.sessions i }
+pub forgetting : (shut : List ℕ → Bool) → IsForgetting (λ o x. forget_if o shut x)
+forgetting shut =
+    record {
+      once = λ o x. forget_twice o shut x;
+      whose = λ o x. refl;
+      same_id = λ o x. refl;
+      state = λ o g x. forget_state o shut g x;
+      after = λ o e x. forget_after o shut e x;
+      arranged = λ o p x. forget_arranged o shut p x;
+    }

@@ -1,49 +1,21 @@
 -- Work inside closed buffers leaves no trace for users who have no right on them.
-use Rattle.std.proofs.Common.{◌≡◌, ℕ, zero, suc, ◌+◌, ◌-◌, List, [], ◌∷◌, length, map, find, not, refl, sym, ap, ◌∙◌, Bool, true, false, cond, ◌&&◌, nat_le, Option, Some, None, is_some}
-use Rattle.std.specs.Option.{option_map}
-use Rattle.std.specs.Prelude.{max}
-use Rattle.std.proofs.lemmas.List.{length-map}
-use Rattle.std.specs.Prelude.{if◌then◌else◌}
-use Rattle.mgs_model.specs.declared.errors.OpenFault.TheVariants.{NoUser, Size, Full}
-use Rattle.mgs_model.specs.declared.limits.TheConstants.{SESSION_LIMIT}
-use Rattle.mgs_model.specs.Access.{Directory, is_among}
-use Rattle.mgs_model.specs.World.{World, Buffer, Session, State, may, has_id, find_session, find_buffer}
-use Rattle.mgs_model.specs.Apply.{searches, without_session}
-use Rattle.mgs_model.specs.Events.{Event, Open, Byte, Close, settled, first_shows, new_session, is_open, is_size, can_open, session_fault, opened, Doing, turn_seen, turn_in, rests, state_set, with_state, turn, turns, most_turns, begun_state, begun, byte_done, step, run, turns_effects}
+use Rattle.std.proofs.Common.{◌≡◌, ℕ, zero, suc, ◌-◌, List, [], ◌∷◌, not, refl, sym, ap, ◌∙◌, Bool, true, false, cond, Option, Some, None}
+use Rattle.mgs_model.specs.World.{World, Session, find_session, find_buffer}
+use Rattle.mgs_model.specs.Apply.{without_session}
+use Rattle.mgs_model.specs.Events.{Event, Open, Byte, Close, settled, is_open, can_open, opened, Doing, turn_seen, turn_in, rests, turn, turns, most_turns, begun_state, begun, byte_done, step, run, turns_effects}
 use Rattle.mgs_model.proofs.Paths.{all_turns, turns_none, turns_step}
 use Rattle.mgs_laws.specs.Secrecy.{IsOf}
 use Rattle.mgs_laws.specs.Purging.{InsideAll, Closed, is_other, is_outside, purge, Inside, OthersInside, Purged}
-use Rattle.mgs_model.specs.declared.right.Right.TheVariants.{ReadAttributes}
-use Rattle.mgs_model.proofs.Blind.{Blind-change, Blind-filter, Blind-append, map_fixed, is_some_map}
-use Rattle.mgs_model.proofs.Firsts.{find-map}
-use Rattle.mgs_laws.proofs.Outline.{erase, forget_if, forget, outline, erase_same, forget_windows, forget_places, forget_search, forget_search_same, search_if_forget, forget_same, outline_apply}
-use Rattle.mgs_laws.proofs.Turning.{Erasure, state_same, SameDoings, turn_same}
-use Rattle.mgs_laws.proofs.Stepping.{the_world, at_rest, of_next, of_begun, closed, screens_seen}
-use Rattle.mgs_laws.proofs.Unseen.{Like, closed_like, find_forget, view_of_like, like_by}
+use Rattle.mgs_laws.proofs.Erasing.{closed}
+use Rattle.mgs_laws.proofs.Outline.{outline}
+use Rattle.mgs_laws.proofs.Turning.{state_same, SameDoings, turn_same}
+use Rattle.mgs_laws.proofs.Stepping.{the_world, at_rest, of_next, of_begun, screens_seen}
+use Rattle.mgs_laws.proofs.Unseen.{Like, closed_like, view_of_like, outlines}
 use Rattle.mgs_laws.proofs.Closing.{closed_with_state, closed_turn}
 use Rattle.mgs_laws.proofs.Inside.{other_with_state, with_state_inside, turns_inside}
 use Rattle.mgs_laws.proofs.Settling.{find_not_shut, settled_like, settled_step}
 
 -- THE TURNS OF THE USERS
-
-forget_state : (o : Bool) (shut : List ℕ → Bool) (f : State → State) (x : Session) → forget_if o shut (state_set f x) ≡ forget_if o shut (state_set f (forget_if o shut x))
-forget_state false shut f x = refl
-forget_state true shut f x =
-    λ i. record (state_set f x) {
-      windows = forget_windows shut x.windows i;
-      places = forget_places shut x.places i;
-      search = search_if_forget (searches (f x.state).mode) shut x.search (forget_search shut x.search) (sym (forget_search_same shut x.search)) i;
-    }
-
-outline_with_state : (users shut : List ℕ → Bool) (w : World) (id : ℕ) (f : State → State) → outline users shut (with_state id f w) ≡ outline users shut (with_state id f (outline users shut w))
-outline_with_state users shut w id f =
-    λ i. record w {
-      buffers = map_fixed (erase shut) (erase_same shut) w.buffers i;
-      sessions = Blind-change (forget users shut) (forget_same users shut) (has_id id) (λ x. refl) (state_set f) (λ x. forget_state (users x.user) shut f x) w.sessions i;
-    }
-
-outlines : (users shut : List ℕ → Bool) → Erasure (outline users shut)
-outlines users shut = record { applies = outline_apply users shut; keeps = outline_with_state users shut }
 
 abbrev LikeDoings : (List ℕ → Bool) → (List ℕ → Bool) → Doing → Doing → Type 0
 LikeDoings users shut d e = SameDoings (outline users shut) d e
@@ -55,7 +27,7 @@ turns_like (suc n) users shut id stored d e p h g =
     ap (λ (f : Doing). outline users shut f.world) (turns_step n id stored d)
     ∙ go (at_rest id d) (at_rest id e) (ap (λ v. rests (turn_seen v)) (view_of_like users shut d.world e.world id p.0 h g))
     (turns_like n users shut id stored (turn id stored d) (turn id stored e)
-    (turn_same (outline users shut) (outlines users shut) id stored d e p (view_of_like users shut d.world e.world id p.0 h g)) (closed_turn users shut id stored (turn_in d.world id) d.world d.memory g h) (of_next users id stored d g))
+    (turn_same (outline users shut) (outlines users shut).erasure id stored d e p (view_of_like users shut d.world e.world id p.0 h g)) (closed_turn users shut id stored (turn_in d.world id) d.world d.memory g h) (of_next users id stored d g))
     ∙ sym (ap (λ (f : Doing). outline users shut f.world) (turns_step n id stored e))
   where
     go : (c k : Bool) → c ≡ k → Like users shut (turns n id stored (turn id stored d)).world (turns n id stored (turn id stored e)).world → Like users shut (the_world (cond c d (turns n id stored (turn id stored d)))) (the_world (cond k e (turns n id stored (turn id stored e))))
@@ -71,50 +43,8 @@ turns_closed n users shut id stored d h g =
 
 -- A STEP OF THE USERS
 
-outline_closed : (users shut : List ℕ → Bool) (id : ℕ) (w : World) → outline users shut (closed id w) ≡ outline users shut (closed id (outline users shut w))
-outline_closed users shut id w =
-    λ i. record w {
-      buffers = map_fixed (erase shut) (erase_same shut) w.buffers i;
-      sessions = Blind-filter (forget users shut) (forget_same users shut) (λ x. not (has_id id x)) (λ x. refl) w.sessions i;
-    }
-
-shows_erase : (shut : List ℕ → Bool) (o : Option Buffer) → first_shows (option_map (erase shut) o) ≡ first_shows o
-shows_erase shut None = refl
-shows_erase shut (Some b) = refl
-
-new_erase : (shut : List ℕ → Bool) (d : Directory) (bs : List Buffer) (id : ℕ) (user : List ℕ) (rows cols : ℕ) → new_session d bs id user rows cols ≡ new_session d (map (erase shut) bs) id user rows cols
-new_erase shut d bs id user rows cols =
-    λ i. record (new_session d bs id user rows cols) {
-      windows = record { shows = sym (ap first_shows (find-map (erase shut) (may d user ReadAttributes) (may d user ReadAttributes) (λ b. refl) bs) ∙ shows_erase shut (find (may d user ReadAttributes) bs)) i; point = 0; mark = None; top = 0; row = 0; height = rows - 2 } ∷ [];
-    }
-
-outline_opened : (users shut : List ℕ → Bool) (id : ℕ) (user : List ℕ) (rows cols : ℕ) (w : World) → outline users shut (opened w id user rows cols) ≡ outline users shut (opened (outline users shut w) id user rows cols)
-outline_opened users shut id user rows cols w =
-    λ i. record w {
-      buffers = map_fixed (erase shut) (erase_same shut) w.buffers i;
-      sessions = Blind-append (forget users shut) (forget_same users shut) w.sessions (new_session w.directory w.buffers id user rows cols) (new_session w.directory (map (erase shut) w.buffers) id user rows cols) (ap (forget users shut) (new_erase shut w.directory w.buffers id user rows cols)) i;
-      next_id = max w.next_id (id + 1);
-    }
-
-is_open_like : (users shut : List ℕ → Bool) (w v : World) (id : ℕ) → Like users shut w v → is_open id w ≡ is_open id v
-is_open_like users shut w v id e = sym (one w) ∙ ap (λ x. is_open id x) e ∙ one v
-  where
-    one : (x : World) → is_some (find_session id (map (forget users shut) x.sessions)) ≡ is_open id x
-    one x = ap is_some (find_forget users shut id x.sessions) ∙ is_some_map (forget users shut) (find_session id x.sessions)
-
-length_like : (users shut : List ℕ → Bool) (w v : World) → Like users shut w v → length w.sessions ≡ length v.sessions
-length_like users shut w v e = sym (length-map w.sessions (forget users shut)) ∙ ap (λ x. length x.sessions) e ∙ length-map v.sessions (forget users shut)
-
-session_fault_like : (users shut : List ℕ → Bool) (w v : World) (user : List ℕ) (rows cols : ℕ) → Like users shut w v → session_fault w user rows cols ≡ session_fault v user rows cols
-session_fault_like users shut w v user rows cols e =
-    λ i. (if not (is_among user (e i).directory.users) then Some NoUser else if not (is_size rows cols) then Some Size else if nat_le SESSION_LIMIT (length_like users shut w v e i) then Some Full else None)
-
-can_open_like : (users shut : List ℕ → Bool) (w v : World) (id : ℕ) (user : List ℕ) (rows cols : ℕ) → Like users shut w v → can_open w id user rows cols ≡ can_open v id user rows cols
-can_open_like users shut w v id user rows cols e =
-    λ i. not (is_some (session_fault_like users shut w v user rows cols e i)) && not (is_open_like users shut w v id e i)
-
 begun_like : (users shut : List ℕ → Bool) (id byte : ℕ) (stop : Option ℕ) (w v : World) → Like users shut w v → LikeDoings users shut (begun w id byte stop) (begun v id byte stop)
-begun_like users shut id byte stop w v e = (state_same (outline users shut) (outlines users shut) w v id (begun_state byte) e, refl)
+begun_like users shut id byte stop w v e = (state_same (outline users shut) (outlines users shut).erasure w v id (begun_state byte) e, refl)
 
 of_inside : (users : List ℕ → Bool) (o : Option Session) → is_other users o ≡ false → IsOf users o
 of_inside users None e = tt
@@ -131,31 +61,16 @@ byte_like users shut w v id byte stored stop e h g =
 
 step_like : (users shut : List ℕ → Bool) (w v : World) (e : Event) → Like users shut w v → Closed users shut w → is_outside users w e ≡ false → Like users shut (step w e) (step v e)
 step_like users shut w v (Open id user rows cols) p h g =
-    choose (can_open w id user rows cols) (can_open v id user rows cols) (can_open_like users shut w v id user rows cols p)
-  where
-    choose : (c k : Bool) → c ≡ k → Like users shut (cond c (settled (opened w id user rows cols)) w) (cond k (settled (opened v id user rows cols)) v)
-    choose true true e =
-        settled_like users shut (opened w id user rows cols) (opened v id user rows cols)
-        (like_by users shut (λ x. opened x id user rows cols) w v p (outline_opened users shut id user rows cols w) (outline_opened users shut id user rows cols v))
-    choose false false e = p
-    choose true false e = cc
-    choose false true e = cc
+    (outlines users shut).open_same w v id user rows cols (λ e. settled_like users shut (opened w id user rows cols) (opened v id user rows cols) e) p
 step_like users shut w v (Byte id byte stored stop) p h g =
-    choose (is_open id w) (is_open id v) (is_open_like users shut w v id p)
+    choose (is_open id w) (is_open id v) ((outlines users shut).is_open_same w v id p)
   where
     choose : (c k : Bool) → c ≡ k → Like users shut (cond c (settled (byte_done w id byte stored stop)) w) (cond k (settled (byte_done v id byte stored stop)) v)
     choose true true e = byte_like users shut w v id byte stored stop p h (of_inside users (find_session id w.sessions) g)
     choose false false e = p
     choose true false e = cc
     choose false true e = cc
-step_like users shut w v (Close id) p h g =
-    choose (is_open id w) (is_open id v) (is_open_like users shut w v id p)
-  where
-    choose : (c k : Bool) → c ≡ k → Like users shut (cond c (settled (closed id w)) w) (cond k (settled (closed id v)) v)
-    choose true true e = settled_like users shut (closed id w) (closed id v) (like_by users shut (closed id) w v p (outline_closed users shut id w) (outline_closed users shut id v))
-    choose false false e = p
-    choose true false e = cc
-    choose false true e = cc
+step_like users shut w v (Close id) p h g = (outlines users shut).close_same w v id (λ e. settled_like users shut (closed id w) (closed id v) e) p
 
 closed_cond : (c : Bool) (users shut : List ℕ → Bool) (w v : World) → Closed users shut w → Closed users shut v → Closed users shut (cond c (settled v) w)
 closed_cond true users shut w v h k = record { there = k.there; no_rights = k.no_rights }

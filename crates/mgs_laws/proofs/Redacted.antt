@@ -1,15 +1,16 @@
 -- Erasing the tops of some windows: what an act does to the sessions is blind to them.
-use Rattle.std.proofs.Common.{◌≡◌, ℕ, zero, suc, List, [], ◌∷◌, length, map, not, refl, sym, ap, ◌∙◌, Bool, true, false, cond, Option, None}
+use Rattle.std.proofs.Common.{◌≡◌, ℕ, zero, suc, List, [], ◌∷◌, length, map, refl, sym, ap, ◌∙◌, Bool, true, false, cond, Option, None}
 use Rattle.std.specs.List.{list_any}
 use Rattle.mgs_model.specs.Text.{shift}
-use Rattle.mgs_model.specs.World.{Session, Window, Place, Search, has_id}
-use Rattle.mgs_model.specs.Outcome.{Outcome, PointPlan, MarkPlan, Source, Old, Come, Slot, is_old, Arrange, Stay, Adjust, Slots, Effect, No_effect, Edit, Unmodified, SetList, SetOwners, Create, Kill, Save, Quit}
-use Rattle.mgs_model.specs.Apply.{is_in, is_of, empty_window, window_moved, session_moved, window_without_buffer, session_without_buffer, session_after, left_places, places_left, window_at, source_window, window_adjusted, window_put, windows_arranged, places_arranged, selected_arranged, search_arranged, searches, kill_after, session_arranged, change_first, after_quit, sessions_after}
-use Rattle.mgs_laws.specs.Secrecy.{window_redacted, session_redacted_if, session_redacted}
-use Rattle.mgs_laws.proofs.After.{user_after}
+use Rattle.mgs_model.specs.Events.{state_set}
+use Rattle.mgs_model.specs.World.{State, Session, Window, Place, Search}
+use Rattle.mgs_model.specs.Outcome.{Outcome, PointPlan, MarkPlan, Source, Old, Come, Slot, is_old, Arrange, Stay, Adjust, Slots, Effect, Edit, Kill}
+use Rattle.mgs_model.specs.Apply.{is_in, is_of, empty_window, window_moved, session_moved, window_without_buffer, session_without_buffer, session_after, left_places, places_left, window_at, source_window, window_adjusted, window_put, windows_arranged, places_arranged, selected_arranged, search_arranged, searches, kill_after, session_arranged}
+use Rattle.mgs_laws.specs.Secrecy.{window_redacted, session_redacted_if}
 use Rattle.mgs_laws.proofs.Edits.{window_made}
+use Rattle.mgs_laws.proofs.Erasing.{IsForgetting}
 use Rattle.mgs_model.proofs.Moved.{same_choice}
-use Rattle.mgs_model.proofs.Blind.{Blind-map, Blind-change, Blind-change_at, Blind-filter, map_both, map_fixed}
+use Rattle.mgs_model.proofs.Blind.{Blind-map, Blind-change_at, map_both, map_fixed}
 
 window_redacted_twice : (o : Bool) (x : Window) → window_redacted o (window_redacted o x) ≡ window_redacted o x
 window_redacted_twice true x = refl
@@ -39,13 +40,7 @@ redacted_after o (Edit name a b put) x =
     }
 redacted_after o (Kill name) x =
     λ i. record (session_without_buffer name x) { windows = Blind-map (window_redacted o) (window_redacted o) (window_without_buffer name) (redacted_without_buffer o name) x.windows i }
-redacted_after o No_effect x = redacted_unmoved o x
-redacted_after o (Unmodified name) x = redacted_unmoved o x
-redacted_after o (SetList name entries) x = redacted_unmoved o x
-redacted_after o (SetOwners name new) x = redacted_unmoved o x
-redacted_after o (Create name owner) x = redacted_unmoved o x
-redacted_after o (Save name text) x = redacted_unmoved o x
-redacted_after o Quit x = redacted_unmoved o x
+redacted_after o _ x = redacted_unmoved o x
 
 -- THE ACTING SESSION
 
@@ -112,38 +107,10 @@ session_redacted_arranged o p x =
       state = p.state;
     }
 
--- EVERY SESSION
+redacted_state : (o : Bool) (f : State → State) (x : Session) → session_redacted_if o (state_set f x) ≡ session_redacted_if o (state_set f (session_redacted_if o x))
+redacted_state true f x = λ i. record (state_set f x) { windows = map_fixed (window_redacted true) (λ y. refl) x.windows i }
+redacted_state false f x = λ i. record (state_set f x) { windows = map_fixed (window_redacted false) (λ y. refl) x.windows i }
 
-pub session_redacted_same : (users : List ℕ → Bool) (x : Session) → session_redacted users (session_redacted users x) ≡ session_redacted users x
-session_redacted_same users x = sym (redacted_unmoved (users x.user) x)
-
-pub session_redacted_after : (users : List ℕ → Bool) (e : Effect) (x : Session) → session_redacted users (session_after e x) ≡ session_redacted users (session_after e (session_redacted users x))
-session_redacted_after users e x =
-    ap (λ u. session_redacted_if (users u) (session_after e x)) (user_after e x)
-    ∙ redacted_after (users x.user) e x
-    ∙ ap (λ u. session_redacted_if (users u) (session_after e (session_redacted users x))) (sym (user_after e (session_redacted users x)))
-
-redacted_quit : (users : List ℕ → Bool) (e : Effect) (id : ℕ) (xs : List Session) → map (session_redacted users) (after_quit e id xs) ≡ map (session_redacted users) (after_quit e id (map (session_redacted users) xs))
-redacted_quit users Quit id xs = Blind-filter (session_redacted users) (session_redacted_same users) (λ x. not (has_id id x)) (λ x. refl) xs
-redacted_quit users _ id xs = map_fixed (session_redacted users) (session_redacted_same users) xs
-
-pub sessions_redacted : (users : List ℕ → Bool) (id : ℕ) (o : Outcome) (xs : List Session) → map (session_redacted users) (sessions_after id o xs) ≡ map (session_redacted users) (sessions_after id o (map (session_redacted users) xs))
-sessions_redacted users id o xs =
-    redacted_quit users o.effect id (arranged moved)
-    ∙ ap (λ ys. map (session_redacted users) (after_quit o.effect id ys)) same
-    ∙ sym (redacted_quit users o.effect id (arranged (map (session_after o.effect) (map (session_redacted users) xs))))
-  where
-    arranged : List Session → List Session
-    arranged ys = change_first (has_id id) (session_arranged o) ys
-
-    moved : List Session
-    moved = map (session_after o.effect) xs
-
-    blind : (ys : List Session) → map (session_redacted users) (change_first (has_id id) (session_arranged o) ys) ≡ map (session_redacted users) (change_first (has_id id) (session_arranged o) (map (session_redacted users) ys))
-    blind ys = Blind-change (session_redacted users) (session_redacted_same users) (has_id id) (λ x. refl) (session_arranged o) (λ x. session_redacted_arranged (users x.user) o x) ys
-
-    same : map (session_redacted users) (change_first (has_id id) (session_arranged o) (map (session_after o.effect) xs)) ≡ map (session_redacted users) (change_first (has_id id) (session_arranged o) (map (session_after o.effect) (map (session_redacted users) xs)))
-    same =
-        blind (map (session_after o.effect) xs)
-        ∙ ap (λ ys. map (session_redacted users) (change_first (has_id id) (session_arranged o) ys)) (Blind-map (session_redacted users) (session_redacted users) (session_after o.effect) (session_redacted_after users o.effect) xs)
-        ∙ sym (blind (map (session_after o.effect) (map (session_redacted users) xs)))
+pub redacted_forgetting : IsForgetting session_redacted_if
+redacted_forgetting =
+    record { once = redacted_unmoved; whose = λ o x. refl; same_id = λ o x. refl; state = redacted_state; after = redacted_after; arranged = session_redacted_arranged }

@@ -16,8 +16,9 @@ use Rattle.mgs_model.specs.declared.search.Direction.{Direction}
 use Rattle.mgs_model.specs.declared.search.Direction.TheVariants.{Forward, Backward}
 use Rattle.mgs_model.specs.declared.message.Message.TheVariants.{Silent, Denied, NoBuffer, NoPattern, NotFound, Quitting, NoMemory}
 use Rattle.mgs_model.specs.declared.session.Mode.TheVariants.{Plain}
-use Rattle.mgs_model.specs.declared.session.Command.TheVariants.{Move, Rearrange, Ask}
-use Rattle.mgs_model.specs.declared.session.Motion.TheVariants.{BufferEnd, StartSearch}
+use Rattle.mgs_model.specs.declared.session.Command.TheVariants.{Move, Seek, Rearrange, Ask}
+use Rattle.mgs_model.specs.declared.session.Motion.TheVariants.{BufferEnd}
+use Rattle.mgs_model.specs.declared.session.Seeking.TheVariants.{StartSearch}
 use Rattle.mgs_model.specs.declared.session.Arrangement.TheVariants.{ListBuffers}
 use Rattle.mgs_model.specs.declared.session.Question.TheVariants.{SearchWhat}
 use Rattle.mgs_model.specs.declared.right.Right.TheVariants.{ReadData}
@@ -31,10 +32,10 @@ typed text = map B text
 
 -- C-s and C-r, from the text's start and from its end
 abbrev forward : List ℕ → List ℕ → World
-forward text bytes = doing (notes text) (C (Move (StartSearch Forward)) None ∷ typed bytes)
+forward text bytes = doing (notes text) (C (Seek (StartSearch Forward)) None ∷ typed bytes)
 
 abbrev backward : List ℕ → List ℕ → World
-backward text bytes = doing (notes text) (C (Move BufferEnd) None ∷ C (Move (StartSearch Backward)) None ∷ typed bytes)
+backward text bytes = doing (notes text) (C (Move BufferEnd) None ∷ C (Seek (StartSearch Backward)) None ∷ typed bytes)
 
 abbrev told : World → Option (List ℕ) × Option (Option (List ℕ))
 told w = (points w, lines w)
@@ -85,12 +86,12 @@ ended : (last (forward (codes "abcabc") (codes "c" ++ 13 ∷ [])) ≡ Some (code
 unfolding turns path most_turns outcome next key_read
 ended = (refl, refl)
 
-last_taken : told (all_done (forward (codes "abcabc") (codes "c" ++ 13 ∷ [])) (C (Move (StartSearch Forward)) None ∷ B 19 ∷ [])) ≡ (Some (6 ∷ []), Some (Some (codes "I-search: c")))
+last_taken : told (all_done (forward (codes "abcabc") (codes "c" ++ 13 ∷ [])) (C (Seek (StartSearch Forward)) None ∷ B 19 ∷ [])) ≡ (Some (6 ∷ []), Some (Some (codes "I-search: c")))
 unfolding turns path most_turns outcome next key_read
 last_taken = refl
 
 -- with an empty pattern the search string stays, and C-s without one changes the direction alone
-nothing_searched : (last (all_done (forward (codes "abcabc") (codes "c" ++ 13 ∷ [])) (C (Move (StartSearch Forward)) None ∷ B 13 ∷ [])) ≡ Some (codes "c")) × (told (backward (codes "ab") (19 ∷ [])) ≡ (Some (2 ∷ []), Some (Some (codes "I-search: "))))
+nothing_searched : (last (all_done (forward (codes "abcabc") (codes "c" ++ 13 ∷ [])) (C (Seek (StartSearch Forward)) None ∷ B 13 ∷ [])) ≡ Some (codes "c")) × (told (backward (codes "ab") (19 ∷ [])) ≡ (Some (2 ∷ []), Some (Some (codes "I-search: "))))
 unfolding turns path most_turns outcome next key_read
 nothing_searched = (refl, refl)
 
@@ -118,7 +119,7 @@ abbrev shared : World
 shared = record (notes []) { buffers = buffer_of (codes "notes") (codes "banana") (full ++ record { entry_type = Allow; who = User (codes "bob"); mask = 129 } ∷ []) ∷ [] }
 
 abbrev searching_bob : World
-searching_bob = doing_bob shared (C (Move (StartSearch Forward)) None ∷ B 97 ∷ [])
+searching_bob = doing_bob shared (C (Seek (StartSearch Forward)) None ∷ B 97 ∷ [])
 
 -- ann: C-u 2 M-x acl-delete RET
 abbrev locked_out : World
@@ -146,7 +147,7 @@ denied_leaving = (refl, refl)
 -- ORIGIN AND ANCHOR MOVE WITH THE TEXT: ann puts in two characters at the start
 abbrev moved : List ℕ → World
 moved bytes =
-    all_done (other_types (step (doing (notes (codes "abcabc")) (B 6 ∷ C (Move (StartSearch Forward)) None ∷ B 99 ∷ [])) (Open 2 (codes "ann") 24 80)) (codes "xx")) (typed bytes)
+    all_done (other_types (step (doing (notes (codes "abcabc")) (B 6 ∷ C (Seek (StartSearch Forward)) None ∷ B 99 ∷ [])) (Open 2 (codes "ann") 24 80)) (codes "xx")) (typed bytes)
 
 found_moved : (told (moved []) ≡ (Some (5 ∷ []), Some (Some (codes "I-search: c")))) × (told (moved (19 ∷ [])) ≡ (Some (8 ∷ []), Some (Some (codes "I-search: c")))) × (points (moved (7 ∷ [])) ≡ Some (3 ∷ []))
 unfolding turns path most_turns outcome next key_read
@@ -161,12 +162,12 @@ unfolding turns path most_turns outcome next key_read
 over = (refl, refl, refl, refl)
 
 -- MEMORY may be refused to the byte that begins it, and to no other of its bytes
-may_begin : option_map takes_memory (outcome_in (doing (notes (codes "ab")) []) 1 (Run (Move (StartSearch Forward)) None []) true) ≡ Some true
+may_begin : option_map takes_memory (outcome_in (doing (notes (codes "ab")) []) 1 (Run (Seek (StartSearch Forward)) None []) true) ≡ Some true
 unfolding turns path most_turns outcome next key_read
 may_begin = refl
 
 -- where it is, nothing has begun
-not_begun : (modes (doing (notes (codes "ab")) (R (Move (StartSearch Forward)) None 0 ∷ [])) ≡ Some Plain) × (echo (doing (notes (codes "ab")) (R (Move (StartSearch Forward)) None 0 ∷ [])) ≡ Some NoMemory)
+not_begun : (modes (doing (notes (codes "ab")) (R (Seek (StartSearch Forward)) None 0 ∷ [])) ≡ Some Plain) × (echo (doing (notes (codes "ab")) (R (Seek (StartSearch Forward)) None 0 ∷ [])) ≡ Some NoMemory)
 unfolding turns path most_turns outcome next key_read
 not_begun = (refl, refl)
 
@@ -195,6 +196,6 @@ asked_line : lines (doing (notes []) (C (Ask (SearchWhat Backward)) None ∷ B 9
 unfolding turns path most_turns outcome next key_read
 asked_line = refl
 
-no_buffer : (echo (doing (notes []) (C (Rearrange ListBuffers) None ∷ asked Forward [])) ≡ Some NoBuffer) × (echo (doing (notes []) (C (Rearrange ListBuffers) None ∷ C (Move (StartSearch Forward)) None ∷ [])) ≡ Some NoBuffer)
+no_buffer : (echo (doing (notes []) (C (Rearrange ListBuffers) None ∷ asked Forward [])) ≡ Some NoBuffer) × (echo (doing (notes []) (C (Rearrange ListBuffers) None ∷ C (Seek (StartSearch Forward)) None ∷ [])) ≡ Some NoBuffer)
 unfolding turns path most_turns outcome next key_read
 no_buffer = (refl, refl)

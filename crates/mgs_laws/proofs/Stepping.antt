@@ -1,36 +1,27 @@
 -- Whole events and runs, where the texts of some buffers are hidden from the users.
-use Rattle.std.proofs.Common.{◌≡◌, ℕ, ◌+◌, ◌-◌, List, [], ◌∷◌, ◌++◌, length, map, not, find, refl, sym, ap, ◌∙◌, subst, Bool, true, false, cond, ◌&&◌, nat_le, Option, Some, None, is_some, zero, suc}
+use Rattle.std.proofs.Common.{◌≡◌, ℕ, ◌+◌, ◌-◌, List, [], ◌∷◌, ◌++◌, map, refl, sym, ap, ◌∙◌, subst, Bool, true, false, cond, ◌&&◌, Option, Some, None, is_some, zero, suc}
 use Rattle.std.specs.Option.{option_map}
-use Rattle.std.specs.Prelude.{max}
-use Rattle.std.proofs.lemmas.List.{length-map}
 use Rattle.mgs_model.specs.Names.{same_name}
-use Rattle.std.specs.Prelude.{if◌then◌else◌}
-use Rattle.mgs_model.specs.declared.errors.OpenFault.TheVariants.{NoUser, Size, Full}
-use Rattle.mgs_model.specs.declared.limits.TheConstants.{SESSION_LIMIT}
-use Rattle.mgs_model.specs.Access.{Directory, is_among}
+use Rattle.mgs_model.specs.Access.{Directory}
 use Rattle.mgs_model.specs.Lines.{settled_top}
-use Rattle.mgs_model.specs.World.{World, Buffer, Session, Window, State, Shows, Buffer_of, may, has_id, find_session, find_buffer}
+use Rattle.mgs_model.specs.World.{World, Buffer, Session, Window, Shows, Buffer_of, may, find_session, find_buffer}
 use Rattle.mgs_model.specs.View.{view, view_of}
-use Rattle.mgs_model.specs.Apply.{act, without_session}
-use Rattle.mgs_model.specs.Events.{Event, Open, Byte, Close, top_settled, window_top, window_settled, session_settled, settled, first_shows, new_session, is_open, is_size, can_open, session_fault, opened, Doing, turn_seen, turn_in, rests, state_set, with_state, turn, turns, most_turns, begun_state, begun, byte_done, step, run, saved_by, turn_effects, turns_effects, event_effects, run_effects, path}
+use Rattle.mgs_model.specs.Apply.{act}
+use Rattle.mgs_model.specs.Events.{Event, Open, Byte, Close, top_settled, window_top, window_settled, session_settled, settled, is_open, can_open, opened, Doing, turn_seen, turn_in, rests, turn, turns, most_turns, begun_state, begun, byte_done, step, run, saved_by, turn_effects, turns_effects, event_effects, run_effects, path}
 use Rattle.mgs_model.proofs.Paths.{effects_step, turns_step}
 use Rattle.mgs_model.specs.Outcome.{Effect}
 use Rattle.std.specs.List.{flat_map}
 use Rattle.mgs_model.specs.Seen.{seen_in}
 use Rattle.mgs_model.specs.Draw.{draw, screen}
 use Rattle.mgs_laws.specs.Secrecy.{screen_of, hide, hide_if, blank_if, session_redacted, session_redacted_if, window_redacted, redacted, Alike, HiddenAmong, Hidden, IsOf, has_name, still, HiddenAct, IsBy, AllBy, turn_worlds, event_worlds, run_worlds, still_through, HiddenThrough, Same, HiddenText}
-use Rattle.mgs_model.specs.declared.right.Right.TheVariants.{ReadData, ReadAttributes}
-use Rattle.mgs_model.proofs.Blind.{Blind-change, Blind-filter, Blind-append, map_fixed, is_some_map, same_names, is_name}
-use Rattle.mgs_model.proofs.Firsts.{find-map}
-use Rattle.mgs_laws.proofs.Hide.{hide_same}
-use Rattle.mgs_laws.proofs.Redacted.{session_redacted_same}
-use Rattle.mgs_laws.proofs.Acting.{redacted_apply, view_of_redacted, find_hide, find_redacted}
+use Rattle.mgs_model.specs.declared.right.Right.TheVariants.{ReadData}
+use Rattle.mgs_model.proofs.Blind.{map_fixed, is_some_map, same_names, is_name}
+use Rattle.mgs_laws.proofs.Erasing.{Blindness, same_by, closed, blindness}
+use Rattle.mgs_laws.proofs.Hide.{hide_same, hide_erasing}
+use Rattle.mgs_laws.proofs.Redacted.{redacted_forgetting}
+use Rattle.mgs_laws.proofs.Acting.{view_of_redacted, find_hide}
 use Rattle.mgs_laws.proofs.Paths.{worlds_step}
-use Rattle.mgs_laws.proofs.Turning.{Erasure, state_same, act_same, turn_same, effects_seen, effects_same, of_with_state, of_turn}
-
--- what is blind to the redaction keeps worlds alike
-alike_by : (users shut : List ℕ → Bool) (f : World → World) (w v : World) → Alike users shut w v → redacted users shut (f w) ≡ redacted users shut (f (redacted users shut w)) → redacted users shut (f v) ≡ redacted users shut (f (redacted users shut v)) → Alike users shut (f w) (f v)
-alike_by users shut f w v e p q = p ∙ ap (λ x. redacted users shut (f x)) e ∙ sym q
+use Rattle.mgs_laws.proofs.Turning.{state_same, act_same, turn_same, effects_seen, effects_same, of_with_state, of_turn}
 
 -- WHICH BUFFERS ARE STILL THERE
 
@@ -107,50 +98,21 @@ hidden_back users shut d (b ∷ bs) h = (h.0, hidden_back users shut d bs h.1)
 hidden_alike : (users shut : List ℕ → Bool) (w v : World) → Alike users shut w v → Hidden users shut w → Hidden users shut v
 hidden_alike users shut w v e h = hidden_back users shut v.directory v.buffers (subst (Hidden users shut) e (hidden_there users shut w.directory w.buffers h))
 
-of_there : (users : List ℕ → Bool) (o : Option Session) → IsOf users o → IsOf users (option_map (session_redacted users) o)
-of_there users None h = h
-of_there users (Some x) h = h
-
-of_back : (users : List ℕ → Bool) (o : Option Session) → IsOf users (option_map (session_redacted users) o) → IsOf users o
-of_back users None h = h
-of_back users (Some x) h = h
-
--- the two worlds' sessions of one id
-found_alike : (users shut : List ℕ → Bool) (w v : World) (id : ℕ) → Alike users shut w v → option_map (session_redacted users) (find_session id w.sessions) ≡ option_map (session_redacted users) (find_session id v.sessions)
-found_alike users shut w v id e = sym (find_redacted users id w.sessions) ∙ ap (λ x. find_session id x.sessions) e ∙ find_redacted users id v.sessions
-
-of_alike : (users shut : List ℕ → Bool) (w v : World) (id : ℕ) → Alike users shut w v → IsOf users (find_session id w.sessions) → IsOf users (find_session id v.sessions)
-of_alike users shut w v id e h =
-    of_back users (find_session id v.sessions) (subst (IsOf users) (found_alike users shut w v id e) (of_there users (find_session id w.sessions) h))
+redacts : (users shut : List ℕ → Bool) → Blindness users (redacted users shut)
+redacts users shut = blindness users (hide shut) session_redacted_if (hide_erasing shut) redacted_forgetting
 
 view_of_alike : (users shut : List ℕ → Bool) (w v : World) (id : ℕ) → Alike users shut w v → Hidden users shut w → IsOf users (find_session id w.sessions) → view_of w id ≡ view_of v id
 view_of_alike users shut w v id e h g =
     sym (view_of_redacted users shut w id g h)
     ∙ ap (λ x. view_of x id) e
-    ∙ view_of_redacted users shut v id (of_alike users shut w v id e g) (hidden_alike users shut w v e h)
-
--- REDACTION
-
-redacted_state : (o : Bool) (f : State → State) (x : Session) → session_redacted_if o (state_set f x) ≡ session_redacted_if o (state_set f (session_redacted_if o x))
-redacted_state true f x = λ i. record (state_set f x) { windows = map_fixed (window_redacted true) (λ y. refl) x.windows i }
-redacted_state false f x = λ i. record (state_set f x) { windows = map_fixed (window_redacted false) (λ y. refl) x.windows i }
-
-redacted_with_state : (users shut : List ℕ → Bool) (w : World) (id : ℕ) (f : State → State) → redacted users shut (with_state id f w) ≡ redacted users shut (with_state id f (redacted users shut w))
-redacted_with_state users shut w id f =
-    λ i. record w {
-      buffers = map_fixed (hide shut) (hide_same shut) w.buffers i;
-      sessions = Blind-change (session_redacted users) (session_redacted_same users) (has_id id) (λ x. refl) (state_set f) (λ x. redacted_state (users x.user) f x) w.sessions i;
-    }
-
-redacts : (users shut : List ℕ → Bool) → Erasure (redacted users shut)
-redacts users shut = record { applies = redacted_apply users shut; keeps = redacted_with_state users shut }
+    ∙ view_of_redacted users shut v id ((redacts users shut).whose w v id e g) (hidden_alike users shut w v e h)
 
 -- ONE ACT
 
 pub hidden_act : HiddenAct
 hidden_act users shut w v id c stored e h g =
     let q : view_of w id ≡ view_of v id = view_of_alike users shut w v id e h g in
-    (shrink users shut (act w id c stored) (act v id c stored) (act_same (redacted users shut) (redacts users shut) w v id c stored e q), effects_seen id stored c w v q)
+    (shrink users shut (act w id c stored) (act v id c stored) (act_same (redacted users shut) (redacts users shut).erasure w v id c stored e q), effects_seen id stored c w v q)
 
 -- TURNS
 
@@ -162,7 +124,7 @@ abbrev pub at_rest : ℕ → Doing → Bool
 at_rest id d = rests (turn_in d.world id)
 
 turn_alike : (users shut : List ℕ → Bool) (id : ℕ) (stored : Bool) (d e : Doing) → AlikeDoings users shut d e → Hidden users shut d.world → IsOf users (find_session id d.world.sessions) → AlikeDoings users shut (turn id stored d) (turn id stored e)
-turn_alike users shut id stored d e p h g = turn_same (redacted users shut) (redacts users shut) id stored d e p (view_of_alike users shut d.world e.world id p.0 h g)
+turn_alike users shut id stored d e p h g = turn_same (redacted users shut) (redacts users shut).erasure id stored d e p (view_of_alike users shut d.world e.world id p.0 h g)
 
 pub of_next : (users : List ℕ → Bool) (id : ℕ) (stored : Bool) (d : Doing) → IsOf users (find_session id d.world.sessions) → IsOf users (find_session id (turn id stored d).world.sessions)
 of_next users id stored d h = of_turn users id stored (turn_in d.world id) d.world d.memory h
@@ -214,7 +176,7 @@ turns_alike (suc n) users shut id stored d e p g h =
 -- A BYTE COMES
 
 begun_alike : (users shut : List ℕ → Bool) (id byte : ℕ) (stop : Option ℕ) (w v : World) → Alike users shut w v → AlikeDoings users shut (begun w id byte stop) (begun v id byte stop)
-begun_alike users shut id byte stop w v e = (state_same (redacted users shut) (redacts users shut) w v id (begun_state byte) e, refl)
+begun_alike users shut id byte stop w v e = (state_same (redacted users shut) (redacts users shut).erasure w v id (begun_state byte) e, refl)
 
 pub of_begun : (users : List ℕ → Bool) (id byte : ℕ) (stop : Option ℕ) (w : World) → IsOf users (find_session id w.sessions) → IsOf users (find_session id (begun w id byte stop).world.sessions)
 of_begun users id byte stop w h = of_with_state users id (begun_state byte) w h
@@ -259,54 +221,7 @@ redacted_settled users shut w h =
     λ i. record w { buffers = map_fixed (hide shut) (hide_same shut) w.buffers i; sessions = sessions_redacted_settled users shut w.directory w.buffers h w.sessions i }
 
 settled_alike : (users shut : List ℕ → Bool) (w v : World) → Alike users shut w v → Hidden users shut w → Alike users shut (settled w) (settled v)
-settled_alike users shut w v e h = alike_by users shut settled w v e (redacted_settled users shut w h) (redacted_settled users shut v (hidden_alike users shut w v e h))
-
--- OPENING AND CLOSING
-
-abbrev pub closed : ℕ → World → World
-closed id w = record w { sessions = without_session id w.sessions }
-
-redacted_closed : (users shut : List ℕ → Bool) (id : ℕ) (w : World) → redacted users shut (closed id w) ≡ redacted users shut (closed id (redacted users shut w))
-redacted_closed users shut id w =
-    λ i. record w {
-      buffers = map_fixed (hide shut) (hide_same shut) w.buffers i;
-      sessions = Blind-filter (session_redacted users) (session_redacted_same users) (λ x. not (has_id id x)) (λ x. refl) w.sessions i;
-    }
-
-shows_hide : (shut : List ℕ → Bool) (o : Option Buffer) → first_shows (option_map (hide shut) o) ≡ first_shows o
-shows_hide shut None = refl
-shows_hide shut (Some b) = refl
-
-new_hide : (shut : List ℕ → Bool) (d : Directory) (bs : List Buffer) (id : ℕ) (user : List ℕ) (rows cols : ℕ) → new_session d bs id user rows cols ≡ new_session d (map (hide shut) bs) id user rows cols
-new_hide shut d bs id user rows cols =
-    λ i. record (new_session d bs id user rows cols) {
-      windows = record { shows = sym (ap first_shows (find-map (hide shut) (may d user ReadAttributes) (may d user ReadAttributes) (λ b. refl) bs) ∙ shows_hide shut (find (may d user ReadAttributes) bs)) i; point = 0; mark = None; top = 0; row = 0; height = rows - 2 } ∷ [];
-    }
-
-redacted_opened : (users shut : List ℕ → Bool) (id : ℕ) (user : List ℕ) (rows cols : ℕ) (w : World) → redacted users shut (opened w id user rows cols) ≡ redacted users shut (opened (redacted users shut w) id user rows cols)
-redacted_opened users shut id user rows cols w =
-    λ i. record w {
-      buffers = map_fixed (hide shut) (hide_same shut) w.buffers i;
-      sessions = Blind-append (session_redacted users) (session_redacted_same users) w.sessions (new_session w.directory w.buffers id user rows cols) (new_session w.directory (map (hide shut) w.buffers) id user rows cols) (ap (session_redacted users) (new_hide shut w.directory w.buffers id user rows cols)) i;
-      next_id = max w.next_id (id + 1);
-    }
-
-is_open_alike : (users shut : List ℕ → Bool) (w v : World) (id : ℕ) → Alike users shut w v → is_open id w ≡ is_open id v
-is_open_alike users shut w v id e = sym (one w) ∙ ap (λ x. is_open id x) e ∙ one v
-  where
-    one : (x : World) → is_some (find_session id (map (session_redacted users) x.sessions)) ≡ is_open id x
-    one x = ap is_some (find_redacted users id x.sessions) ∙ is_some_map (session_redacted users) (find_session id x.sessions)
-
-length_alike : (users shut : List ℕ → Bool) (w v : World) → Alike users shut w v → length w.sessions ≡ length v.sessions
-length_alike users shut w v e = sym (length-map w.sessions (session_redacted users)) ∙ ap (λ x. length x.sessions) e ∙ length-map v.sessions (session_redacted users)
-
-session_fault_alike : (users shut : List ℕ → Bool) (w v : World) (user : List ℕ) (rows cols : ℕ) → Alike users shut w v → session_fault w user rows cols ≡ session_fault v user rows cols
-session_fault_alike users shut w v user rows cols e =
-    λ i. (if not (is_among user (e i).directory.users) then Some NoUser else if not (is_size rows cols) then Some Size else if nat_le SESSION_LIMIT (length_alike users shut w v e i) then Some Full else None)
-
-can_open_alike : (users shut : List ℕ → Bool) (w v : World) (id : ℕ) (user : List ℕ) (rows cols : ℕ) → Alike users shut w v → can_open w id user rows cols ≡ can_open v id user rows cols
-can_open_alike users shut w v id user rows cols e =
-    λ i. not (is_some (session_fault_alike users shut w v user rows cols e i)) && not (is_open_alike users shut w v id e i)
+settled_alike users shut w v e h = same_by (redacted users shut) settled w v e (redacted_settled users shut w h) (redacted_settled users shut v (hidden_alike users shut w v e h))
 
 -- A STEP
 
@@ -315,7 +230,7 @@ hidden_cond users shut true w v h k = k
 hidden_cond users shut false w v h k = h
 
 step_alike : (users shut : List ℕ → Bool) (w v : World) (e : Event) → Alike users shut w v → IsBy users w e → Hidden users shut w → HiddenThrough users shut (event_worlds w e) → Leads users shut (event_worlds w e) (step w e) (step v e) (event_effects w e) (event_effects v e)
-step_alike users shut w v (Byte id byte stored stop) p g k h = choose (is_open id w) (is_open id v) (is_open_alike users shut w v id p) h
+step_alike users shut w v (Byte id byte stored stop) p g k h = choose (is_open id w) (is_open id v) ((redacts users shut).is_open_same w v id p) h
   where
     choose : (c l : Bool) → c ≡ l → HiddenThrough users shut (cond c (turn_worlds most_turns id stored (begun w id byte stop)) [])
         → Leads users shut (cond c (turn_worlds most_turns id stored (begun w id byte stop)) []) (cond c (settled (byte_done w id byte stored stop)) w) (cond l (settled (byte_done v id byte stored stop)) v) (cond c (turns_effects most_turns id stored (begun w id byte stop)) []) (cond l (turns_effects most_turns id stored (begun v id byte stop)) [])
@@ -327,24 +242,9 @@ step_alike users shut w v (Byte id byte stored stop) p g k h = choose (is_open i
     choose true false q b = cc
     choose false true q b = cc
 step_alike users shut w v (Open id user rows cols) p g k h =
-    (choose (can_open w id user rows cols) (can_open v id user rows cols) (can_open_alike users shut w v id user rows cols p), hidden_cond users shut (can_open w id user rows cols) w (opened w id user rows cols) k k, refl)
-  where
-    choose : (c l : Bool) → c ≡ l → Alike users shut (cond c (settled (opened w id user rows cols)) w) (cond l (settled (opened v id user rows cols)) v)
-    choose true true e =
-        settled_alike users shut (opened w id user rows cols) (opened v id user rows cols)
-        (alike_by users shut (λ x. opened x id user rows cols) w v p (redacted_opened users shut id user rows cols w) (redacted_opened users shut id user rows cols v))
-        k
-    choose false false e = p
-    choose true false e = cc
-    choose false true e = cc
+    ((redacts users shut).open_same w v id user rows cols (λ e. settled_alike users shut (opened w id user rows cols) (opened v id user rows cols) e k) p, hidden_cond users shut (can_open w id user rows cols) w (opened w id user rows cols) k k, refl)
 step_alike users shut w v (Close id) p g k h =
-    (choose (is_open id w) (is_open id v) (is_open_alike users shut w v id p), hidden_cond users shut (is_open id w) w (closed id w) k k, refl)
-  where
-    choose : (c l : Bool) → c ≡ l → Alike users shut (cond c (settled (closed id w)) w) (cond l (settled (closed id v)) v)
-    choose true true e = settled_alike users shut (closed id w) (closed id v) (alike_by users shut (closed id) w v p (redacted_closed users shut id w) (redacted_closed users shut id v)) k
-    choose false false e = p
-    choose true false e = cc
-    choose false true e = cc
+    ((redacts users shut).close_same w v id (λ e. settled_alike users shut (closed id w) (closed id v) e k) p, hidden_cond users shut (is_open id w) w (closed id w) k k, refl)
 
 hidden_append : (users shut : List ℕ → Bool) (ws vs : List World) → HiddenThrough users shut (ws ++ vs) → HiddenThrough users shut ws × HiddenThrough users (still_through shut ws) vs
 hidden_append users shut [] vs h = (tt, h)

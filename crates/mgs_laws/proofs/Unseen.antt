@@ -13,7 +13,8 @@ use Rattle.mgs_model.proofs.Basics.{or_left, or_right}
 use Rattle.mgs_model.proofs.Blind.{is_some_map, same_names}
 use Rattle.mgs_model.proofs.Firsts.{find-map}
 use Rattle.mgs_laws.specs.Lawful.{granted_found}
-use Rattle.mgs_laws.proofs.Outline.{erase_if, erase, shows_shut, forget_window, forget_place, forget_search, forget_if, forget, outline}
+use Rattle.mgs_laws.proofs.Erasing.{Blindness, blindness}
+use Rattle.mgs_laws.proofs.Outline.{erase_erasing, forgetting, erase_if, erase, shows_shut, forget_window, forget_place, forget_search, forget_if, forget, outline}
 
 -- two worlds are the same to the users
 abbrev pub Like : (List ℕ → Bool) → (List ℕ → Bool) → World → World → Type 0
@@ -168,23 +169,8 @@ closed_like users shut w v e h = record {
   no_rights = rights_back users shut v.directory v.buffers (subst (λ x. NoRightsAmong users shut x.directory x.buffers) e (rights_there users shut w.directory w.buffers h.no_rights));
 }
 
-pub find_forget : (users shut : List ℕ → Bool) (id : ℕ) (xs : List Session) → find_session id (map (forget users shut) xs) ≡ option_map (forget users shut) (find_session id xs)
+find_forget : (users shut : List ℕ → Bool) (id : ℕ) (xs : List Session) → find_session id (map (forget users shut) xs) ≡ option_map (forget users shut) (find_session id xs)
 find_forget users shut id xs = find-map (forget users shut) (has_id id) (has_id id) (λ x. refl) xs
-
-pub found_like : (users shut : List ℕ → Bool) (w v : World) (id : ℕ) → Like users shut w v → option_map (forget users shut) (find_session id w.sessions) ≡ option_map (forget users shut) (find_session id v.sessions)
-found_like users shut w v id e = sym (find_forget users shut id w.sessions) ∙ ap (λ x. find_session id x.sessions) e ∙ find_forget users shut id v.sessions
-
-of_there : (users shut : List ℕ → Bool) (o : Option Session) → IsOf users o → IsOf users (option_map (forget users shut) o)
-of_there users shut None h = h
-of_there users shut (Some x) h = h
-
-of_back : (users shut : List ℕ → Bool) (o : Option Session) → IsOf users (option_map (forget users shut) o) → IsOf users o
-of_back users shut None h = h
-of_back users shut (Some x) h = h
-
-pub of_like : (users shut : List ℕ → Bool) (w v : World) (id : ℕ) → Like users shut w v → IsOf users (find_session id w.sessions) → IsOf users (find_session id v.sessions)
-of_like users shut w v id e h =
-    of_back users shut (find_session id v.sessions) (subst (IsOf users) (found_like users shut w v id e) (of_there users shut (find_session id w.sessions) h))
 
 -- what the session of an id sees
 view_of_outline : (users shut : List ℕ → Bool) (w : World) (id : ℕ) → IsOf users (find_session id w.sessions) → Closed users shut w → view_of (outline users shut w) id ≡ view_of w id
@@ -194,11 +180,11 @@ view_of_outline users shut w id g h = ap (option_map (view (outline users shut w
     same None g = refl
     same (Some x) g = ap Some (view_outline users shut w x g h.no_rights)
 
+pub outlines : (users shut : List ℕ → Bool) → Blindness users (outline users shut)
+outlines users shut = blindness users (erase shut) (λ u x. forget_if u shut x) (erase_erasing shut) (forgetting shut)
+
 pub view_of_like : (users shut : List ℕ → Bool) (w v : World) (id : ℕ) → Like users shut w v → Closed users shut w → IsOf users (find_session id w.sessions) → view_of w id ≡ view_of v id
 view_of_like users shut w v id e h g =
     sym (view_of_outline users shut w id g h)
     ∙ ap (λ x. view_of x id) e
-    ∙ view_of_outline users shut v id (of_like users shut w v id e g) (closed_like users shut w v e h)
-
-pub like_by : (users shut : List ℕ → Bool) (f : World → World) (w v : World) → Like users shut w v → outline users shut (f w) ≡ outline users shut (f (outline users shut w)) → outline users shut (f v) ≡ outline users shut (f (outline users shut v)) → Like users shut (f w) (f v)
-like_by users shut f w v e p q = p ∙ ap (λ x. outline users shut (f x)) e ∙ sym q
+    ∙ view_of_outline users shut v id ((outlines users shut).whose w v id e g) (closed_like users shut w v e h)

@@ -1,6 +1,8 @@
--- LAWFUL EFFECTS: each comes only with its right.
+-- WHAT IS DONE: each effect comes only with its right, and settling is done once.
 use Rattle.std.specs.Prelude.{◌≡◌, Bool, true, not, ◌&&◌, ◌||◌, List, ℕ, Option, is_some}
 use Rattle.mgs_model.specs.Access.{allows}
+use Rattle.mgs_model.specs.World.{World}
+use Rattle.mgs_model.specs.Events.{settled}
 use Rattle.mgs_model.specs.View.{View, BufferSeen, find_seen}
 use Rattle.mgs_model.specs.Outcome.{Act, Effect, No_effect, Edit, Unmodified, SetList, SetOwners, Create, Kill, Save, Quit}
 use Rattle.mgs_model.specs.Acts.{deciders_found, outcome}
@@ -29,3 +31,7 @@ lawful v Quit = true
 -- whatever an act comes to, its effect is lawful: asking again when it is done would refuse nothing
 abbrev pub OutcomesAreLawful : Type 0
 OutcomesAreLawful = (v : View) (c : Act) (stored : Bool) → lawful v (outcome v c stored).effect ≡ true
+
+-- settling what is settled changes nothing
+abbrev pub SettledStays : Type 0
+SettledStays = (w : World) → settled (settled w) ≡ settled w

@@ -9,14 +9,12 @@ use Rattle.mgs_model.specs.declared.sequence.Sequence.{Sequence}
 use Rattle.mgs_model.specs.declared.sequence.Sequence.TheVariants.{Begun, Broken, Whole}
 use Rattle.mgs_model.specs.declared.session.Argument.{Argument}
 use Rattle.mgs_model.specs.declared.session.Insertion.TheVariants.{SelfInsert}
-use Rattle.mgs_model.specs.declared.session.Motion.{Motion}
-use Rattle.mgs_model.specs.declared.session.Motion.TheVariants.{SearchOn, SearchFor, StartReplace, SkipMatch}
-use Rattle.mgs_model.specs.declared.session.Alteration.{Alteration}
-use Rattle.mgs_model.specs.declared.session.Alteration.TheVariants.{ReplaceMatch, ReplaceLast}
+use Rattle.mgs_model.specs.declared.session.Seeking.{Seeking}
+use Rattle.mgs_model.specs.declared.session.Seeking.TheVariants.{StartSearch}
 use Rattle.mgs_model.specs.declared.session.Command.{Command}
 use Rattle.mgs_model.specs.declared.session.EntryChange.{EntryChange}
 use Rattle.mgs_model.specs.declared.session.EntryChange.TheVariants.{DeleteEntry}
-use Rattle.mgs_model.specs.declared.session.Command.TheVariants.{Insert, InsertReading, Move, Alter, Scroll, Set, Rearrange, Ask, Entries, ListEntries, UndoEdit, NotModified, SaveBuffer, Exit}
+use Rattle.mgs_model.specs.declared.session.Command.TheVariants.{Insert, InsertReading, Move, Alter, Seek, Scroll, Set, Rearrange, Ask, Entries, ListEntries, UndoEdit, NotModified, SaveBuffer, Exit}
 use Rattle.mgs_keys.specs.declared.decoder.Held.{Held as Decoding}
 use Rattle.mgs_keys.specs.declared.decoder.Held.TheVariants.{Nothing, Escape, One, Two, Three}
 use Rattle.mgs_maps.specs.declared.maps.Fed.{Fed}
@@ -60,18 +58,10 @@ character_fed Pending = Begun
 character_fed (Run c n) = character_of c
 character_fed Unbound = Broken
 
--- the motions and alterations of the table
-abbrev pub is_bound_motion : Motion → Bool
-is_bound_motion (SearchOn d step) = false
-is_bound_motion (SearchFor d) = false
-is_bound_motion StartReplace = false
-is_bound_motion SkipMatch = false
-is_bound_motion _ = true
-
-abbrev pub is_bound_alteration : Alteration → Bool
-is_bound_alteration ReplaceMatch = false
-is_bound_alteration ReplaceLast = false
-is_bound_alteration _ = true
+-- a key begins a search; how it goes on is typed
+abbrev pub is_bound_seeking : Seeking → Bool
+is_bound_seeking (StartSearch d) = true
+is_bound_seeking _ = false
 
 -- an entry is deleted at once; for one that comes a question is asked
 abbrev pub is_bound_change : EntryChange → Bool
@@ -82,8 +72,9 @@ is_bound_change _ = false
 abbrev pub is_bound : Command → Bool
 is_bound (Insert c) = true
 is_bound (InsertReading c) = true
-is_bound (Move c) = is_bound_motion c
-is_bound (Alter c) = is_bound_alteration c
+is_bound (Move c) = true
+is_bound (Alter c) = true
+is_bound (Seek c) = is_bound_seeking c
 is_bound (Scroll c) = true
 is_bound (Set c) = true
 is_bound (Rearrange c) = true

@@ -11,7 +11,7 @@ ghost use Rattle.mgs_maps.specs.Table.{rows_of, command_of};
 use crate::maps::{Prefix, Stroke};
 use mgs_model::{
     Alteration, Arrangement, Command, Direction, EntryChange, Insertion, Motion, Question,
-    ReadingInsertion, Scrolling, Setting,
+    ReadingInsertion, Scrolling, Seeking, Setting,
 };
 
 pub(crate) const ESCAPE: u8 = 0x1B;
@@ -32,6 +32,7 @@ pub struct Binding {
     /// Empty for the arrows (M-[ A, B, C, D) and other words of commands that have their names in other rows, and for
     /// commands that M-x does not know.
     pub name: &'static str,
+    /// What runs.
     pub command: Command,
 }
 
@@ -289,12 +290,12 @@ static BINDINGS: [Binding; 73] = [
     Binding {
         keys: b"\x13",
         name: "isearch-forward",
-        command: Command::Move(Motion::StartSearch(Direction::Forward)),
+        command: Command::Seek(Seeking::StartSearch(Direction::Forward)),
     },
     Binding {
         keys: b"\x12",
         name: "isearch-backward",
-        command: Command::Move(Motion::StartSearch(Direction::Backward)),
+        command: Command::Seek(Seeking::StartSearch(Direction::Backward)),
     },
     Binding {
         keys: b"\x1Bs",

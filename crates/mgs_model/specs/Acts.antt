@@ -9,23 +9,24 @@ use Rattle.mgs_model.specs.World.{State, Shows, Buffer_of, Listing, List_of}
 use Rattle.mgs_model.specs.View.{View, SessionSeen, BufferSeen, WindowSeen, SearchSeen, Told, Full, Positions, find_seen, size_told, serial_told, text_in}
 use Rattle.mgs_model.specs.World.{Item, Todo, Replace_all, Play}
 use Rattle.mgs_model.specs.declared.entry.Entry.{Entry}
-use Rattle.mgs_model.specs.Outcome.{Act, Unbound, Run, KillPlan, Keep_kill, Kill_is, Arrange, Stay, Adjust, At_origin, Keep, Keep_mark, Keep_search, No_search, Effect, No_effect, Edit, Unmodified, SetList, SetOwners, Create, Kill, Save, Quit, Outcome, u64_max}
+use Rattle.mgs_model.specs.Outcome.{Act, Unbound, Run, KillPlan, Keep_kill, Kill_is, Arrange, Stay, Adjust, At_origin, Keep_position, Keep_mark, Keep_search, No_search, Effect, No_effect, Edit, Unmodified, SetList, SetOwners, Create, Kill, Save, Quit, Outcome, u64_max}
 use Rattle.mgs_model.specs.declared.owners.NewOwner.TheVariants.{ToUser, ToGroup}
-use Rattle.mgs_model.specs.Plans.{failed_state, acted_state, Around, ModePlan, Goes_on, Over, Failing, Finish, Change, insertion, reading_insertion, motion, alteration, scrolling, row_scrolled, setting, arrangement, undo, entries_changed, comes, inserted}
+use Rattle.mgs_model.specs.Plans.{failed_state, acted_state, Around, Finish, Change, insertion, reading_insertion, motion, alteration, scrolling, row_scrolled, setting, arrangement, undo, entries_changed, comes, inserted}
+use Rattle.mgs_model.specs.Seeking.{AroundSearch, ModePlan, Keep_mode, Goes_on, Over, Failing, SearchFinish, SearchChange, seek, replace}
 use Rattle.mgs_model.specs.declared.limits.TheConstants.{BUFFER_LIMIT, TEXT_LIMIT}
 use Rattle.mgs_model.specs.declared.right.Right.{Right}
 use Rattle.mgs_model.specs.declared.right.Right.TheVariants.{ReadData, WriteData, AppendData, ReadAttributes, Delete, ReadAcl, WriteAcl, WriteOwner}
 use Rattle.mgs_model.specs.declared.entry.Decision.{Decision}
 use Rattle.mgs_model.specs.declared.entry.Decision.TheVariants.{Granted}
 use Rattle.mgs_model.specs.declared.message.Message.{Message}
-use Rattle.mgs_model.specs.declared.message.Message.TheVariants.{Denied, KeyNotBound, NoBuffer, BufferFull, KillTooLarge, InMacro, NoSuchBuffer, BadName, TooManyBuffers, NoSuchUser, NoSuchGroup, NoFile, SaveFailed, Wrote, Quitting, Replaced}
+use Rattle.mgs_model.specs.declared.message.Message.TheVariants.{Denied, Silent, KeyNotBound, NoBuffer, BufferFull, KillTooLarge, InMacro, NoSuchBuffer, BadName, TooManyBuffers, NoSuchUser, NoSuchGroup, NoFile, SaveFailed, Wrote, Quitting, Replaced}
 use Rattle.mgs_model.specs.declared.session.Mode.{Mode}
 use Rattle.mgs_model.specs.declared.session.Mode.TheVariants.{Plain, Prompt, Searching}
 use Rattle.mgs_model.specs.declared.session.Question.{Question}
 use Rattle.mgs_model.specs.declared.session.Scrolling.{Scrolling}
 use Rattle.mgs_model.specs.declared.session.ByName.{ByName}
 use Rattle.mgs_model.specs.declared.session.ByName.TheVariants.{SwitchToBuffer, KillBuffer, InsertBuffer}
-use Rattle.mgs_model.specs.declared.session.Command.TheVariants.{Insert, InsertReading, Move, Alter, Scroll, Set, Rearrange, Ask, Named, Entries, ListEntries, SetOwner, SetGroup, UndoEdit, NotModified, SaveBuffer, LeaveSearch, Exit}
+use Rattle.mgs_model.specs.declared.session.Command.TheVariants.{Insert, InsertReading, Move, Alter, Seek, Replace, Scroll, Set, Rearrange, Ask, Named, Entries, ListEntries, SetOwner, SetGroup, UndoEdit, NotModified, SaveBuffer, LeaveSearch, Exit}
 
 -- WHERE A COMMAND ACTS
 
@@ -55,14 +56,14 @@ abbrev pub acts_at : Option Positions → ℕ → ℕ
 acts_at None size = size
 acts_at (Some x) size = x.point
 
-abbrev pub mark_in : Option Positions → Option ℕ
-mark_in None = None
-mark_in (Some x) = x.mark
+abbrev pub mark_seen : Option Positions → Option ℕ
+mark_seen None = None
+mark_seen (Some x) = x.mark
 
 -- 0 where there is none
 abbrev pub anchor_in : Option SearchSeen → ℕ
 anchor_in None = 0
-anchor_in (Some x) = elim (mark_in x.positions) [ None ↦ 0 | Some p ↦ p ]
+anchor_in (Some x) = elim (mark_seen x.positions) [ None ↦ 0 | Some p ↦ p ]
 
 abbrev pub origin_in : Option SearchSeen → ℕ
 origin_in None = 0
@@ -80,11 +81,7 @@ around x argument typed t =
       size = size_told t.buffer.told;
       serial = serial_told t.buffer.told;
       place = acts_at t.window.positions (size_told t.buffer.told);
-      mark = mark_in t.window.positions;
-      origin = origin_in x.search;
-      anchor = anchor_in x.search;
-      sought_here = is_sought_in t.buffer.name x.search;
-      old = x.state.old;
+      mark = mark_seen t.window.positions;
       argument = argument;
       typed = typed;
       kill = x.kill;
@@ -93,9 +90,19 @@ around x argument typed t =
       fill = x.state.fill;
     }
 
+abbrev pub around_search : SessionSeen → List ℕ → Target → AroundSearch
+around_search x typed t =
+    record {
+      name = t.buffer.name;
+      places = record { origin = origin_in x.search; anchor = anchor_in x.search; point = acts_at t.window.positions (size_told t.buffer.told) };
+      sought_here = is_sought_in t.buffer.name x.search;
+      old = x.state.old;
+      typed = typed;
+    }
+
 -- the buffer that the selected window shows
-abbrev pub shown : View → Option BufferSeen
-shown v = option_map (λ (t : Target). t.buffer) (target v)
+abbrev pub shown_buffer : View → Option BufferSeen
+shown_buffer v = option_map (λ (t : Target). t.buffer) (target v)
 
 -- REQUESTS: rights on a buffer, as a mask
 pub record Request : Type 0 where
@@ -177,9 +184,8 @@ is_too_large Keep_kill = false
 is_too_large (Kill_is text) = nat_lt TEXT_LIMIT (length text)
 
 -- no room: the text would be longer than a text may be, or the edit's serial is past the last one
-abbrev pub is_full : ℕ → ℕ → Change → Bool
-is_full size serial c =
-    is_edit c.a c.b c.put && (nat_lt TEXT_LIMIT (size - (c.b - c.a) + length c.put) || (serial == u64_max))
+abbrev pub is_full : ℕ → ℕ → ℕ → ℕ → List ℕ → Bool
+is_full size serial a b put = is_edit a b put && (nat_lt TEXT_LIMIT (size - (b - a) + length put) || (serial == u64_max))
 
 abbrev pub without_all : List Todo → List Todo
 without_all (Replace_all ∷ todo) = todo
@@ -194,26 +200,22 @@ failing_in failing mode = mode
 abbrev pub counted : ℕ → ℕ → ℕ
 counted n more = min (n + more) u64_max
 
--- where the last match was met, its mode ends and so does the replacing of all
-abbrev pub mode_left : ModePlan → ℕ → List Todo → State → State
-mode_left Goes_on n todo state = record state { count = n }
-mode_left Over n todo state = record state { echo = Replaced n; mode = Plain; input = []; old = []; count = 0; todo = without_all todo }
-mode_left (Failing failing) n todo state = record state { mode = failing_in failing state.mode }
-
 abbrev pub finished_state : Finish → State → State
-finished_state f state = mode_left f.mode (counted state.count f.replaced) state.todo (record (acted_state state) { echo = f.told; kind = f.kind })
+finished_state f state = record (acted_state state) { echo = f.told; kind = f.kind }
 
 abbrev pub finished : State → Finish → Effect → Outcome
 finished state f effect =
     if is_too_large f.kill then fails state KillTooLarge
-    else record { state = finished_state f state; kill = f.kill; arrange = Adjust f.point f.mark f.top None f.sought; effect = effect }
+    else record { state = finished_state f state; kill = f.kill; arrange = Adjust f.point f.mark f.top None Keep_search; effect = effect }
 
-abbrev pub edit_of : List ℕ → Change → Effect
-edit_of name c = if is_edit c.a c.b c.put then Edit name c.a c.b c.put else No_effect
+abbrev pub edit_of : List ℕ → ℕ → ℕ → List ℕ → Effect
+edit_of name a b put = if is_edit a b put then Edit name a b put else No_effect
 
 abbrev pub edited_by : State → BufferSeen → Result Change Message → Outcome
 edited_by state b (Err message) = fails state message
-edited_by state b (Ok c) = if is_full (size_told b.told) (serial_told b.told) c then fails state BufferFull else finished state c.finish (edit_of b.name c)
+edited_by state b (Ok c) =
+    if is_full (size_told b.told) (serial_told b.told) c.a c.b c.put then fails state BufferFull
+    else finished state c.finish (edit_of b.name c.a c.b c.put)
 
 -- a family that edits the selected window's buffer
 abbrev pub edits : State → Option Target → (Target → Result Change Message) → Outcome
@@ -228,6 +230,43 @@ moved_by state (Ok f) = finished state f No_effect
 abbrev pub moves : State → Option Target → (Target → Result Finish Message) → Outcome
 moves state None plan = fails state NoBuffer
 moves state (Some t) plan = moved_by state (plan t)
+
+-- where the last match was met, its mode ends and so does the replacing of all
+abbrev pub replacing_over : ℕ → State → State
+replacing_over n state = record state { echo = Replaced n; mode = Plain; input = []; old = []; count = 0; todo = without_all state.todo }
+
+abbrev pub mode_left : ModePlan → State → State
+mode_left Keep_mode state = state
+mode_left (Goes_on n) state = record state { count = counted state.count n }
+mode_left (Over n) state = replacing_over (counted state.count n) state
+mode_left (Failing failing) state = record state { mode = failing_in failing state.mode }
+
+abbrev pub search_finished_state : SearchFinish → State → State
+search_finished_state f state = mode_left f.mode (record (acted_state state) { echo = Silent })
+
+abbrev pub search_finished : State → SearchFinish → Effect → Outcome
+search_finished state f effect =
+    record { state = search_finished_state f state; kill = Keep_kill; arrange = Adjust f.point Keep_mark Keep_position None f.sought; effect = effect }
+
+abbrev pub sought_by : State → Result SearchFinish Message → Outcome
+sought_by state (Err message) = fails state message
+sought_by state (Ok f) = search_finished state f No_effect
+
+-- a family that searches
+abbrev pub seeks : State → Option Target → (Target → Result SearchFinish Message) → Outcome
+seeks state None plan = fails state NoBuffer
+seeks state (Some t) plan = sought_by state (plan t)
+
+abbrev pub replaced_by : State → BufferSeen → Result SearchChange Message → Outcome
+replaced_by state b (Err message) = fails state message
+replaced_by state b (Ok c) =
+    if is_full (size_told b.told) (serial_told b.told) c.a c.b c.put then fails state BufferFull
+    else search_finished state c.finish (edit_of b.name c.a c.b c.put)
+
+-- one that replaces what was found
+abbrev pub replaces_one : State → Option Target → (Target → Result SearchChange Message) → Outcome
+replaces_one state None plan = fails state NoBuffer
+replaces_one state (Some t) plan = replaced_by state t.buffer (plan t)
 
 abbrev pub sets : State → Result State Message → Outcome
 sets state (Err message) = fails state message
@@ -266,16 +305,16 @@ asks c n state = record (acted_state state) { argument = option_map (λ k. recor
 abbrev pub shows_named : View → List ℕ → Effect → Outcome
 shows_named v name effect = arranges v.session.state effect (Ok (comes v.session.windows v.session.selected (Buffer_of name)))
 
-abbrev pub created : View → List ℕ → Outcome
-created v name =
+abbrev pub creates_buffer : View → List ℕ → Outcome
+creates_buffer v name =
     if not (is_name name) then fails v.session.state BadName
     else if nat_le BUFFER_LIMIT (length v.buffers) then fails v.session.state TooManyBuffers
     else shows_named v name (Create name v.session.user)
 
-abbrev pub killed : View → List ℕ → Option BufferSeen → Outcome
-killed v [] found = fails v.session.state NoBuffer
-killed v (c ∷ cs) None = fails v.session.state NoSuchBuffer
-killed v (c ∷ cs) (Some b) = record { state = acted_state v.session.state; kill = Keep_kill; arrange = Stay; effect = Kill (c ∷ cs) }
+abbrev pub kills_buffer : View → List ℕ → Option BufferSeen → Outcome
+kills_buffer v [] found = fails v.session.state NoBuffer
+kills_buffer v (c ∷ cs) None = fails v.session.state NoSuchBuffer
+kills_buffer v (c ∷ cs) (Some b) = record { state = acted_state v.session.state; kill = Keep_kill; arrange = Stay; effect = Kill (c ∷ cs) }
 
 -- one effect on the buffer that is shown, or whose list is
 abbrev pub rules : State → Option BufferSeen → (BufferSeen → Result Effect Message) → Outcome
@@ -304,7 +343,7 @@ abbrev pub row_in : Scrolling → Option WindowSeen → Option ℕ
 row_in c o = option_map (λ (x : WindowSeen). row_scrolled c x.row x.height) o
 
 abbrev pub scrolls_rows : State → Option ℕ → Outcome
-scrolls_rows state row = record { state = acted_state state; kill = Keep_kill; arrange = Adjust Keep Keep_mark Keep row Keep_search; effect = No_effect }
+scrolls_rows state row = record { state = acted_state state; kill = Keep_kill; arrange = Adjust Keep_position Keep_mark Keep_position row Keep_search; effect = No_effect }
 
 abbrev pub scrolls : View → Scrolling → Option ℕ → List ℕ → Outcome
 scrolls v c n typed =
@@ -331,8 +370,8 @@ ruling v b rights plan = asking (about b rights) (rules v.session.state b plan)
 -- on the buffer of the name that was typed
 abbrev pub meaning_by_name : View → ByName → Option ℕ → List ℕ → Meaning
 meaning_by_name v SwitchToBuffer n typed =
-    asking (there v typed (bit_of ReadAttributes)) (elim (find_seen typed v.buffers) [ None ↦ created v typed | Some b ↦ shows_named v typed No_effect ])
-meaning_by_name v KillBuffer n typed = asking (there v (name_meant v typed) (bit_of Delete)) (killed v (name_meant v typed) (find_seen (name_meant v typed) v.buffers))
+    asking (there v typed (bit_of ReadAttributes)) (elim (find_seen typed v.buffers) [ None ↦ creates_buffer v typed | Some b ↦ shows_named v typed No_effect ])
+meaning_by_name v KillBuffer n typed = asking (there v (name_meant v typed) (bit_of Delete)) (kills_buffer v (name_meant v typed) (find_seen (name_meant v typed) v.buffers))
 meaning_by_name v InsertBuffer n typed =
     asking (elim (target v) [ None ↦ [] | Some t ↦ copy_needs (find_seen typed v.buffers) typed t ])
     (edits v.session.state (target v) (λ t. inserted (option_map (λ b. text_in b.full) (find_seen typed v.buffers)) (around v.session n typed t)))
@@ -345,6 +384,10 @@ meaning v (Run (InsertReading c) n typed) stored = editing v n typed (λ t. bit_
 meaning v (Run (Move c) n typed) stored =
     asking (here (target v) (λ t. bit_of ReadData)) (moves v.session.state (target v) (λ t. motion c (text_in t.buffer.full) (around v.session n typed t)))
 meaning v (Run (Alter c) n typed) stored = editing v n typed (λ t. read_write) (λ b x. alteration c (text_in b.full) x)
+meaning v (Run (Seek c) n typed) stored =
+    asking (here (target v) (λ t. bit_of ReadData)) (seeks v.session.state (target v) (λ t. seek c (text_in t.buffer.full) (around_search v.session typed t)))
+meaning v (Run (Replace c) n typed) stored =
+    asking (here (target v) (λ t. read_write)) (replaces_one v.session.state (target v) (λ t. replace c (text_in t.buffer.full) (around_search v.session typed t)))
 meaning v (Run (Scroll c) n typed) stored = asking (here (target v) (λ t. bit_of ReadData)) (scrolls v c n typed)
 meaning v (Run (Set c) n typed) stored = asking [] (sets v.session.state (setting c (acted_state v.session.state) n))
 meaning v (Run (Rearrange c) n typed) stored = asking [] (arranges v.session.state No_effect (arrangement c v.session.windows v.session.selected n))
@@ -356,10 +399,10 @@ meaning v (Run SetOwner n typed) stored = ruling v (subject v) (bit_of WriteOwne
 meaning v (Run SetGroup n typed) stored = ruling v (subject v) (bit_of WriteOwner)
     (λ b. if is_group_answer v.directory.groups typed then Ok (SetOwners b.name (ToGroup (group_answered typed))) else Err NoSuchGroup)
 meaning v (Run UndoEdit n typed) stored = editing v n typed (λ t. read_write) (λ b x. undo (items_in b.full) x)
-meaning v (Run NotModified n typed) stored = ruling v (shown v) read_write (λ b. Ok (Unmodified b.name))
+meaning v (Run NotModified n typed) stored = ruling v (shown_buffer v) read_write (λ b. Ok (Unmodified b.name))
 meaning v (Run SaveBuffer n typed) stored = asking (here (target v) (λ t. read_write)) (saves v.session.state (target v) stored)
 meaning v (Run LeaveSearch n typed) stored =
-    asking [] (record { state = failed_state Quitting v.session.state; kill = Keep_kill; arrange = Adjust At_origin Keep_mark Keep None No_search; effect = No_effect })
+    asking [] (record { state = failed_state Quitting v.session.state; kill = Keep_kill; arrange = Adjust At_origin Keep_mark Keep_position None No_search; effect = No_effect })
 meaning v (Run Exit n typed) stored =
     asking [] (if v.session.state.playing then fails v.session.state InMacro else record { state = acted_state v.session.state; kill = Keep_kill; arrange = Stay; effect = Quit })
 

@@ -9,7 +9,7 @@ use Rattle.mgs_model.specs.Access.{owners_of}
 use Rattle.mgs_model.specs.declared.owners.Owners.{Owners}
 use Rattle.mgs_model.specs.World.{World, Item, Buffer, most_items, State, Session, Window, Place, Search, Shows, Nothing, Buffer_of, List_of, is_named, has_id}
 use Rattle.mgs_model.specs.View.{view_of}
-use Rattle.mgs_model.specs.Outcome.{Act, Outcome, PointPlan, Keep, At, At_origin, MarkPlan, Keep_mark, Mark_at, SearchPlan, Keep_search, No_search, Begin, Anchor_at, KillPlan, Keep_kill, Kill_is, Source, Old, Come, Slot, is_old, Arrange, Stay, Adjust, Slots, Effect, No_effect, Edit, Unmodified, SetList, SetOwners, Create, Kill, Save, Quit}
+use Rattle.mgs_model.specs.Outcome.{Act, Outcome, PointPlan, Keep_position, At, At_origin, MarkPlan, Keep_mark, Mark_at, SearchPlan, Keep_search, No_search, Begin, Anchor_at, KillPlan, Keep_kill, Kill_is, Source, Old, Come, Slot, is_old, Arrange, Stay, Adjust, Slots, Effect, No_effect, Edit, Unmodified, SetList, SetOwners, Create, Kill, Save, Quit}
 use Rattle.mgs_model.specs.declared.owners.NewOwner.{NewOwner}
 use Rattle.mgs_model.specs.declared.owners.NewOwner.TheVariants.{ToUser, ToGroup}
 use Rattle.mgs_model.specs.Acts.{outcome}
@@ -194,7 +194,7 @@ origin_or shows None old = old
 origin_or shows (Some x) old = if is_in x.name shows then x.origin else old
 
 abbrev pub point_after : Shows → Option Search → PointPlan → ℕ → ℕ
-point_after shows search Keep old = old
+point_after shows search Keep_position old = old
 point_after shows search (At p) old = if has_positions shows then p else old
 point_after shows search At_origin old = origin_or shows search old
 

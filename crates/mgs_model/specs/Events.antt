@@ -1,5 +1,5 @@
 -- EVENTS, one step of the world, and runs.
-use Rattle.std.specs.Prelude.{◌≡◌, ℕ, zero, suc, ◌+◌, ◌-◌, ◌^◌, max, nat_le, Bool, true, false, not, ◌&&◌, if◌then◌else◌, List, [], ◌∷◌, ◌++◌, map, find, length, Option, Some, None, is_some, cond}
+use Rattle.std.specs.Prelude.{ℕ, zero, suc, ◌+◌, ◌-◌, ◌^◌, max, nat_le, Bool, true, false, not, ◌&&◌, if◌then◌else◌, List, [], ◌∷◌, ◌++◌, map, find, length, Option, Some, None, is_some, cond}
 use Rattle.std.specs.List.{flat_map, fold}
 use Rattle.std.specs.Option.{option_or}
 use Rattle.mgs_model.specs.Access.{Directory, is_among}
@@ -175,10 +175,6 @@ begun w id byte stop = record { world = with_state id (begun_state byte) w; memo
 
 abbrev pub byte_done : World → ℕ → ℕ → Bool → Option ℕ → World
 byte_done w id byte stored stop = (turns most_turns id stored (begun w id byte stop)).world
-
--- settling what is settled changes nothing
-abbrev pub SettledStays : Type 0
-SettledStays = (w : World) → settled (settled w) ≡ settled w
 
 -- STEP
 abbrev pub step : World → Event → World

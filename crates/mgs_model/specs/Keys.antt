@@ -10,14 +10,15 @@ use Rattle.mgs_model.specs.declared.search.Direction.TheVariants.{Forward, Backw
 use Rattle.mgs_model.specs.declared.session.Argument.{Argument}
 use Rattle.mgs_model.specs.declared.session.Insertion.TheVariants.{SelfInsert, Newline, OpenLine, Yank}
 use Rattle.mgs_model.specs.declared.session.ReadingInsertion.TheVariants.{NewlineAndIndent}
-use Rattle.mgs_model.specs.declared.session.Motion.TheVariants.{ForwardChar, BackwardChar, BeginningOfLine, EndOfLine, NextLine, PreviousLine, BufferStart, BufferEnd, GoToLine, ForwardWord, BackwardWord, ForwardParagraph, BackwardParagraph, Recenter, WhatCursorPosition, SetMark, ExchangePointAndMark, MarkWholeBuffer, CopyRegion, StartSearch}
+use Rattle.mgs_model.specs.declared.session.Seeking.TheVariants.{StartSearch}
+use Rattle.mgs_model.specs.declared.session.Motion.TheVariants.{ForwardChar, BackwardChar, BeginningOfLine, EndOfLine, NextLine, PreviousLine, BufferStart, BufferEnd, GoToLine, ForwardWord, BackwardWord, ForwardParagraph, BackwardParagraph, Recenter, WhatCursorPosition, SetMark, ExchangePointAndMark, MarkWholeBuffer, CopyRegion}
 use Rattle.mgs_model.specs.declared.session.Alteration.TheVariants.{DeleteChar, DeleteBackwardChar, KillLine, KillWord, BackwardKillWord, KillRegion, TransposeChars, UpcaseWord, DowncaseWord, CapitalizeWord, UpcaseRegion, DowncaseRegion, JustOneSpace, DeleteHorizontalSpace, DeleteBlankLines, JoinLine, FillParagraph}
 use Rattle.mgs_model.specs.declared.session.Scrolling.TheVariants.{ScrollUp, ScrollDown}
 use Rattle.mgs_model.specs.declared.session.Setting.TheVariants.{SetFillColumn, KeyboardQuit, StartMacro, EndMacro, CallMacro}
 use Rattle.mgs_model.specs.declared.session.Arrangement.TheVariants.{DeleteWindow, DeleteOtherWindows, SplitWindow, NextWindow, PreviousWindow, EnlargeWindow, ListBuffers}
 use Rattle.mgs_model.specs.declared.session.Question.TheVariants.{SwitchTo, FindWhich, KillWhich, RunWhich, SearchWhat, ReplaceWhat}
 use Rattle.mgs_model.specs.declared.session.Command.{Command}
-use Rattle.mgs_model.specs.declared.session.Command.TheVariants.{Insert, InsertReading, Move, Alter, Scroll, Set, Rearrange, Ask, UndoEdit, NotModified, SaveBuffer, Exit}
+use Rattle.mgs_model.specs.declared.session.Command.TheVariants.{Insert, InsertReading, Move, Alter, Seek, Scroll, Set, Rearrange, Ask, UndoEdit, NotModified, SaveBuffer, Exit}
 
 -- THE TABLE: the bytes of a word, the name of its command, and the command. C-q is 17, C-x 24, ESC 27
 pub record KeyRow : Type 0 where
@@ -90,8 +91,8 @@ key_rows =
     ∷ control_x 6 (codes "find-file") (Ask FindWhich)
     ∷ control_x 107 (codes "kill-buffer") (Ask KillWhich)
     ∷ meta 120 [] (Ask RunWhich)
-    ∷ key 19 (codes "isearch-forward") (Move (StartSearch Forward))
-    ∷ key 18 (codes "isearch-backward") (Move (StartSearch Backward))
+    ∷ key 19 (codes "isearch-forward") (Seek (StartSearch Forward))
+    ∷ key 18 (codes "isearch-backward") (Seek (StartSearch Backward))
     ∷ meta 115 (codes "search-forward") (Ask (SearchWhat Forward))
     ∷ meta 114 (codes "search-backward") (Ask (SearchWhat Backward))
     ∷ meta 37 (codes "query-replace") (Ask ReplaceWhat)

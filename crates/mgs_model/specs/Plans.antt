@@ -4,23 +4,19 @@ use Rattle.std.specs.Prelude.{ℕ, ◌+◌, ◌-◌, ◌*◌, ◌/◌, nat_lt, n
 use Rattle.std.specs.List.{flat_map, list_all, repeat}
 use Rattle.std.specs.Char.{is_ascii_digit}
 use Rattle.mgs_model.specs.Names.{same_name}
-use Rattle.mgs_model.specs.Text.{edited}
 use Rattle.mgs_model.specs.Lines.{line_feed, is_feed, space, line_of, line_start, line_end, start_of, column}
 use Rattle.mgs_model.specs.Walks.{forward_words, backward_words, is_first_line, is_last_line, lines_down, lines_up, forward_paragraphs, backward_paragraphs, column_place, indent_end, kill_line_end}
 use Rattle.mgs_model.specs.Cases.{uppercased, lowercased, capitalized}
 use Rattle.mgs_model.specs.Whites.{white_start, white_end, is_blank_at, blanks_start, blanks_end, paragraph_start, paragraph_end, refilled}
-use Rattle.mgs_model.specs.Searching.{matches_at, first_match, match_once, match_point, Sought, is_looking, places_after, sought_after}
 use Rattle.mgs_model.specs.Spelling.{entry_in}
 use Rattle.mgs_model.specs.World.{State, Item, Played, Play, Shows, Listing}
 use Rattle.mgs_model.specs.View.{WindowSeen}
-use Rattle.mgs_model.specs.Outcome.{PointPlan, Keep, At, MarkPlan, Keep_mark, Mark_at, KillPlan, Keep_kill, Kill_is, SearchPlan, Keep_search, Begin, Anchor_at, Old, Come, Slot, Arrange, Slots}
+use Rattle.mgs_model.specs.Outcome.{PointPlan, Keep_position, At, MarkPlan, Keep_mark, Mark_at, KillPlan, Keep_kill, Kill_is, Keep_search, Old, Come, Slot, Arrange, Slots, u64_max}
 use Rattle.mgs_model.specs.declared.search.Direction.{Direction}
 use Rattle.mgs_model.specs.declared.search.Direction.TheVariants.{Forward, Backward}
-use Rattle.mgs_model.specs.declared.search.SearchPlaces.{SearchPlaces}
-use Rattle.mgs_model.specs.declared.search.SearchStep.{SearchStep}
 use Rattle.mgs_model.specs.declared.message.CursorPosition.{CursorPosition}
 use Rattle.mgs_model.specs.declared.message.Message.{Message}
-use Rattle.mgs_model.specs.declared.message.Message.TheVariants.{Silent, BeginningOfBuffer, EndOfBuffer, Quitting, MarkSet, NoMark, NothingToYank, CharacterAt, EndAt, NoArgument, BadColumn, InMacro, NotInMacro, NoMacro, TooMany, OnlyOneWindow, WindowTooSmall, TooManyWindows, ImpossibleChange, NoSuchBuffer, NotANumber, BadEntry, NoSuchEntry, ListFull, NoFurtherUndo, NoPattern, NotFound, NoBuffer, BufferFull}
+use Rattle.mgs_model.specs.declared.message.Message.TheVariants.{Silent, BeginningOfBuffer, EndOfBuffer, Quitting, MarkSet, NoMark, NothingToYank, CharacterAt, EndAt, NoArgument, BadColumn, InMacro, NotInMacro, NoMacro, TooMany, OnlyOneWindow, WindowTooSmall, TooManyWindows, ImpossibleChange, NoSuchBuffer, NotANumber, BadEntry, NoSuchEntry, ListFull, NoFurtherUndo, BufferFull}
 use Rattle.mgs_model.specs.declared.session.Mode.TheVariants.{Plain}
 use Rattle.mgs_model.specs.declared.session.Kind.{Kind}
 use Rattle.mgs_model.specs.declared.session.Kind.TheVariants.{Other, Kill, Line, Undo}
@@ -29,9 +25,9 @@ use Rattle.mgs_model.specs.declared.session.Insertion.TheVariants.{SelfInsert, N
 use Rattle.mgs_model.specs.declared.session.ReadingInsertion.{ReadingInsertion}
 use Rattle.mgs_model.specs.declared.session.ReadingInsertion.TheVariants.{NewlineAndIndent}
 use Rattle.mgs_model.specs.declared.session.Motion.{Motion}
-use Rattle.mgs_model.specs.declared.session.Motion.TheVariants.{ForwardChar, BackwardChar, BeginningOfLine, EndOfLine, NextLine, PreviousLine, BufferStart, BufferEnd, GoToLine, ForwardWord, BackwardWord, ForwardParagraph, BackwardParagraph, Recenter, WhatCursorPosition, SetMark, ExchangePointAndMark, MarkWholeBuffer, CopyRegion, StartSearch, SearchOn, SearchFor, StartReplace, SkipMatch}
+use Rattle.mgs_model.specs.declared.session.Motion.TheVariants.{ForwardChar, BackwardChar, BeginningOfLine, EndOfLine, NextLine, PreviousLine, BufferStart, BufferEnd, GoToLine, ForwardWord, BackwardWord, ForwardParagraph, BackwardParagraph, Recenter, WhatCursorPosition, SetMark, ExchangePointAndMark, MarkWholeBuffer, CopyRegion}
 use Rattle.mgs_model.specs.declared.session.Alteration.{Alteration}
-use Rattle.mgs_model.specs.declared.session.Alteration.TheVariants.{DeleteChar, DeleteBackwardChar, KillLine, KillWord, BackwardKillWord, KillRegion, TransposeChars, UpcaseWord, DowncaseWord, CapitalizeWord, UpcaseRegion, DowncaseRegion, JustOneSpace, DeleteHorizontalSpace, DeleteBlankLines, JoinLine, FillParagraph, ReplaceMatch, ReplaceLast}
+use Rattle.mgs_model.specs.declared.session.Alteration.TheVariants.{DeleteChar, DeleteBackwardChar, KillLine, KillWord, BackwardKillWord, KillRegion, TransposeChars, UpcaseWord, DowncaseWord, CapitalizeWord, UpcaseRegion, DowncaseRegion, JustOneSpace, DeleteHorizontalSpace, DeleteBlankLines, JoinLine, FillParagraph}
 use Rattle.mgs_model.specs.declared.session.Scrolling.{Scrolling}
 use Rattle.mgs_model.specs.declared.session.Scrolling.TheVariants.{ScrollUp, ScrollDown}
 use Rattle.mgs_model.specs.declared.session.EntryChange.{EntryChange}
@@ -62,18 +58,13 @@ acted_state state = record state { argument = None; keys = []; kind = Other }
 -- PLANS OVER A TEXT
 
 -- what every plan is given beside the text: the buffer's name, the text's length and last serial, the place of action, the
--- mark, the origin and the anchor of a search and whether it is in this buffer, the text to be replaced, the argument, what was typed for it, the kill
--- buffer, the last command's kind, the window's rows and the fill column
+-- mark, the argument, what was typed for it, the kill buffer, the last command's kind, the window's rows and the fill column
 pub record Around : Type 0 where
   pub name : List ℕ
   pub size : ℕ
   pub serial : ℕ
   pub place : ℕ
   pub mark : Option ℕ
-  pub origin : ℕ
-  pub anchor : ℕ
-  pub sought_here : Bool
-  pub old : List ℕ
   pub argument : Option ℕ
   pub typed : List ℕ
   pub kill : List ℕ
@@ -81,25 +72,14 @@ pub record Around : Type 0 where
   pub height : ℕ
   pub fill : ℕ
 
--- what becomes of a mode: it goes on; it is over, since the last match was met; or, of an incremental search, whether it found
--- nothing
-pub data ModePlan : Type 0 where
-  Goes_on : ModePlan
-  Over : ModePlan
-  Failing : (failing : Bool) → ModePlan
-
--- what a command leaves: point, mark, top, search, kill buffer, its kind and what it tells
+-- what a command leaves: point, mark, top, kill buffer, its kind and what it tells
 pub record Finish : Type 0 where
   pub point : PointPlan
   pub mark : MarkPlan
   pub top : PointPlan
-  pub sought : SearchPlan
   pub kill : KillPlan
   pub kind : Kind
   pub told : Message
-  -- how many more were replaced, and whether the mode goes on
-  pub replaced : ℕ
-  pub mode : ModePlan
 
 -- takes out the characters from a up to b, and puts these there
 pub record Change : Type 0 where
@@ -109,7 +89,7 @@ pub record Change : Type 0 where
   pub finish : Finish
 
 abbrev pub stays : Finish
-stays = record { point = Keep; mark = Keep_mark; top = Keep; sought = Keep_search; kill = Keep_kill; kind = Other; told = Silent; replaced = 0; mode = Goes_on }
+stays = record { point = Keep_position; mark = Keep_mark; top = Keep_position; kill = Keep_kill; kind = Other; told = Silent }
 
 abbrev pub goes : ℕ → Finish
 goes p = record stays { point = At p }
@@ -133,7 +113,7 @@ count_of (Some n) = n
 abbrev pub times : Around → ℕ
 times x = count_of x.argument
 
--- FAILURES: this one where there is nothing of the kind
+-- FAILURES: a plan that goes by what may be missing fails with this message where it is
 abbrev pub fails_without : {A B : Type 0} → Message → Option A → (A → B) → Result B Message
 fails_without message None f = Err message
 fails_without message (Some x) f = Ok (f x)
@@ -215,22 +195,6 @@ abbrev pub position_told : CursorPosition → Option ℕ → Message
 position_told position None = EndAt position
 position_told position (Some c) = CharacterAt c position
 
--- SEARCHES
-
--- a step of an incremental search moves point and anchor, and where it looks for the pattern it may be failing then
-abbrev pub searched_on : SearchStep → Sought → List ℕ → SearchPlaces → Finish
-searched_on step s text x =
-    record (goes (places_after step s text x).point) {
-      sought = Anchor_at (places_after step s text x).anchor;
-      mode = cond (is_looking step) (Failing (sought_after step s text x).failing) Goes_on;
-    }
-
--- a search by a prompt
-abbrev pub searches_for : Direction → List ℕ → List ℕ → ℕ → Result Finish Message
-searches_for d pattern text p =
-    if length pattern == 0 then Err NoPattern
-    else fails_without NotFound (match_once d pattern text p) (λ m. goes (match_point d pattern m))
-
 -- A LINE BY ITS NUMBER: 1 to 7 digits of ASCII, where it is typed
 
 abbrev pub is_number : List ℕ → Bool
@@ -247,20 +211,6 @@ line_wanted (Some n) typed = Some n
 -- lines count from 1 here; 0 is the first one too, and what is past the last one is the last one
 abbrev pub goes_to_line : List ℕ → Option ℕ → Result Finish Message
 goes_to_line text line = fails_without NotANumber line (λ n. goes (lines_down text 0 (n - 1)))
-
--- QUERY-REPLACE
-
-abbrev pub is_match : List ℕ → Around → Bool
-is_match text x = matches_at x.old text x.anchor
-
--- on to a match of a pattern of so many characters; where there is none it is over
-abbrev pub met : ℕ → Finish → Option ℕ → Finish
-met len f None = record f { mode = Over }
-met len f (Some m) = record f { point = At (m + len); sought = Anchor_at m }
-
--- to the next one from a place on
-abbrev pub next_match : Around → ℕ → Finish → List ℕ → Finish
-next_match x from f text = met (length x.old) f (first_match x.old text from)
 
 abbrev pub motion : Motion → List ℕ → Around → Result Finish Message
 motion ForwardChar text x = fails_at_end x (goes (min (x.place + times x) x.size))
@@ -284,18 +234,6 @@ motion SetMark text x = Ok (record stays { mark = Mark_at x.place; told = MarkSe
 motion ExchangePointAndMark text x = fails_without NoMark x.mark (λ m. record (goes m) { mark = Mark_at x.place })
 motion MarkWholeBuffer text x = Ok (record (goes 0) { mark = Mark_at x.size })
 motion CopyRegion text x = in_region x (λ a b. with_kill Forward text x a b stays)
-motion (StartSearch d) text x = Ok (record stays { sought = Begin x.name x.place x.place })
--- a search goes on in its own buffer; no key leads to a window that shows another
-motion (SearchOn d step) text x =
-    let s : Sought = record { direction = d; pattern = x.typed; failing = false } in
-    let places : SearchPlaces = record { origin = x.origin; anchor = x.anchor; point = x.place } in
-    if x.sought_here then Ok (searched_on step s text places) else Err NoBuffer
-motion (SearchFor d) text x = searches_for d x.typed text x.place
-motion StartReplace text x =
-    if length x.old == 0 then Err NoPattern
-    else Ok (elim (first_match x.old text x.place) [ None ↦ record stays { mode = Over } | Some m ↦ record (goes (m + length x.old)) { sought = Begin x.name x.place m } ])
-motion SkipMatch text x =
-    if x.sought_here then Ok (next_match x (x.anchor + cond (is_match text x) (length x.old) 0) stays text) else Err NoBuffer
 
 -- SCROLLING: the start of the line that is two lines less than the window's rows away, at least one, or as many lines as
 -- the argument says
@@ -359,15 +297,6 @@ fills text fill p =
     if is_blank_at text p then replaces p p [] stays
     else puts (paragraph_start text p) (paragraph_end text p) (refilled fill (slice_range text (paragraph_start text p) (paragraph_end text p)))
 
--- REPLACING: a match that is no longer there is not replaced, which leaves something else
-abbrev pub replaces_match : List ℕ → Around → Finish → Finish → Result Change Message
-replaces_match text x done gone =
-    if not x.sought_here then Err NoBuffer
-    else Ok (if is_match text x then replaces x.anchor (x.anchor + length x.old) x.typed done else replaces x.anchor x.anchor [] gone)
-
-abbrev pub replaced_one : Around → Finish
-replaced_one x = record (goes (x.anchor + length x.typed)) { replaced = 1 }
-
 abbrev pub alteration : Alteration → List ℕ → Around → Result Change Message
 alteration DeleteChar text x = fails_at_end x (deletes x.place (min (x.place + times x) x.size))
 alteration DeleteBackwardChar text x = fails_at_start x (deletes (x.place - times x) x.place)
@@ -386,10 +315,6 @@ alteration DeleteHorizontalSpace text x = Ok (deletes (white_start text x.place)
 alteration DeleteBlankLines text x = Ok (deletes_blank_lines text x.place)
 alteration JoinLine text x = joins_line text (line_start text x.place)
 alteration FillParagraph text x = Ok (fills text x.fill x.place)
-alteration ReplaceMatch text x =
-    let behind : List ℕ = edited x.anchor (x.anchor + length x.old) x.typed text in
-    replaces_match text x (next_match x (x.anchor + length x.typed) (replaced_one x) behind) (next_match x x.anchor stays text)
-alteration ReplaceLast text x = replaces_match text x (record (replaced_one x) { mode = Over }) (record stays { mode = Over })
 
 -- UNDO: the item before the last one undone where nobody added one since, else the newest
 abbrev pub undo_target : Around → ℕ
@@ -410,13 +335,9 @@ taken_back x item =
     let from : ℕ = undone_from x.size item in
     replaces from (undone_to x.size item) item.removed (record (goes (from + length item.removed)) { kind = Undo x.name item.serial (x.serial + 1) })
 
--- an undo is an edit, so a serial has to be left for it
-abbrev pub last_serial : ℕ
-last_serial = 18446744073709551615
-
 abbrev pub undone : Around → Option Item → Result Change Message
 undone x None = Err NoFurtherUndo
-undone x (Some item) = if x.serial == last_serial then Err BufferFull else Ok (taken_back x item)
+undone x (Some item) = if x.serial == u64_max then Err BufferFull else Ok (taken_back x item)
 
 abbrev pub undo : List Item → Around → Result Change Message
 undo items x = undone x (find (λ (item : Item). item.serial == undo_target x) items)
@@ -450,7 +371,7 @@ entries_changed InsertEntry entries n typed = with_entry (entry_inserted entries
 entries_changed DeleteEntry entries n typed = if has_entry entries n then Ok (remove entries (count_of n - 1)) else Err NoSuchEntry
 entries_changed ReplaceEntry entries n typed = with_entry (entry_replaced entries n) (entry_in typed)
 
--- SETTINGS change the session's own record alone; this one is as after a command that was done
+-- SETTINGS change the session's own state alone; the one that is given is that after a command that was done
 
 abbrev pub setting : Setting → State → Option ℕ → Result State Message
 setting SetFillColumn state None = Err NoArgument
@@ -470,7 +391,7 @@ setting CallMacro state n =
 -- ARRANGEMENTS change the windows alone
 
 abbrev pub old_slot : ℕ → ℕ → Slot
-old_slot i height = record { source = Old i; point = Keep; mark = Keep_mark; top = Keep; row = None; height = height }
+old_slot i height = record { source = Old i; point = Keep_position; mark = Keep_mark; top = Keep_position; row = None; height = height }
 
 -- the windows as they are, but for their heights, which go by their index and the one before
 abbrev pub resized : (ℕ → ℕ → ℕ) → ℕ → List WindowSeen → List Slot

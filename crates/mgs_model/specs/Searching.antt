@@ -13,7 +13,7 @@
 use Rattle.std.specs.Prelude.{ℕ, zero, suc, ◌+◌, ◌-◌, ◌==◌, nat_lt, Bool, true, false, List, [], ◌∷◌, ◌++◌, length, take, drop, Option, None, Some, is_none, cond, if◌then◌else◌}
 use Rattle.std.specs.List.{starts_with}
 use Rattle.std.specs.Char.{eq_ignore_ascii_case}
-use Rattle.mgs_model.specs.Keys.{is_graphic}
+use Rattle.mgs_model.specs.Keys.{input_limit, is_graphic}
 use Rattle.mgs_model.specs.declared.search.Direction.{Direction}
 use Rattle.mgs_model.specs.declared.search.Direction.TheVariants.{Forward, Backward}
 use Rattle.mgs_model.specs.declared.search.SearchPlaces.{SearchPlaces}
@@ -74,9 +74,9 @@ pub record Sought : Type 0 where
   pub pattern : List ℕ
   pub failing : Bool
 
--- a character behind the pattern, which has at most 120
+-- a character behind the pattern, which has as many as an input may have
 abbrev pub lengthened : List ℕ → ℕ → List ℕ
-lengthened pattern c = if nat_lt (length pattern) 120 then pattern ++ c ∷ [] else pattern
+lengthened pattern c = if nat_lt (length pattern) input_limit then pattern ++ c ∷ [] else pattern
 
 abbrev pub shortened : List ℕ → List ℕ
 shortened pattern = take (length pattern - 1) pattern

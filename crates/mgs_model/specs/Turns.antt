@@ -18,9 +18,10 @@ use Rattle.mgs_model.specs.declared.message.Message.{Message}
 use Rattle.mgs_model.specs.declared.message.Message.TheVariants.{Silent, KeyNotBound, Quitting, NoMatch, NoSuchCommand, Replaced}
 use Rattle.mgs_model.specs.declared.session.Mode.{Mode}
 use Rattle.mgs_model.specs.declared.session.Mode.TheVariants.{Plain, Prompt, Searching, Replacing}
-use Rattle.mgs_model.specs.declared.session.Motion.TheVariants.{GoToLine, StartSearch, SearchOn, SearchFor, StartReplace, SkipMatch}
-use Rattle.mgs_model.specs.declared.session.Alteration.{Alteration}
-use Rattle.mgs_model.specs.declared.session.Alteration.TheVariants.{ReplaceMatch, ReplaceLast}
+use Rattle.mgs_model.specs.declared.session.Motion.TheVariants.{GoToLine}
+use Rattle.mgs_model.specs.declared.session.Seeking.TheVariants.{SearchFor, StartSearch, SearchOn, StartReplace, SkipMatch}
+use Rattle.mgs_model.specs.declared.session.Replacement.{Replacement}
+use Rattle.mgs_model.specs.declared.session.Replacement.TheVariants.{ReplaceMatch, ReplaceLast}
 use Rattle.mgs_model.specs.declared.session.Kind.TheVariants.{Other}
 use Rattle.mgs_model.specs.declared.session.Setting.TheVariants.{CallMacro}
 use Rattle.mgs_model.specs.declared.session.Question.{Question}
@@ -28,7 +29,7 @@ use Rattle.mgs_model.specs.declared.session.Question.TheVariants.{SwitchTo, Find
 use Rattle.mgs_model.specs.declared.session.ByName.TheVariants.{SwitchToBuffer, KillBuffer, InsertBuffer}
 use Rattle.mgs_model.specs.declared.session.EntryChange.TheVariants.{InsertEntry, ReplaceEntry}
 use Rattle.mgs_model.specs.declared.session.Command.{Command}
-use Rattle.mgs_model.specs.declared.session.Command.TheVariants.{Move, Alter, Set, Ask, Named, Entries, SetOwner, SetGroup, LeaveSearch}
+use Rattle.mgs_model.specs.declared.session.Command.TheVariants.{Move, Seek, Replace, Set, Ask, Named, Entries, SetOwner, SetGroup, LeaveSearch}
 
 -- TURNS
 
@@ -43,8 +44,8 @@ pub data Turn : Type 0 where
 abbrev pub used : State → State
 used state = record state { argument = None; keys = [] }
 
--- a macro that can be played is no act: its bytes are the next to come, and the kind of the last command is that of the one before
--- until an act of them is done
+-- a macro that can be played is no act: its bytes are the next to come, and until the first act of them the kind of the last command
+-- stays what it was before the key
 abbrev pub plays : State → Option ℕ → Result State Message → Turn
 plays state n (Ok after) = Keep (record after { kind = state.kind })
 plays state n (Err message) = Do state (Run (Set CallMacro) n [])
@@ -57,7 +58,7 @@ line_turn state (Some n) = Do state (Run (Move GoToLine) (Some n) [])
 abbrev pub command_turn : State → Option ℕ → Command → Turn
 command_turn state n (Set CallMacro) = plays state n (setting CallMacro (acted_state state) n)
 command_turn state n (Move GoToLine) = line_turn state n
-command_turn state n (Move (StartSearch d)) = Do (record state { mode = Searching d false; input = [] }) (Run (Move (StartSearch d)) n [])
+command_turn state n (Seek (StartSearch d)) = Do (record state { mode = Searching d false; input = [] }) (Run (Seek (StartSearch d)) n [])
 command_turn state n c = Do state (Run c n [])
 
 -- what a byte's reading leads to
@@ -76,20 +77,20 @@ unbound_state state = record state { echo = KeyNotBound; keys = []; kind = Other
 -- THE INPUT OF A PROMPT
 
 -- the command that an answer is for: a file that is looked for is a buffer of its name, and a command's name is looked up
-abbrev pub answered : Question → Command
-answered SwitchTo = Named SwitchToBuffer
-answered FindWhich = Named SwitchToBuffer
-answered KillWhich = Named KillBuffer
-answered InsertWhich = Named InsertBuffer
-answered RunWhich = Ask RunWhich
-answered GoToWhich = Move GoToLine
-answered EntryToInsert = Entries InsertEntry
-answered EntryToReplace = Entries ReplaceEntry
-answered WhichOwner = SetOwner
-answered WhichGroup = SetGroup
-answered (SearchWhat d) = Move (SearchFor d)
-answered ReplaceWhat = Ask ReplaceWith
-answered ReplaceWith = Move StartReplace
+abbrev pub command_for : Question → Command
+command_for SwitchTo = Named SwitchToBuffer
+command_for FindWhich = Named SwitchToBuffer
+command_for KillWhich = Named KillBuffer
+command_for InsertWhich = Named InsertBuffer
+command_for RunWhich = Ask RunWhich
+command_for GoToWhich = Move GoToLine
+command_for EntryToInsert = Entries InsertEntry
+command_for EntryToReplace = Entries ReplaceEntry
+command_for WhichOwner = SetOwner
+command_for WhichGroup = SetGroup
+command_for (SearchWhat d) = Seek (SearchFor d)
+command_for ReplaceWhat = Ask ReplaceWith
+command_for ReplaceWith = Seek StartReplace
 
 -- what may be completed: the name of a buffer, or of a command
 abbrev pub names_buffers : Question → Bool
@@ -127,9 +128,9 @@ pattern_meant state = cond (length state.input == 0) state.pattern state.input
 abbrev pub answer_turn : Question → State → Turn
 answer_turn RunWhich state = named_turn (plain_state state) (value_of state.argument) (find_command state.input)
 answer_turn ReplaceWhat state = Keep (record state { mode = Prompt ReplaceWith; old = state.input; input = [] })
-answer_turn ReplaceWith state = Do (record state { mode = Replacing; argument = None; count = 0 }) (Run (Move StartReplace) None state.input)
-answer_turn (SearchWhat d) state = Do (plain_state state) (Run (Move (SearchFor d)) (value_of state.argument) (pattern_meant state))
-answer_turn c state = Do (plain_state state) (Run (answered c) (value_of state.argument) state.input)
+answer_turn ReplaceWith state = Do (record state { mode = Replacing; argument = None; count = 0 }) (Run (Seek StartReplace) None state.input)
+answer_turn (SearchWhat d) state = Do (plain_state state) (Run (Seek (SearchFor d)) (value_of state.argument) (pattern_meant state))
+answer_turn c state = Do (plain_state state) (Run (command_for c) (value_of state.argument) state.input)
 
 -- what a byte makes of the keys before it: ESC waits for the byte of a meta key, and M-[ for one more key
 abbrev pub prompt_keys : List ℕ → ℕ → List ℕ
@@ -172,7 +173,7 @@ sought_turn state byte s Ends = Keep (searched state)
 sought_turn state byte s Quits = Do state (Run LeaveSearch None [])
 sought_turn state byte s Leaves = key_turn (searched state) byte
 sought_turn state byte s step =
-    Do (record state { mode = Searching s.direction s.failing; input = s.pattern }) (Run (Move (SearchOn s.direction step)) None s.pattern)
+    Do (record state { mode = Searching s.direction s.failing; input = s.pattern }) (Run (Seek (SearchOn s.direction step)) None s.pattern)
 
 -- a byte of a character past ASCII, which is put behind the pattern
 abbrev pub pattern_turn : State → Sought → ℕ → Sequence → Turn
@@ -191,14 +192,14 @@ search_turn state d failing byte =
 
 -- A REPLACING: `!` is no act, and queues its replacements
 
-abbrev pub replacing : State → Alteration → Turn
-replacing state c = Do state (Run (Alter c) None state.input)
+abbrev pub replacing : State → Replacement → Turn
+replacing state c = Do state (Run (Replace c) None state.input)
 
 abbrev pub replace_turn : State → ℕ → Turn
 replace_turn state byte =
     if (byte == 121) || (byte == 32) then replacing state ReplaceMatch
     else if byte == 46 then replacing state ReplaceLast
-    else if (byte == 110) || (byte == 127) then Do state (Run (Move SkipMatch) None state.input)
+    else if (byte == 110) || (byte == 127) then Do state (Run (Seek SkipMatch) None state.input)
     else if byte == 33 then Keep (record state { todo = Replace_all ∷ state.todo })
     else if (byte == 113) || (byte == 13) then Keep (record state { echo = Replaced state.count; mode = Plain; input = []; old = []; count = 0 })
     else if byte == 7 then Keep (failed_state Quitting state)

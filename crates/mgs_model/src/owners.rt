@@ -5,13 +5,17 @@ use crate::name::Name;
 /// then.
 #[derive(Clone, Copy)]
 pub struct Owners {
+    /// The user whom `OWNER@` matches.
     pub owner: Name,
+    /// The group whose members `GROUP@` matches.
     pub group: Option<Name>,
 }
 
 /// Another owner of a buffer, or another owning group, or none.
 #[derive(Clone, Copy)]
 pub enum NewOwner {
+    /// The user who is the owner from then on.
     ToUser(Name),
+    /// The group that is the owning group from then on.
     ToGroup(Option<Name>),
 }

@@ -3,15 +3,20 @@
 /// Which way a search goes through a text.
 #[derive(Clone, Copy, PartialEq, Eq)]
 pub enum Direction {
+    /// To the text's end.
     Forward,
+    /// To the text's start.
     Backward,
 }
 
 /// The positions of an incremental search: where it began, where it looks from, and the point.
 #[derive(Clone, Copy, PartialEq, Eq)]
 pub struct SearchPlaces {
+    /// Where C-g takes the point back to, in characters before it.
     pub origin: usize,
+    /// Where the last match begins, and at first the origin.
     pub anchor: usize,
+    /// The point: behind the last match, or backward at its start.
     pub point: usize,
 }
 

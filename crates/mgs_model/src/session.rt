@@ -43,13 +43,16 @@ impl MarkId {
 /// An argument, and whether a digit goes on with it: C-u is 4, and a digit replaces it.
 #[derive(Clone, Copy, PartialEq, Eq)]
 pub struct Argument {
+    /// The number, 0 to 9,999.
     pub value: usize,
+    /// Whether a digit is put behind the number; else it replaces it.
     pub extends: bool,
 }
 
 /// What a session is in the middle of.
 #[derive(Clone, Copy, PartialEq, Eq)]
 pub enum Mode {
+    /// Nothing: its bytes are keys.
     Plain,
     /// It types the answer to this.
     Prompt(Question),
@@ -62,6 +65,7 @@ pub enum Mode {
 /// The kind of a session's last command.
 #[derive(Clone, Copy, PartialEq, Eq)]
 pub enum Kind {
+    /// Any other, or none yet: the next command goes on with nothing.
     Other,
     /// A kill or a copy: the next one adds its piece.
     Kill,
@@ -80,7 +84,9 @@ pub enum Kind {
 /// Puts characters in, and sees nothing of the text but its length.
 #[derive(Clone, Copy, PartialEq, Eq)]
 pub enum Insertion {
+    /// The character that was typed, or that came after C-q.
     SelfInsert(char),
+    /// RET: line feeds before the point.
     Newline,
     /// Line feeds after the point.
     OpenLine,
@@ -91,66 +97,111 @@ pub enum Insertion {
 /// Puts in what depends on the text.
 #[derive(Clone, Copy, PartialEq, Eq)]
 pub enum ReadingInsertion {
+    /// C-j: line feeds, and the spaces and TABs that begin the line.
     NewlineAndIndent,
 }
 
 /// Reads the text, and edits nothing.
 #[derive(Clone, Copy, PartialEq, Eq)]
 pub enum Motion {
+    /// C-f: forward by characters.
     ForwardChar,
+    /// C-b: back by characters.
     BackwardChar,
+    /// C-a: to the start of the line.
     BeginningOfLine,
+    /// C-e: to the end of the line.
     EndOfLine,
+    /// C-n: down by lines, at most to the column that a run of line motions goes for.
     NextLine,
+    /// C-p: up by lines, likewise.
     PreviousLine,
+    /// M-<: to the text's start.
     BufferStart,
+    /// M->: to the text's end.
     BufferEnd,
     /// To the start of the line of a number.
     GoToLine,
+    /// M-f: forward over words of ASCII letters and digits.
     ForwardWord,
+    /// M-b: back over words of ASCII letters and digits.
     BackwardWord,
+    /// M-}: forward over paragraphs, to the blank line behind or the text's end.
     ForwardParagraph,
+    /// M-{: back over paragraphs, to the start of the first line.
     BackwardParagraph,
     /// The point's line comes to the middle of the window.
     Recenter,
+    /// C-x =: the point stays, and the echo text tells where it stands.
     WhatCursorPosition,
+    /// C-SPC: the mark goes to the point.
     SetMark,
+    /// C-x C-x: point and mark change places.
     ExchangePointAndMark,
+    /// C-x h: the point goes to the text's start, and the mark to its end.
     MarkWholeBuffer,
+    /// M-w: what stands between mark and point is copied to the kill buffer.
     CopyRegion,
-    /// An incremental search begins.
-    StartSearch(Direction),
-    /// A step of an incremental search for what was typed so far.
-    SearchOn(Direction, SearchStep),
-    /// To the next match of what was typed at a prompt.
-    SearchFor(Direction),
-    StartReplace,
-    /// A match stays as it is.
-    SkipMatch,
 }
 
 /// Reads the text and edits it.
 #[derive(Clone, Copy, PartialEq, Eq)]
 pub enum Alteration {
+    /// C-d: takes out characters behind the point.
     DeleteChar,
+    /// DEL: takes out characters before the point.
     DeleteBackwardChar,
+    /// C-k: kills to the line's end, or the line feed there; by an argument that many lines, and by 0 back to the line's start.
     KillLine,
+    /// M-d: kills to where M-f would go.
     KillWord,
+    /// M-DEL: kills back to where M-b would go.
     BackwardKillWord,
+    /// C-w: kills what stands between mark and point.
     KillRegion,
+    /// C-t: exchanges the characters on both sides of the point, at a line's end the two before it.
     TransposeChars,
+    /// M-u: ASCII letters become upper case, to where M-f would go.
     UpcaseWord,
+    /// M-l: ASCII letters become lower case, to where M-f would go.
     DowncaseWord,
+    /// M-c: the first ASCII letter of each word becomes upper case and the others lower case, to where M-f would go.
     CapitalizeWord,
+    /// C-x C-u: ASCII letters between mark and point become upper case.
     UpcaseRegion,
+    /// C-x C-l: ASCII letters between mark and point become lower case.
     DowncaseRegion,
     /// The white around the point becomes one space.
     JustOneSpace,
+    /// M-\: takes out the spaces and TABs around the point.
     DeleteHorizontalSpace,
+    /// C-x C-o: takes out the blank lines below; in a blank line, it and those around it become one empty line.
     DeleteBlankLines,
     /// The line is joined to the one above.
     JoinLine,
+    /// M-q: the words of the paragraph are written anew, in lines up to the fill column.
     FillParagraph,
+}
+
+/// Looks for what was typed, reads the text, and edits nothing.
+#[derive(Clone, Copy, PartialEq, Eq)]
+pub enum Seeking {
+    /// To the next match of what was typed at a prompt.
+    SearchFor(Direction),
+    /// An incremental search begins.
+    StartSearch(Direction),
+    /// A step of an incremental search for what was typed so far.
+    SearchOn(Direction, SearchStep),
+    /// A query-replace begins.
+    StartReplace,
+    /// A match stays as it is.
+    SkipMatch,
+}
+
+/// Reads the text, and puts what was typed in the place of a match.
+#[derive(Clone, Copy, PartialEq, Eq)]
+pub enum Replacement {
+    /// And goes on to the next match.
     ReplaceMatch,
     /// The match is the last one that is replaced.
     ReplaceLast,
@@ -159,55 +210,80 @@ pub enum Alteration {
 /// Goes on or back by a screen: in a text by lines, in a listing or an access list by rows.
 #[derive(Clone, Copy, PartialEq, Eq)]
 pub enum Scrolling {
+    /// C-v: on, to what is further down.
     ScrollUp,
+    /// M-v: back, to what is further up.
     ScrollDown,
 }
 
 /// Changes the session's own record alone.
 #[derive(Clone, Copy, PartialEq, Eq)]
 pub enum Setting {
+    /// C-x f: the fill column becomes the argument, 1 to 9,999.
     SetFillColumn,
+    /// C-g: gives up an argument, a word of keys, and a macro that is recorded.
     KeyboardQuit,
+    /// C-x (: a macro is recorded from here on.
     StartMacro,
+    /// C-x ): the macro that is recorded is complete.
     EndMacro,
+    /// C-x e: plays the last macro, up to 100 times.
     CallMacro,
 }
 
 /// Changes the session's windows alone.
 #[derive(Clone, Copy, PartialEq, Eq)]
 pub enum Arrangement {
+    /// C-x 0: the selected window goes; its rows go to the one above, or below for the first.
     DeleteWindow,
+    /// C-x 1: the selected window takes all rows.
     DeleteOtherWindows,
+    /// C-x 2: the selected window becomes two that show the same, of which the upper one is selected.
     SplitWindow,
+    /// C-x o and C-x n: the next window is selected, after the last the first.
     NextWindow,
+    /// C-x p: the window before is selected, before the first the last.
     PreviousWindow,
+    /// C-x ^: rows go to the selected window from the one below, or above for the last.
     EnlargeWindow,
+    /// shrink-window: rows of the selected window go to the one below, or above for the last.
     ShrinkWindow,
+    /// C-x C-b: the selected window comes to the list of buffers.
     ListBuffers,
 }
 
 /// Acts on a buffer by the name that was typed for it.
 #[derive(Clone, Copy, PartialEq, Eq)]
 pub enum ByName {
+    /// C-x b and C-x C-f: the selected window comes to it; where there is none, it is made.
     SwitchToBuffer,
+    /// C-x k: it goes, for everybody; an empty name means the one whose text or list the selected window shows.
     KillBuffer,
+    /// insert-buffer: its text is put into the one that the selected window shows.
     InsertBuffer,
 }
 
 /// Changes an access list.
 #[derive(Clone, Copy, PartialEq, Eq)]
 pub enum EntryChange {
+    /// acl-insert: the typed entry is put before the one that the argument counts from 1, without an argument last.
     InsertEntry,
+    /// acl-delete: takes out the entry that the argument counts from 1, without an argument the first.
     DeleteEntry,
+    /// acl-replace: the typed entry takes the place of the one that the argument counts, without an argument of the first.
     ReplaceEntry,
 }
 
 /// What a prompt asks for.
 #[derive(Clone, Copy, PartialEq, Eq)]
 pub enum Question {
+    /// `Switch to buffer:`, of C-x b: the name of the buffer that is shown then.
     SwitchTo,
+    /// `Find file:`, of C-x C-f: asks the same.
     FindWhich,
+    /// `Kill buffer:`, of C-x k: the name of the buffer that goes.
     KillWhich,
+    /// `Insert buffer:`, of insert-buffer: the name of the buffer whose text is put in.
     InsertWhich,
     /// The name of a command, which is then run.
     RunWhich,
@@ -217,35 +293,56 @@ pub enum Question {
     EntryToInsert,
     /// The text of an entry that takes the place of another.
     EntryToReplace,
+    /// `Owner:`, of set-owner: the name of a user.
     WhichOwner,
+    /// `Group:`, of set-group: the name of a group, or nothing for none.
     WhichGroup,
     /// The pattern of a search that is no incremental one.
     SearchWhat(Direction),
+    /// `Query replace:`, of M-%: what is replaced.
     ReplaceWhat,
+    /// `With:`, of M-% then: what is put in its place, which may be nothing.
     ReplaceWith,
 }
 
 /// What a word of keys tells a session to do, by what it may see and do.
 #[derive(Clone, Copy, PartialEq, Eq)]
 pub enum Command {
+    /// Puts characters in: needs APPEND_DATA at the text's end, and WRITE_DATA elsewhere.
     Insert(Insertion),
+    /// Puts in what depends on the text: needs READ_DATA too.
     InsertReading(ReadingInsertion),
+    /// Reads the text: needs READ_DATA.
     Move(Motion),
+    /// Reads the text and edits it: needs READ_DATA and WRITE_DATA.
     Alter(Alteration),
+    /// Searches: needs READ_DATA.
+    Seek(Seeking),
+    /// Replaces a match: needs READ_DATA and WRITE_DATA.
+    Replace(Replacement),
+    /// Scrolls: needs READ_DATA in a text, and no right in a listing or an access list.
     Scroll(Scrolling),
+    /// Changes the session's own record: needs no right.
     Set(Setting),
+    /// Changes the session's windows: needs no right.
     Rearrange(Arrangement),
     /// Opens a prompt.
     Ask(Question),
+    /// Acts on a buffer by its name: needs READ_ATTRIBUTES to show it, DELETE to kill it, READ_DATA to take its text.
     Named(ByName),
+    /// Changes the access list: needs WRITE_ACL.
     Entries(EntryChange),
     /// Shows the access list.
     ListEntries,
+    /// set-owner: gives the buffer to a user, by WRITE_OWNER.
     SetOwner,
+    /// set-group: gives the buffer to a group or to none, by WRITE_OWNER.
     SetGroup,
+    /// C-_ and C-x u: takes the last edit of the text back, whoever made it.
     UndoEdit,
     /// Clears the modified flag.
     NotModified,
+    /// C-x C-s: the text goes to the store, and the modified flag is cleared.
     SaveBuffer,
     /// Ends a search where it began.
     LeaveSearch,

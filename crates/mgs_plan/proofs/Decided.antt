@@ -13,16 +13,19 @@ use Rattle.mgs_model.specs.declared.touched.Touched.{Touched}
 use Rattle.mgs_buffers.specs.MarkedBuffer.{MarkedBuffer}
 use Rattle.mgs_session.specs.declared.Session.{Session}
 use Rattle.mgs_model.specs.declared.session.Command.{Command}
-use Rattle.mgs_model.specs.declared.session.Command.TheVariants.{Insert, InsertReading, Move, Alter, Scroll, UndoEdit, NotModified}
+use Rattle.mgs_model.specs.declared.session.Command.TheVariants.{Insert, InsertReading, Move, Alter, Seek, Scroll, UndoEdit, NotModified}
+use Rattle.mgs_model.specs.declared.session.Seeking.TheVariants.{SearchFor}
+use Rattle.mgs_model.specs.declared.message.Message.TheVariants.{NoBuffer}
+use Rattle.mgs_model.specs.declared.search.Direction.{Direction}
 use Rattle.mgs_session.specs.Sessions.{window_marks_of}
 use Rattle.mgs_windows.specs.declared.WindowMarks.{WindowMarks}
-use Rattle.mgs_plan.specs.Actions.{AreMarks, IsActionOf, outcome_through, plan_in, selected_height}
+use Rattle.mgs_plan.specs.Actions.{AreMarks, IsActionOf, IsSearchFor, is_on_text, outcome_through, plan_in, selected_height}
 use Rattle.mgs_plan.specs.Rows.{scroll_in}
 use Rattle.mgs_plan.specs.declared.action.Action.{Action}
-use Rattle.mgs_plan.specs.declared.outcome.Outcome.TheVariants.{Acts}
+use Rattle.mgs_plan.specs.declared.outcome.Outcome.TheVariants.{Acts, Fails}
 use Rattle.mgs_world.proofs.Owns.{no_search_at_rest}
 use Rattle.mgs_world.proofs.Soundness.{mark_is_kept}
-use Rattle.mgs_plan.proofs.Outcomes.{is_of_text, outcome_none, outcome_plan}
+use Rattle.mgs_plan.proofs.Outcomes.{outcome_none, outcome_plan, selected_none, sought_off_target, sought_plan}
 use Rattle.mgs_plan.specs.Deciding.{IsOutcome, IsUnshown, outcome_read, view_at}
 use Rattle.mgs_plan.specs.Tells.{touched_in}
 use Rattle.mgs_plan.specs.declared.outcome.Outcome.{Outcome}
@@ -46,7 +49,7 @@ module _ (directory : Directory) (ks : List MarkedBuffer) (xs : List Session) (n
 
 -- A COMMAND ON A TEXT
 
-no_save : (c : Command) (n : Option ℕ) (typed : List ℕ) → is_of_text c ≡ true → is_save (Run c n typed) ≡ false
+no_save : (c : Command) (n : Option ℕ) (typed : List ℕ) → is_on_text c ≡ true → is_save (Run c n typed) ≡ false
 no_save (Insert c) n typed here = refl
 no_save (InsertReading c) n typed here = refl
 no_save (Move c) n typed here = refl
@@ -56,7 +59,7 @@ no_save UndoEdit n typed here = refl
 no_save NotModified n typed here = refl
 no_save _ n typed here = cc
 
-module _ (directory : Directory) (ks : List MarkedBuffer) (xs : List Session) (next : Option ℕ) (h : Session) (c : Command) (n : Option ℕ) (typed : List ℕ) (here : is_of_text c ≡ true) where
+module _ (directory : Directory) (ks : List MarkedBuffer) (xs : List Session) (next : Option ℕ) (h : Session) (c : Command) (n : Option ℕ) (typed : List ℕ) (here : is_on_text c ≡ true) where
   pub text_planned : (x : WindowMarks) (action : Action) → window_marks_of h ≡ Some x → AreMarks ks x → state_of h.state ≡ idle (state_of h.state) → IsActionOf directory ks h x c n typed action → IsOutcome directory ks xs next h (Run c n typed) (Acts x action)
   text_planned x action sel marks fresh planned = λ stored.
       unstored (view_at directory ks xs next h) (Run c n typed) stored (no_save c n typed here)
@@ -68,3 +71,16 @@ module _ (directory : Directory) (ks : List MarkedBuffer) (xs : List Session) (n
       unstored (view_at directory ks xs next h) (Run c n typed) stored (no_save c n typed here)
       ∙ outcome_none directory ks xs next h c n typed here none
       ∙ unshown ks (view_at directory ks xs next h) stored
+
+-- A SEARCH for what was typed
+module _ (directory : Directory) (ks : List MarkedBuffer) (xs : List Session) (next : Option ℕ) (h : Session) (d : Direction) (n : Option ℕ) (typed : List ℕ) where
+  pub search_planned : (x : WindowMarks) (action : Action) → window_marks_of h ≡ Some x → AreMarks ks x → state_of h.state ≡ idle (state_of h.state) → IsSearchFor directory ks h.user x d typed action → IsOutcome directory ks xs next h (Run (Seek (SearchFor d)) n typed) (Acts x action)
+  search_planned x action sel marks fresh planned = λ stored.
+      unstored (view_at directory ks xs next h) (Run (Seek (SearchFor d)) n typed) stored refl
+      ∙ sought_plan directory ks xs next h x (SearchFor d) n typed sel (mark_is_kept x.name x.point ks marks.point) (no_search_at_rest ks h fresh)
+      ∙ sym (planned (state_of h.state) h.kill)
+
+  pub search_unshown : window_marks_of h ≡ None → IsOutcome directory ks xs next h (Run (Seek (SearchFor d)) n typed) (Fails NoBuffer)
+  search_unshown none = λ stored.
+      unstored (view_at directory ks xs next h) (Run (Seek (SearchFor d)) n typed) stored refl
+      ∙ sought_off_target (view_at directory ks xs next h) (SearchFor d) n typed (selected_none directory ks xs next h none)

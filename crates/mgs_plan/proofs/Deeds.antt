@@ -8,7 +8,7 @@ use Rattle.std.proofs.lemmas.Option.{get_or_from_slice_get}
 use Rattle.mgs_model.specs.Access.{Directory}
 use Rattle.mgs_model.specs.World.{Item, has_id}
 use Rattle.mgs_model.specs.World as model
-use Rattle.mgs_model.specs.Outcome.{Adjust, Effect, No_effect, Edit, Unmodified, Outcome, PointPlan, Keep, At, At_origin, Keep_mark}
+use Rattle.mgs_model.specs.Outcome.{Adjust, Effect, No_effect, Edit, Unmodified, Outcome, PointPlan, Keep_position, At, At_origin, Keep_mark, Keep_search}
 use Rattle.mgs_model.specs.Plans as plans
 use Rattle.mgs_model.specs.Plans.{acted_state}
 use Rattle.mgs_model.specs.Acts.{edit_of, effects, fails, finished, finished_state, is_too_large}
@@ -86,10 +86,10 @@ fresh_state xs at h is fresh = sym (ap state_or_first is) ∙ fresh ∙ ap (λ o
 -- WINDOWS
 
 abbrev pub point_by : PointPlan → model.Window → model.Window
-point_by to x = window_adjusted None to Keep_mark Keep None x
+point_by to x = window_adjusted None to Keep_mark Keep_position None x
 
 abbrev top_by : PointPlan → model.Window → model.Window
-top_by to x = window_adjusted None Keep Keep_mark to None x
+top_by to x = window_adjusted None Keep_position Keep_mark to None x
 
 selected_same : (f : model.Window → model.Window) → ((w : model.Window) → f w ≡ w) → (x : model.Session) → selected_at f x ≡ x
 selected_same f same x = ap (λ ws. record x { windows = ws }) (at_same f same x.selected x.windows)
@@ -98,7 +98,7 @@ pub once_used : (ks : List MarkedBuffer) (xs : List Session) (n : List ℕ) (i :
 once_used ks xs n i sound = omega (arith, sound.once n i, one_if_most (is_some (mark_in (marked_at n ks).marks i)))
 
 pub points_gone : (to : PointPlan) (ks : List MarkedBuffer) (xs : List Session) (id : ℕ) (h : Session) (x : WindowMarks) → find (session_id id) xs ≡ Some h → window_marks_of h ≡ Some x → IsMark x.name x.point ks → uses x.name x.point xs ≤ 1 → map (session_of (mark_gone x.name x.point to ks)) xs ≡ change_first (has_id id) (selected_at (point_by to)) (map (session_of ks) xs)
-points_gone Keep ks xs id h x found sel mark once = sym (first_same (has_id id) (selected_at (point_by Keep)) (selected_same (point_by Keep) (λ w. refl)) (map (session_of ks) xs))
+points_gone Keep_position ks xs id h x found sel mark once = sym (first_same (has_id id) (selected_at (point_by Keep_position)) (selected_same (point_by Keep_position) (λ w. refl)) (map (session_of ks) xs))
 points_gone (At p) ks xs id h x found sel mark once = sessions_placed x.point p (point_to p) ks xs id h x found sel (point_used x) (point_places p ks x mark) once
 points_gone At_origin ks xs id h x found sel mark once = sym (first_same (has_id id) (selected_at (point_by At_origin)) (selected_same (point_by At_origin) origin) (map (session_of ks) xs))
   where
@@ -106,7 +106,7 @@ points_gone At_origin ks xs id h x found sel mark once = sym (first_same (has_id
     origin w = refl
 
 tops_gone : (to : PointPlan) (ks : List MarkedBuffer) (xs : List Session) (id : ℕ) (h : Session) (x : WindowMarks) → find (session_id id) xs ≡ Some h → window_marks_of h ≡ Some x → IsMark x.name x.top ks → uses x.name x.top xs ≤ 1 → map (session_of (mark_gone x.name x.top to ks)) xs ≡ change_first (has_id id) (selected_at (top_by to)) (map (session_of ks) xs)
-tops_gone Keep ks xs id h x found sel mark once = sym (first_same (has_id id) (selected_at (top_by Keep)) (selected_same (top_by Keep) (λ w. refl)) (map (session_of ks) xs))
+tops_gone Keep_position ks xs id h x found sel mark once = sym (first_same (has_id id) (selected_at (top_by Keep_position)) (selected_same (top_by Keep_position) (λ w. refl)) (map (session_of ks) xs))
 tops_gone (At p) ks xs id h x found sel mark once = sessions_placed x.top p (top_to p) ks xs id h x found sel (top_used_once x) (top_places p ks x mark) once
 tops_gone At_origin ks xs id h x found sel mark once = sym (first_same (has_id id) (selected_at (top_by At_origin)) (selected_same (top_by At_origin) origin) (map (session_of ks) xs))
   where
@@ -116,7 +116,7 @@ tops_gone At_origin ks xs id h x found sel mark once = sym (first_same (has_id i
 -- SOUNDNESS
 
 pub gone_sound : (name : List ℕ) (id : ℕ) (to : PointPlan) (ks : List MarkedBuffer) (xs : List Session) → IsMark name id ks → IsSound ks xs → IsSound (mark_gone name id to ks) xs
-gone_sound name id Keep ks xs mark sound = sound
+gone_sound name id Keep_position ks xs mark sound = sound
 gone_sound name id (At p) ks xs mark sound = sound_placed name id p ks xs mark sound
 gone_sound name id At_origin ks xs mark sound = sound
 
@@ -130,11 +130,11 @@ edited_sound name c ks xs sound = go (is_edit c.a c.b c.put)
 -- WHAT IS DONE
 
 pub gone_buffers : (name : List ℕ) (id : ℕ) (to : PointPlan) (ks : List MarkedBuffer) → buffers_of (mark_gone name id to ks) ≡ buffers_of ks
-gone_buffers name id Keep ks = refl
+gone_buffers name id Keep_position ks = refl
 gone_buffers name id (At p) ks = buffers_placed name id p ks
 gone_buffers name id At_origin ks = refl
 
-pub edited_buffers : (name : List ℕ) (c : plans.Change) (ks : List MarkedBuffer) → buffers_of (edited_by name c ks) ≡ buffers_after (edit_of name c) (buffers_of ks)
+pub edited_buffers : (name : List ℕ) (c : plans.Change) (ks : List MarkedBuffer) → buffers_of (edited_by name c ks) ≡ buffers_after (edit_of name c.a c.b c.put) (buffers_of ks)
 edited_buffers name c ks = go (is_edit c.a c.b c.put)
   where
     go : (f : Bool) → buffers_of (cond f (change_first (marked_named name) (marked_edited c.a c.b c.put) ks) ks) ≡ buffers_after (cond f (Edit name c.a c.b c.put) No_effect) (buffers_of ks)
@@ -147,7 +147,7 @@ ends f state x = record x { kill = kill_after f.kill x.kill; state = finished_st
 
 -- the outcome of a finish that is not too large
 abbrev pub ended : plans.Finish → Effect → model.State → Outcome
-ended f e state = record { state = finished_state f state; kill = f.kill; arrange = Adjust f.point f.mark f.top None f.sought; effect = e }
+ended f e state = record { state = finished_state f state; kill = f.kill; arrange = Adjust f.point f.mark f.top None Keep_search; effect = e }
 
 windows_end : (point top : PointPlan) (x : model.Session) → change_at x.selected (top_by top) (change_at x.selected (point_by point) x.windows) ≡ change_at x.selected (window_adjusted None point Keep_mark top None) x.windows
 windows_end point top x = at_twice (point_by point) (top_by top) x.selected x.windows
@@ -172,7 +172,7 @@ state_ends behind text kill f ks h fresh =
     let left = finish_read text kill behind f in
     λ i. record (session_of ks (session_finished left h)) { state = at_rest (λ (state : model.State). record state { echo = f.told; kind = f.kind }) (finished_state left) (λ state. refl) (state_of h.state) fresh i }
 
-pub no_quit : (name : List ℕ) (c : plans.Change) (id : ℕ) (xs : List model.Session) → after_quit (edit_of name c) id xs ≡ xs
+pub no_quit : (name : List ℕ) (c : plans.Change) (id : ℕ) (xs : List model.Session) → after_quit (edit_of name c.a c.b c.put) id xs ≡ xs
 no_quit name c id xs = go (is_edit c.a c.b c.put)
   where
     go : (f : Bool) → after_quit (cond f (Edit name c.a c.b c.put) No_effect) id xs ≡ xs
@@ -181,7 +181,7 @@ no_quit name c id xs = go (is_edit c.a c.b c.put)
 
 -- what is left, behind the edit
 pub finished_there : (ks : List MarkedBuffer) (xs : List Session) (id at : ℕ) (h : Session) (x : WindowMarks) (c : plans.Change) (behind : ℕ) (text : List ℕ) (f : Finish) → ((n : List ℕ) (i : ℕ) → uses n i xs ≤ 1) → at ≡ position_or_len (session_id id) xs → at < length xs → slice_get xs at ≡ Some h → window_marks_of h ≡ Some x → AreMarks ks x → state_of h.state ≡ idle (state_of h.state)
-    → (let left = finish_read text h.kill behind f in map (session_of (marks_gone x left (edited_by x.name c ks))) (slice_set xs at (session_finished left h)) ≡ change_first (has_id id) (session_arranged (ended (unmarked left) (edit_of x.name c) (state_of h.state))) (map (session_of (edited_by x.name c ks)) xs))
+    → (let left = finish_read text h.kill behind f in map (session_of (marks_gone x left (edited_by x.name c ks))) (slice_set xs at (session_finished left h)) ≡ change_first (has_id id) (session_arranged (ended (unmarked left) (edit_of x.name c.a c.b c.put) (state_of h.state))) (map (session_of (edited_by x.name c ks)) xs))
 finished_there ks xs id at h x c behind text f once place within is sel marks fresh =
     let left = finish_read text h.kill behind f in
     let state = state_of h.state in
@@ -199,23 +199,23 @@ finished_there ks xs id at h x c behind text f once place within is sel marks fr
     ∙ ap (λ ys. change_first (has_id id) (ends left state) (change_first (has_id id) tops ys)) (points_gone left.point ks1 xs id h x found sel point (once x.name x.point))
     ∙ ap (change_first (has_id id) (ends left state)) (first_twice (has_id id) points tops (λ z. refl) zs)
     ∙ first_twice (has_id id) (λ z. tops (points z)) (ends left state) (λ z. refl) zs
-    ∙ change_first_found (has_id id) (λ z. ends left state (tops (points z))) (session_arranged (ended (unmarked left) (edit_of x.name c) state)) (session_of ks1 h) zs
+    ∙ change_first_found (has_id id) (λ z. ends left state (tops (points z))) (session_arranged (ended (unmarked left) (edit_of x.name c.a c.b c.put) state)) (session_of ks1 h) zs
     (find-map (session_of ks1) (session_id id) (has_id id) (λ z. refl) xs ∙ ap (option_map (session_of ks1)) found)
-    (one_ends behind text h.kill f (edit_of x.name c) ks1 h fresh)
+    (one_ends behind text h.kill f (edit_of x.name c.a c.b c.put) ks1 h fresh)
 
 -- and the searches of all sessions went by it
 finished_sessions : (ks : List MarkedBuffer) (xs : List Session) (id at : ℕ) (h : Session) (x : WindowMarks) (c : plans.Change) (behind : ℕ) (text : List ℕ) (f : Finish) → c.a ≤ c.b → c.b ≤ length (marked_at x.name ks).buffer.text → ((n : List ℕ) (i : ℕ) → uses n i xs ≤ 1) → at ≡ position_or_len (session_id id) xs → at < length xs → slice_get xs at ≡ Some h → window_marks_of h ≡ Some x → AreMarks ks x → state_of h.state ≡ idle (state_of h.state)
-    → (let left = finish_read text h.kill behind f in map (session_of (marks_gone x left (edited_by x.name c ks))) (followed x.name (edit_told (length (marked_at x.name ks).buffer.text) c) (slice_set xs at (session_finished left h))) ≡ change_first (has_id id) (session_arranged (ended (unmarked left) (edit_of x.name c) (state_of h.state))) (map (session_after (edit_of x.name c)) (map (session_of ks) xs)))
+    → (let left = finish_read text h.kill behind f in map (session_of (marks_gone x left (edited_by x.name c ks))) (followed x.name (edit_told (length (marked_at x.name ks).buffer.text) c) (slice_set xs at (session_finished left h))) ≡ change_first (has_id id) (session_arranged (ended (unmarked left) (edit_of x.name c.a c.b c.put) (state_of h.state))) (map (session_after (edit_of x.name c.a c.b c.put)) (map (session_of ks) xs)))
 finished_sessions ks xs id at h x c behind text f order room once place within is sel marks fresh =
     let left = finish_read text h.kill behind f in
     let o = edit_told (length (marked_at x.name ks).buffer.text) c in
     let none = search_at_rest h.state fresh in
     ap (map (session_of (marks_gone x left (edited_by x.name c ks)))) (set_followed x.name o xs at (session_finished left h) none)
     ∙ finished_there ks (followed x.name o xs) id at h x c behind text f (once_followed x.name o xs once) (place_followed x.name o xs id at place) (within_followed x.name o xs at within) (get_followed x.name o xs at h none is) sel marks fresh
-    ∙ ap (change_first (has_id id) (session_arranged (ended (unmarked left) (edit_of x.name c) (state_of h.state)))) (sessions_went x.name c ks xs order room (mark_is_kept x.name x.point ks marks.point))
+    ∙ ap (change_first (has_id id) (session_arranged (ended (unmarked left) (edit_of x.name c.a c.b c.put) (state_of h.state)))) (sessions_went x.name c ks xs order room (mark_is_kept x.name x.point ks marks.point))
 
 finished_so : (directory : Directory) (ks : List MarkedBuffer) (xs : List Session) (next : Option ℕ) (id at : ℕ) (h : Session) (x : WindowMarks) (c : plans.Change) (behind : ℕ) (text : List ℕ) (f : Finish) → c.a ≤ c.b → c.b ≤ length (marked_at x.name ks).buffer.text → IsSound ks xs → at ≡ position_or_len (session_id id) xs → at < length xs → slice_get xs at ≡ Some h → window_marks_of h ≡ Some x → AreMarks ks x → state_of h.state ≡ idle (state_of h.state) → f.mark ≡ None → is_too_large (kill_read text h.kill f.kill) ≡ false
-    → (let left = finish_read text h.kill behind f in world_of directory (marks_gone x left (edited_by x.name c ks)) (followed x.name (edit_told (length (marked_at x.name ks).buffer.text) c) (slice_set xs at (session_finished left h))) next ≡ apply (world_of directory ks xs next) id (finished (state_of h.state) left (edit_of x.name c)))
+    → (let left = finish_read text h.kill behind f in world_of directory (marks_gone x left (edited_by x.name c ks)) (followed x.name (edit_told (length (marked_at x.name ks).buffer.text) c) (slice_set xs at (session_finished left h))) next ≡ apply (world_of directory ks xs next) id (finished (state_of h.state) left (edit_of x.name c.a c.b c.put)))
 finished_so directory ks xs next id at h x c behind text f order room sound place within is sel marks fresh none small =
     let left = finish_read text h.kill behind f in
     let state = state_of h.state in
@@ -224,8 +224,8 @@ finished_so directory ks xs next id at h x c behind text f order room sound plac
     same_world directory _ _ _ _ (id_after next)
     (gone_buffers x.name x.top left.top ks2 ∙ gone_buffers x.name x.point left.point ks1 ∙ edited_buffers x.name c ks)
     (finished_sessions ks xs id at h x c behind text f order room (λ n i. once_used ks xs n i sound) place within is sel marks fresh ∙ sym (no_quit x.name c id _))
-    ∙ ap (λ m. apply (world_of directory ks xs next) id (ended (record left { mark = mark_read m }) (edit_of x.name c) state)) (sym none)
-    ∙ ap (λ b. apply (world_of directory ks xs next) id (cond b (fails state KillTooLarge) (ended left (edit_of x.name c) state))) (sym small)
+    ∙ ap (λ m. apply (world_of directory ks xs next) id (ended (record left { mark = mark_read m }) (edit_of x.name c.a c.b c.put) state)) (sym none)
+    ∙ ap (λ b. apply (world_of directory ks xs next) id (cond b (fails state KillTooLarge) (ended left (edit_of x.name c.a c.b c.put) state))) (sym small)
 
 -- a failure ends any mode
 pub failed_so : (directory : Directory) (ks : List MarkedBuffer) (xs : List Session) (next : Option ℕ) (id at : ℕ) (h : Session) (message : Message) → at ≡ position_or_len (session_id id) xs → at < length xs → slice_get xs at ≡ Some h → state_of h.state ≡ idle (state_of h.state) → world_of directory ks (slice_set xs at (failed message h)) next ≡ apply (world_of directory ks xs next) id (fails (state_of h.state) message)

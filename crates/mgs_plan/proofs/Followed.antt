@@ -61,7 +61,7 @@ sound_kept n (Some e) ks xs sound = sound_followed n e ks xs sound
 
 -- every position of every session goes by the edit
 pub sessions_went : (name : List ℕ) (c : plans.Change) (ks : List MarkedBuffer) (xs : List Session) → c.a ≤ c.b → c.b ≤ length (marked_at name ks).buffer.text → HasBuffer name ks
-    → map (session_of (edited_by name c ks)) (followed name (edit_told (length (marked_at name ks).buffer.text) c) xs) ≡ map (session_after (edit_of name c)) (map (session_of ks) xs)
+    → map (session_of (edited_by name c ks)) (followed name (edit_told (length (marked_at name ks).buffer.text) c) xs) ≡ map (session_after (edit_of name c.a c.b c.put)) (map (session_of ks) xs)
 sessions_went name c ks xs order within kept = go (is_edit c.a c.b c.put)
   where
     go : (f : Bool) → map (session_of (cond f (change_first (marked_named name) (marked_edited c.a c.b c.put) ks) ks)) (followed name (cond f (Some (record { size = length (marked_at name ks).buffer.text; from = c.a; to = c.b; added = length c.put })) None) xs) ≡ map (session_after (cond f (Edit name c.a c.b c.put) No_effect)) (map (session_of ks) xs)
@@ -70,7 +70,7 @@ sessions_went name c ks xs order within kept = go (is_edit c.a c.b c.put)
 
 -- WHAT THE WALK ASKS FOR
 
-pub told_follows : (size serial : ℕ) (c : plans.Change) → c.a ≤ c.b → c.b ≤ size → size ≤ 1048576 → is_full size serial c ≡ false → CanFollow (edit_told size c)
+pub told_follows : (size serial : ℕ) (c : plans.Change) → c.a ≤ c.b → c.b ≤ size → size ≤ 1048576 → is_full size serial c.a c.b c.put ≡ false → CanFollow (edit_told size c)
 told_follows size serial c order within small room = go (is_edit c.a c.b c.put) refl
   where
     go : (f : Bool) → is_edit c.a c.b c.put ≡ f → CanFollow (cond f (Some (record { size = size; from = c.a; to = c.b; added = length c.put })) None)

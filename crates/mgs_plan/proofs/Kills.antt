@@ -9,7 +9,7 @@ use Rattle.mgs_model.specs.Names.{IsName, same_name}
 use Rattle.mgs_model.specs.World.{State, is_named}
 use Rattle.mgs_model.specs.View.{BufferSeen, View, WindowSeen, buffer_seen, find_seen, reads, view, window_seen}
 use Rattle.mgs_model.specs.Outcome.{Kill, Run}
-use Rattle.mgs_model.specs.Acts.{Request, deciders_found, effects, judged, killed, name_shown, or_else, outcome, permitted, there}
+use Rattle.mgs_model.specs.Acts.{Request, deciders_found, effects, judged, kills_buffer, name_shown, or_else, outcome, permitted, there}
 use Rattle.mgs_model.specs.Acts as acts
 use Rattle.mgs_model.specs.declared.entry.Decision.TheVariants.{Granted}
 use Rattle.mgs_model.specs.declared.message.Message.{Message}
@@ -59,17 +59,17 @@ found_seen directory user name ks =
     find-map (buffer_seen directory user) (is_named name) (λ (b : BufferSeen). same_name name b.name) (λ b. refl) (buffers_of ks)
     ∙ ap (option_map (buffer_seen directory user)) (find-map (λ (k : MarkedBuffer). k.buffer) (marked_named name) (is_named name) (λ k. refl) ks)
 
-granted_none : (v : View) (name : List ℕ) → killed v name None ≡ kill_granted v.session.state name None
+granted_none : (v : View) (name : List ℕ) → kills_buffer v name None ≡ kill_granted v.session.state name None
 granted_none v [] = refl
 granted_none v (c ∷ cs) = refl
 
-granted_some : (v : View) (name : List ℕ) (b : BufferSeen) (k : MarkedBuffer) → killed v name (Some b) ≡ kill_granted v.session.state name (Some k)
+granted_some : (v : View) (name : List ℕ) (b : BufferSeen) (k : MarkedBuffer) → kills_buffer v name (Some b) ≡ kill_granted v.session.state name (Some k)
 granted_some v [] b k = refl
 granted_some v (c ∷ cs) b k = refl
 
 -- by what is found under the name
 named_seen : (directory : Directory) (ks : List MarkedBuffer) (user name : List ℕ) (v : View) → find_seen name v.buffers ≡ option_map (buffer_seen directory user) (option_map (λ (k : MarkedBuffer). k.buffer) (find (marked_named name) ks))
-    → permitted v.session.state (judged v (there v name 65536)) (killed v name (find_seen name v.buffers)) ≡ kill_named directory ks v.session.state user name
+    → permitted v.session.state (judged v (there v name 65536)) (kills_buffer v name (find_seen name v.buffers)) ≡ kill_named directory ks v.session.state user name
 named_seen directory ks user name v found = go (find (marked_named name) ks) found
   where
     state : State
@@ -78,13 +78,13 @@ named_seen directory ks user name v found = go (find (marked_named name) ks) fou
     asked : Option BufferSeen → List Request
     asked o = elim o [ None ↦ [] | Some b ↦ record { buffer = name; rights = 65536 } ∷ [] ]
 
-    go : (o : Option MarkedBuffer) → find_seen name v.buffers ≡ option_map (buffer_seen directory user) (option_map (λ (k : MarkedBuffer). k.buffer) o) → permitted state (judged v (there v name 65536)) (killed v name (find_seen name v.buffers)) ≡ permitted state (kill_decision directory user o) (kill_granted state name o)
-    go None e = ap (λ o. permitted state (judged v (asked o)) (killed v name o)) e ∙ ap (permitted state Granted) (granted_none v name)
+    go : (o : Option MarkedBuffer) → find_seen name v.buffers ≡ option_map (buffer_seen directory user) (option_map (λ (k : MarkedBuffer). k.buffer) o) → permitted state (judged v (there v name 65536)) (kills_buffer v name (find_seen name v.buffers)) ≡ permitted state (kill_decision directory user o) (kill_granted state name o)
+    go None e = ap (λ o. permitted state (judged v (asked o)) (kills_buffer v name o)) e ∙ ap (permitted state Granted) (granted_none v name)
     go (Some k) e =
         let b : BufferSeen = buffer_seen directory user k.buffer in
-        ap (λ o. permitted state (judged v (asked o)) (killed v name o)) e
-        ∙ ap (λ o. permitted state (or_else (decision_by (deciders_found o) (rights_in 65536)) Granted) (killed v name (Some b))) e
-        ∙ ap (λ d. permitted state d (killed v name (Some b))) (only_one (decision_by b.deciders (rights_in 65536)))
+        ap (λ o. permitted state (judged v (asked o)) (kills_buffer v name o)) e
+        ∙ ap (λ o. permitted state (or_else (decision_by (deciders_found o) (rights_in 65536)) Granted) (kills_buffer v name (Some b))) e
+        ∙ ap (λ d. permitted state d (kills_buffer v name (Some b))) (only_one (decision_by b.deciders (rights_in 65536)))
         ∙ ap (permitted state (kill_decision directory user (Some k))) (granted_some v name b k)
 
 kill_known : (directory : Directory) (ks : List MarkedBuffer) (xs : List Session) (next : Option ℕ) (h : Session) (n : Option ℕ) (typed : List ℕ) → outcome (view (world_of directory ks xs next) (session_of ks h)) (Run (Named KillBuffer) n typed) true ≡ kill_outcome directory ks (state_of h.state) h.user (subject_of h) typed
@@ -92,7 +92,7 @@ unfolding outcome
 kill_known directory ks xs next h n typed =
     let v = view (world_of directory ks xs next) (session_of ks h) in
     let name = name_meant (subject_of h) typed in
-    ap (λ (m : List ℕ). permitted v.session.state (judged v (there v m 65536)) (killed v m (find_seen m v.buffers))) (meant_seen directory ks xs next h typed)
+    ap (λ (m : List ℕ). permitted v.session.state (judged v (there v m 65536)) (kills_buffer v m (find_seen m v.buffers))) (meant_seen directory ks xs next h typed)
     ∙ named_seen directory ks h.user name v (found_seen directory h.user name ks)
 
 -- where the buffer is there

@@ -3,7 +3,7 @@ use Rattle.std.proofs.Common.{◌≡◌, ℕ, ◌+◌, ◌-◌, ◌≤◌, ◌&&
 use Rattle.std.specs.Prelude.{find}
 use Rattle.std.specs.Option.{option_map}
 use Rattle.mgs_model.specs.Text.{is_edit}
-use Rattle.mgs_model.specs.Outcome.{PointPlan, Keep, At, At_origin}
+use Rattle.mgs_model.specs.Outcome.{PointPlan, Keep_position, At, At_origin}
 use Rattle.mgs_model.specs.Plans as plans
 use Rattle.mgs_model.specs.Acts.{is_full}
 use Rattle.mgs_model.specs.Apply.{change_first}
@@ -31,7 +31,7 @@ room_parts true false false e r = (refl, refl)
 room_parts false g h e r = cc
 
 -- an edit that is not too much
-pub has_room : (size serial : ℕ) (c : plans.Change) → is_edit c.a c.b c.put ≡ true → is_full size serial c ≡ false → (size - (c.b - c.a) + length c.put ≤ 1048576) × ((serial == 18446744073709551615) ≡ false)
+pub has_room : (size serial : ℕ) (c : plans.Change) → is_edit c.a c.b c.put ≡ true → is_full size serial c.a c.b c.put ≡ false → (size - (c.b - c.a) + length c.put ≤ 1048576) × ((serial == 18446744073709551615) ≡ false)
 has_room size serial c e r =
     let p = room_parts (is_edit c.a c.b c.put) (nat_lt 1048576 (size - (c.b - c.a) + length c.put)) (serial == 18446744073709551615) e r in
     (ltb-false 1048576 (size - (c.b - c.a) + length c.put) p.0, p.1)
@@ -43,7 +43,7 @@ placed_text id p None = refl
 placed_text id p (Some k) = refl
 
 pub text_gone : (name : List ℕ) (id : ℕ) (to : PointPlan) (ks : List MarkedBuffer) → (marked_at name (mark_gone name id to ks)).buffer.text ≡ (marked_at name ks).buffer.text
-text_gone name id Keep ks = refl
+text_gone name id Keep_position ks = refl
 text_gone name id (At p) ks =
     ap (λ o. (marked_or_none o).buffer.text) (found_same name name (marked_placed id p) ks (λ k. refl) (is_same name name refl))
     ∙ placed_text id p (find (marked_named name) ks)
@@ -53,7 +53,7 @@ pub used_once : (ks : List MarkedBuffer) (name : List ℕ) (i : ℕ) → IsMark 
 used_once ks name i mark = ap one_if mark
 
 pub mark_still : (name : List ℕ) (id i : ℕ) (to : PointPlan) (ks : List MarkedBuffer) → IsMark name id ks → IsMark name i ks → IsMark name i (mark_gone name id to ks)
-mark_still name id i Keep ks placed mark = mark
+mark_still name id i Keep_position ks placed mark = mark
 mark_still name id i (At p) ks placed mark =
     in_use_mark (change_first (marked_named name) (marked_placed id p) ks) name i (omega (arith, in_use_placed name id p ks name i placed, used_once ks name i mark))
 mark_still name id i At_origin ks placed mark = mark

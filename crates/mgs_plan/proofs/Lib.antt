@@ -21,3 +21,4 @@ pub mod Saves
 pub mod Scrolls
 pub mod Unbound
 pub mod Granted
+pub mod Searches

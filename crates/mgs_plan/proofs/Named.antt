@@ -5,7 +5,7 @@ use Rattle.mgs_model.specs.Rights.{rights_in}
 use Rattle.mgs_model.specs.View.{BufferSeen, View, buffer_seen, find_seen}
 use Rattle.mgs_model.specs.Outcome.{Act}
 use Rattle.mgs_model.specs.Outcome as outcomes
-use Rattle.mgs_model.specs.Acts.{Request, about, deciders_found, judged, outcome, permitted, subject, there}
+use Rattle.mgs_model.specs.Acts.{about, deciders_found, judged, outcome, permitted, subject}
 use Rattle.mgs_buffers.specs.MarkedBuffer.{HasBuffer, MarkedBuffer, has_buffer, marked_at}
 use Rattle.mgs_session.specs.declared.Session.{Session}
 use Rattle.mgs_plan.specs.Deciding.{IsJudged, IsOutcome, outcome_read, view_at}

@@ -12,7 +12,8 @@ use Rattle.mgs_model.specs.View.{View, BufferSeen, WindowSeen, find_seen, view, 
 use Rattle.mgs_model.specs.Outcome.{Effect, Outcome, Unmodified}
 use Rattle.mgs_model.specs.Outcome as outcomes
 use Rattle.mgs_model.specs.Plans.{Around, Change, Finish, alteration, insertion, motion, reading_insertion, scrolling, undo}
-use Rattle.mgs_model.specs.Acts.{Target, about, acts_at, around, deciders_found, edited_by, edits, effects, fails, has_rows, here, insertion_right, is_rows, items_in, judged, mark_in, moved_by, moves, or_else, outcome, permitted, row_in, rules, scrolls_rows, selected_seen, shown, target, target_in}
+use Rattle.mgs_model.specs.Seeking.{AroundSearch, SearchChange, SearchFinish, replace, seek}
+use Rattle.mgs_model.specs.Acts.{Target, about, acts_at, around, around_search, deciders_found, edited_by, edits, effects, fails, has_rows, here, insertion_right, is_rows, items_in, judged, mark_seen, moved_by, moves, or_else, outcome, permitted, replaced_by, replaces_one, row_in, rules, scrolls_rows, seeks, selected_seen, shown_buffer, sought_by, target, target_in}
 use Rattle.mgs_model.specs.declared.right.Right.{Right}
 use Rattle.mgs_model.specs.declared.right.Right.TheVariants.{ReadData, WriteData, AppendData}
 use Rattle.mgs_model.specs.declared.entry.Decision.{Decision}
@@ -20,7 +21,9 @@ use Rattle.mgs_model.specs.declared.entry.Decision.TheVariants.{Granted, DeniedB
 use Rattle.mgs_model.specs.declared.message.Message.{Message}
 use Rattle.mgs_model.specs.declared.message.Message.TheVariants.{NoBuffer}
 use Rattle.mgs_model.specs.declared.session.Command.{Command}
-use Rattle.mgs_model.specs.declared.session.Command.TheVariants.{Insert, InsertReading, Move, Alter, Scroll, UndoEdit, NotModified}
+use Rattle.mgs_model.specs.declared.session.Command.TheVariants.{Insert, InsertReading, Move, Alter, Seek, Replace, Scroll, UndoEdit, NotModified}
+use Rattle.mgs_model.specs.declared.session.Seeking.{Seeking}
+use Rattle.mgs_model.specs.declared.session.Replacement.{Replacement}
 use Rattle.mgs_model.proofs.Deciding.{granted_each}
 use Rattle.mgs_buffers.specs.MarkedBuffer.{MarkedBuffer, HasBuffer, marked_at, mark_at}
 use Rattle.mgs_windows.specs.declared.WindowMarks.{WindowMarks}
@@ -32,7 +35,7 @@ use Rattle.mgs_session.specs.Sessions.{window_marks_of}
 use Rattle.mgs_session.specs.declared.Session.{Session}
 use Rattle.mgs_model.specs.declared.session.Scrolling.{Scrolling}
 use Rattle.mgs_plan.specs.Rows.{outcome_without, scroll_in, scroll_outcome}
-use Rattle.mgs_plan.specs.Actions.{edit_outcome, granted_outcome, height_or_none, is_on_text, mark_if, outcome_at, place_in, plan_in, selected_height}
+use Rattle.mgs_plan.specs.Actions.{edit_outcome, granted_outcome, height_or_none, is_on_text, mark_if, outcome_at, place_in, plan_in, replaced_outcome, seek_in, selected_height, sought_at}
 use Rattle.mgs_world.specs.Worlds.{buffers_of, state_of, session_of, window_of, window_shown, world_of}
 use Rattle.mgs_world.proofs.Found.{found_buffer, found_seen, name_kept}
 use Rattle.mgs_world.proofs.Marks.{not_both}
@@ -65,17 +68,24 @@ surroundings told read b name point mark top height n typed kill state =
       size = size_told (told_if told b);
       serial = serial_told (told_if told b);
       place = acts_at (positions_if read point mark top) (size_told (told_if told b));
-      mark = mark_in (positions_if read point mark top);
-      origin = 0;
-      anchor = 0;
-      sought_here = false;
-      old = state.old;
+      mark = mark_seen (positions_if read point mark top);
       argument = n;
       typed = typed;
       kill = kill;
       kind = state.kind;
       height = height;
       fill = state.fill;
+    }
+
+-- and a search
+abbrev pub search_surroundings : Bool → Bool → Buffer → List ℕ → ℕ → Option ℕ → ℕ → List ℕ → State → AroundSearch
+search_surroundings told read b name point mark top typed state =
+    record {
+      name = name;
+      places = record { origin = 0; anchor = 0; point = acts_at (positions_if read point mark top) (size_told (told_if told b)) };
+      sought_here = false;
+      old = state.old;
+      typed = typed;
     }
 
 -- what is so for a reader
@@ -87,10 +97,6 @@ all_told b read name point mark height n typed kill state =
       serial = b.serial;
       place = place_in read point (length b.text);
       mark = mark_if read mark;
-      origin = 0;
-      anchor = 0;
-      sought_here = false;
-      old = state.old;
       argument = n;
       typed = typed;
       kill = kill;
@@ -98,6 +104,10 @@ all_told b read name point mark height n typed kill state =
       height = height;
       fill = state.fill;
     }
+
+abbrev search_told : Buffer → Bool → List ℕ → ℕ → List ℕ → State → AroundSearch
+search_told b read name point typed state =
+    record { name = name; places = record { origin = 0; anchor = 0; point = place_in read point (length b.text) }; sought_here = false; old = state.old; typed = typed }
 
 -- where reading is needed and not granted, nothing is done whatever is there
 unread : (state : State) (d : Right → Decider) (rights : List Right) (o p : Outcome) → allows (d ReadData) ≡ false → permitted state (decision_by d (ReadData ∷ rights)) o ≡ permitted state (decision_by d (ReadData ∷ rights)) p
@@ -152,6 +162,16 @@ told_same state c d b name point mark top height n typed kill = go (any_right d)
     go true false p q = text_unread state c d b.text b.items (all_told b false name point mark height n typed kill state) q
     go false true p q = not_both (any_right d) (any_read d q) p
     go false false p q = none_told state c d b name point mark top height n typed kill p
+
+-- a search reads
+search_told_same : (state : State) (c : Seeking) (d : Right → Decider) (b : Buffer) (name : List ℕ) (point : ℕ) (mark : Option ℕ) (top : ℕ) (typed : List ℕ)
+    → sought_at state c d (text_in (full_if (allows (d ReadData)) b)) (search_surroundings (any_right d) (allows (d ReadData)) b name point mark top typed state) ≡ sought_at state c d b.text (search_told b (allows (d ReadData)) name point typed state)
+search_told_same state c d b name point mark top typed = go (any_right d) (allows (d ReadData)) refl refl
+  where
+    go : (a r : Bool) → any_right d ≡ a → allows (d ReadData) ≡ r → sought_at state c d (text_in (full_if r b)) (search_surroundings a r b name point mark top typed state) ≡ sought_at state c d b.text (search_told b r name point typed state)
+    go true true p q = refl
+    go false true p q = not_both (any_right d) (any_read d q) p
+    go a false p q = unread state d [] _ _ q
 
 -- THE TARGET
 
@@ -215,28 +235,6 @@ text_shown bs (Some x) t e = go x.shows e
     go Listing h = cc
     go (List_of name) h = cc
 
--- THE COMMANDS on the text of the selected window, whoever plans them
-
-abbrev pub is_of_text : Command → Bool
-is_of_text (Insert c) = true
-is_of_text (InsertReading c) = true
-is_of_text (Move c) = true
-is_of_text (Alter c) = true
-is_of_text (Scroll c) = true
-is_of_text UndoEdit = true
-is_of_text NotModified = true
-is_of_text _ = false
-
-pub of_text : (c : Command) → is_on_text c ≡ true → is_of_text c ≡ true
-of_text (Insert c) h = refl
-of_text (InsertReading c) h = refl
-of_text (Move c) h = refl
-of_text (Alter c) h = refl
-of_text (Scroll c) h = refl
-of_text UndoEdit h = refl
-of_text NotModified h = refl
-of_text _ h = cc
-
 -- THE OUTCOME
 
 pub only_one : (d : Decision) → or_else d Granted ≡ d
@@ -265,13 +263,13 @@ motion_judged v t plan is found =
     ap (λ o. permitted v.session.state (judged v (here o (λ t. 1))) (moves v.session.state o plan)) is
     ∙ ap (λ d. permitted v.session.state d (moves v.session.state (Some t) plan)) (judged_here v t (λ t. 1) found)
 
-rule_judged : (v : View) (t : Target) (plan : BufferSeen → Result Effect Message) → target v ≡ Some t → find_seen t.buffer.name v.buffers ≡ Some t.buffer → permitted v.session.state (judged v (about (shown v) 3)) (rules v.session.state (shown v) plan) ≡ permitted v.session.state (decision_by t.buffer.deciders (rights_in 3)) (effects v.session.state (plan t.buffer))
+rule_judged : (v : View) (t : Target) (plan : BufferSeen → Result Effect Message) → target v ≡ Some t → find_seen t.buffer.name v.buffers ≡ Some t.buffer → permitted v.session.state (judged v (about (shown_buffer v) 3)) (rules v.session.state (shown_buffer v) plan) ≡ permitted v.session.state (decision_by t.buffer.deciders (rights_in 3)) (effects v.session.state (plan t.buffer))
 rule_judged v t plan is found =
     ap (λ (o : Option Target). permitted v.session.state (judged v (about (option_map (λ (t : Target). t.buffer) o) 3)) (rules v.session.state (option_map (λ (t : Target). t.buffer) o) plan)) is
     ∙ ap (λ d. permitted v.session.state d (effects v.session.state (plan t.buffer))) (judged_here v t (λ t. 3) found)
 
 -- what an act comes to on the target
-pub on_target : (v : View) (t : Target) (c : Command) (n : Option ℕ) (typed : List ℕ) → is_of_text c ≡ true → target v ≡ Some t → find_seen t.buffer.name v.buffers ≡ Some t.buffer → outcome v (outcomes.Run c n typed) true ≡ outcome_at v.session.state c t.buffer.deciders (text_in t.buffer.full) (items_in t.buffer.full) (around v.session n typed t)
+pub on_target : (v : View) (t : Target) (c : Command) (n : Option ℕ) (typed : List ℕ) → is_on_text c ≡ true → target v ≡ Some t → find_seen t.buffer.name v.buffers ≡ Some t.buffer → outcome v (outcomes.Run c n typed) true ≡ outcome_at v.session.state c t.buffer.deciders (text_in t.buffer.full) (items_in t.buffer.full) (around v.session n typed t)
 unfolding outcome
 on_target v t (Insert i) n typed h is found = edit_judged v t insertion_right (λ t. insertion i (around v.session n typed t)) is found
 on_target v t (InsertReading i) n typed h is found =
@@ -286,24 +284,29 @@ on_target v t UndoEdit n typed h is found = edit_judged v t (λ t. 3) (λ t. und
 on_target v t NotModified n typed h is found = rule_judged v t (λ (b : BufferSeen). Ok (Unmodified b.name)) is found
 on_target v t _ n typed h is found = cc
 
--- through the window's marks of the selected window, of so many rows
-through : (directory : Directory) (ks : List MarkedBuffer) (xs : List Session) (next : Option ℕ) (h : Session) (height : ℕ) (x : WindowMarks) (c : Command) (n : Option ℕ) (typed : List ℕ) → HasBuffer x.name ks → (session_of ks h).search ≡ None
-    → (let t = target_at directory ks h.user height x in outcome_at (state_of h.state) c t.buffer.deciders (text_in t.buffer.full) (items_in t.buffer.full) (around (view (world_of directory ks xs next) (session_of ks h)).session n typed t) ≡ plan_in directory ks (state_of h.state) h.user x height c n typed h.kill)
-through directory ks xs next h height x c n typed kept quiet =
-    let t = target_at directory ks h.user height x in
-    let b = (marked_at x.name ks).buffer in
-    let d = decider directory b.owners h.user b.entries in
-    let state = state_of h.state in
-    let point = mark_at x.name ks x.point in
-    let mark = option_map (mark_at x.name ks) x.mark in
-    let top = mark_at x.name ks x.top in
-    ap (λ (s : Option model.Search). let y : model.Session = record (session_of ks h) { search = s } in outcome_at state c t.buffer.deciders (text_in t.buffer.full) (items_in t.buffer.full) (around (view (world_of directory ks xs next) y).session n typed t)) quiet
-    ∙ ap (λ (r : Bool). outcome_at state c d (text_in (full_if (allows (d ReadData)) b)) (items_in (full_if (allows (d ReadData)) b)) (surroundings (any_right d) r b b.name point mark top height n typed h.kill state)) (ap (reads_found directory h.user) (found_buffer x.name ks kept))
-    ∙ told_same state c d b b.name point mark top height n typed h.kill
-    ∙ ap (λ (m : List ℕ). outcome_at state c d b.text b.items (all_told b (allows (d ReadData)) m point mark height n typed h.kill state)) (name_kept x.name ks kept)
+-- and a search, or a replacement
+pub sought_on_target : (v : View) (t : Target) (c : Seeking) (n : Option ℕ) (typed : List ℕ) → target v ≡ Some t → find_seen t.buffer.name v.buffers ≡ Some t.buffer → outcome v (outcomes.Run (Seek c) n typed) true ≡ sought_at v.session.state c t.buffer.deciders (text_in t.buffer.full) (around_search v.session typed t)
+unfolding outcome
+sought_on_target v t c n typed is found =
+    let plan : Target → Result SearchFinish Message = λ t. seek c (text_in t.buffer.full) (around_search v.session typed t) in
+    ap (λ o. permitted v.session.state (judged v (here o (λ t. 1))) (seeks v.session.state o plan)) is
+    ∙ ap (λ d. permitted v.session.state d (sought_by v.session.state (plan t))) (judged_here v t (λ t. 1) found)
 
--- the same of a session with another record, which has no positions of a search
-pub through_owned : (directory : Directory) (ks : List MarkedBuffer) (xs : List Session) (next : Option ℕ) (h : Session) (state : State) (height : ℕ) (x : WindowMarks) (c : Command) (n : Option ℕ) (typed : List ℕ) → HasBuffer x.name ks
+replaced_same : (state : State) (b : BufferSeen) (r : Result SearchChange Message) → replaced_by state b r ≡ replaced_outcome state b.name (size_told b.told) (serial_told b.told) r
+replaced_same state b (Ok c) = refl
+replaced_same state b (Err message) = refl
+
+pub replaced_on_target : (v : View) (t : Target) (c : Replacement) (n : Option ℕ) (typed : List ℕ) → target v ≡ Some t → find_seen t.buffer.name v.buffers ≡ Some t.buffer
+    → outcome v (outcomes.Run (Replace c) n typed) true ≡ permitted v.session.state (decision_by t.buffer.deciders (rights_in 3)) (replaced_outcome v.session.state t.buffer.name (size_told t.buffer.told) (serial_told t.buffer.told) (replace c (text_in t.buffer.full) (around_search v.session typed t)))
+unfolding outcome
+replaced_on_target v t c n typed is found =
+    let plan : Target → Result SearchChange Message = λ t. replace c (text_in t.buffer.full) (around_search v.session typed t) in
+    ap (λ o. permitted v.session.state (judged v (here o (λ t. 3))) (replaces_one v.session.state o plan)) is
+    ∙ ap (λ d. permitted v.session.state d (replaced_by v.session.state t.buffer (plan t))) (judged_here v t (λ t. 3) found)
+    ∙ ap (permitted v.session.state (decision_by t.buffer.deciders (rights_in 3))) (replaced_same v.session.state t.buffer (plan t))
+
+-- through the window's marks of the selected window, of so many rows, by a session with this record, which has no positions of a search
+through_owned : (directory : Directory) (ks : List MarkedBuffer) (xs : List Session) (next : Option ℕ) (h : Session) (state : State) (height : ℕ) (x : WindowMarks) (c : Command) (n : Option ℕ) (typed : List ℕ) → HasBuffer x.name ks
     → (let t = target_at directory ks h.user height x in let y : model.Session = record (session_of ks h) { search = None; state = state } in outcome_at state c t.buffer.deciders (text_in t.buffer.full) (items_in t.buffer.full) (around (view (world_of directory ks xs next) y).session n typed t) ≡ plan_in directory ks state h.user x height c n typed h.kill)
 through_owned directory ks xs next h state height x c n typed kept =
     let b = (marked_at x.name ks).buffer in
@@ -315,7 +318,7 @@ through_owned directory ks xs next h state height x c n typed kept =
     ∙ told_same state c d b b.name point mark top height n typed h.kill
     ∙ ap (λ (m : List ℕ). outcome_at state c d b.text b.items (all_told b (allows (d ReadData)) m point mark height n typed h.kill state)) (name_kept x.name ks kept)
 
-pub outcome_owned : (directory : Directory) (ks : List MarkedBuffer) (xs : List Session) (next : Option ℕ) (h : Session) (state : State) (x : WindowMarks) (c : Command) (n : Option ℕ) (typed : List ℕ) → is_of_text c ≡ true → window_marks_of h ≡ Some x → HasBuffer x.name ks
+pub outcome_owned : (directory : Directory) (ks : List MarkedBuffer) (xs : List Session) (next : Option ℕ) (h : Session) (state : State) (x : WindowMarks) (c : Command) (n : Option ℕ) (typed : List ℕ) → is_on_text c ≡ true → window_marks_of h ≡ Some x → HasBuffer x.name ks
     → (let y : model.Session = record (session_of ks h) { search = None; state = state } in outcome (view (world_of directory ks xs next) y) (outcomes.Run c n typed) true ≡ plan_in directory ks state h.user x (selected_height h) c n typed h.kill)
 outcome_owned directory ks xs next h state x c n typed on sel kept =
     let y : model.Session = record (session_of ks h) { search = None; state = state } in
@@ -326,14 +329,33 @@ outcome_owned directory ks xs next h state x c n typed on sel kept =
     ∙ through_owned directory ks xs next h state seen.0 x c n typed kept
     ∙ ap (λ (height : ℕ). plan_in directory ks state h.user x height c n typed h.kill) (sym seen.2)
 
-pub outcome_plan : (directory : Directory) (ks : List MarkedBuffer) (xs : List Session) (next : Option ℕ) (h : Session) (x : WindowMarks) (c : Command) (n : Option ℕ) (typed : List ℕ) → is_of_text c ≡ true → window_marks_of h ≡ Some x → HasBuffer x.name ks → (session_of ks h).search ≡ None → outcome (view (world_of directory ks xs next) (session_of ks h)) (outcomes.Run c n typed) true ≡ plan_in directory ks (state_of h.state) h.user x (selected_height h) c n typed h.kill
+-- and of one as it is
+pub outcome_plan : (directory : Directory) (ks : List MarkedBuffer) (xs : List Session) (next : Option ℕ) (h : Session) (x : WindowMarks) (c : Command) (n : Option ℕ) (typed : List ℕ) → is_on_text c ≡ true → window_marks_of h ≡ Some x → HasBuffer x.name ks → (session_of ks h).search ≡ None → outcome (view (world_of directory ks xs next) (session_of ks h)) (outcomes.Run c n typed) true ≡ plan_in directory ks (state_of h.state) h.user x (selected_height h) c n typed h.kill
 outcome_plan directory ks xs next h x c n typed on sel kept quiet =
+    ap (λ (s : Option model.Search). let y : model.Session = record (session_of ks h) { search = s } in outcome (view (world_of directory ks xs next) y) (outcomes.Run c n typed) true) quiet
+    ∙ outcome_owned directory ks xs next h (state_of h.state) x c n typed on sel kept
+
+-- a search by the first
+pub sought_owned : (directory : Directory) (ks : List MarkedBuffer) (xs : List Session) (next : Option ℕ) (h : Session) (state : State) (x : WindowMarks) (c : Seeking) (n : Option ℕ) (typed : List ℕ) → window_marks_of h ≡ Some x → HasBuffer x.name ks
+    → (let y : model.Session = record (session_of ks h) { search = None; state = state } in outcome (view (world_of directory ks xs next) y) (outcomes.Run (Seek c) n typed) true ≡ seek_in directory ks state h.user x c typed)
+sought_owned directory ks xs next h state x c n typed sel kept =
+    let y : model.Session = record (session_of ks h) { search = None; state = state } in
+    let b = (marked_at x.name ks).buffer in
+    let d = decider directory b.owners h.user b.entries in
+    let point = mark_at x.name ks x.point in
+    let mark = option_map (mark_at x.name ks) x.mark in
+    let top = mark_at x.name ks x.top in
     let seen = selected_some directory ks xs next h x sel kept in
-    let t = target_at directory ks h.user seen.0 x in
-    on_target (view (world_of directory ks xs next) (session_of ks h)) t c n typed on seen.1
+    sought_on_target (view (world_of directory ks xs next) y) (target_at directory ks h.user seen.0 x) c n typed seen.1
     (ap (λ m. find_seen m (map (buffer_seen directory h.user) (buffers_of ks))) (name_kept x.name ks kept) ∙ found_seen directory h.user x.name ks kept)
-    ∙ through directory ks xs next h seen.0 x c n typed kept quiet
-    ∙ ap (λ (height : ℕ). plan_in directory ks (state_of h.state) h.user x height c n typed h.kill) (sym seen.2)
+    ∙ ap (λ (r : Bool). sought_at state c d (text_in (full_if (allows (d ReadData)) b)) (search_surroundings (any_right d) r b b.name point mark top typed state)) (ap (reads_found directory h.user) (found_buffer x.name ks kept))
+    ∙ search_told_same state c d b b.name point mark top typed
+    ∙ ap (λ (m : List ℕ). sought_at state c d b.text (search_told b (allows (d ReadData)) m point typed state)) (name_kept x.name ks kept)
+
+pub sought_plan : (directory : Directory) (ks : List MarkedBuffer) (xs : List Session) (next : Option ℕ) (h : Session) (x : WindowMarks) (c : Seeking) (n : Option ℕ) (typed : List ℕ) → window_marks_of h ≡ Some x → HasBuffer x.name ks → (session_of ks h).search ≡ None → outcome (view (world_of directory ks xs next) (session_of ks h)) (outcomes.Run (Seek c) n typed) true ≡ seek_in directory ks (state_of h.state) h.user x c typed
+sought_plan directory ks xs next h x c n typed sel kept quiet =
+    ap (λ (s : Option model.Search). let y : model.Session = record (session_of ks h) { search = s } in outcome (view (world_of directory ks xs next) y) (outcomes.Run (Seek c) n typed) true) quiet
+    ∙ sought_owned directory ks xs next h (state_of h.state) x c n typed sel kept
 
 -- where the selected window shows nothing
 none_edited : (v : View) (rights : Target → ℕ) (plan : Target → Result Change Message) → target v ≡ None → permitted v.session.state (judged v (here (target v) rights)) (edits v.session.state (target v) plan) ≡ fails v.session.state NoBuffer
@@ -342,7 +364,7 @@ none_edited v rights plan none = ap (λ o. permitted v.session.state (judged v (
 none_moved : (v : View) (plan : Target → Result Finish Message) → target v ≡ None → permitted v.session.state (judged v (here (target v) (λ t. 1))) (moves v.session.state (target v) plan) ≡ fails v.session.state NoBuffer
 none_moved v plan none = ap (λ o. permitted v.session.state (judged v (here o (λ t. 1))) (moves v.session.state o plan)) none
 
-none_ruled : (v : View) (plan : BufferSeen → Result Effect Message) → target v ≡ None → permitted v.session.state (judged v (about (shown v) 3)) (rules v.session.state (shown v) plan) ≡ fails v.session.state NoBuffer
+none_ruled : (v : View) (plan : BufferSeen → Result Effect Message) → target v ≡ None → permitted v.session.state (judged v (about (shown_buffer v) 3)) (rules v.session.state (shown_buffer v) plan) ≡ fails v.session.state NoBuffer
 none_ruled v plan none = ap (λ (o : Option Target). permitted v.session.state (judged v (about (option_map (λ (t : Target). t.buffer) o) 3)) (rules v.session.state (option_map (λ (t : Target). t.buffer) o) plan)) none
 
 -- what it comes to there
@@ -350,7 +372,7 @@ abbrev off_outcome : View → Option Scrolling → Outcome
 off_outcome v None = fails v.session.state NoBuffer
 off_outcome v (Some s) = cond (has_rows (selected_seen v)) (scrolls_rows v.session.state (row_in s (selected_seen v))) (fails v.session.state NoBuffer)
 
-pub off_target : (v : View) (c : Command) (n : Option ℕ) (typed : List ℕ) → is_of_text c ≡ true → target v ≡ None → outcome v (outcomes.Run c n typed) true ≡ off_outcome v (scroll_in c)
+pub off_target : (v : View) (c : Command) (n : Option ℕ) (typed : List ℕ) → is_on_text c ≡ true → target v ≡ None → outcome v (outcomes.Run c n typed) true ≡ off_outcome v (scroll_in c)
 unfolding outcome
 off_target v (Insert i) n typed h none = none_edited v insertion_right (λ t. insertion i (around v.session n typed t)) none
 off_target v (InsertReading i) n typed h none =
@@ -362,6 +384,16 @@ off_target v (Scroll s) n typed h none =
 off_target v UndoEdit n typed h none = none_edited v (λ t. 3) (λ t. undo (items_in t.buffer.full) (around v.session n typed t)) none
 off_target v NotModified n typed h none = none_ruled v (λ (b : BufferSeen). Ok (Unmodified b.name)) none
 off_target v _ n typed h none = cc
+
+pub sought_off_target : (v : View) (c : Seeking) (n : Option ℕ) (typed : List ℕ) → target v ≡ None → outcome v (outcomes.Run (Seek c) n typed) true ≡ fails v.session.state NoBuffer
+unfolding outcome
+sought_off_target v c n typed none =
+    ap (λ (o : Option Target). permitted v.session.state (judged v (here o (λ t. 1))) (seeks v.session.state o (λ t. seek c (text_in t.buffer.full) (around_search v.session typed t)))) none
+
+pub replaced_off_target : (v : View) (c : Replacement) (n : Option ℕ) (typed : List ℕ) → target v ≡ None → outcome v (outcomes.Run (Replace c) n typed) true ≡ fails v.session.state NoBuffer
+unfolding outcome
+replaced_off_target v c n typed none =
+    ap (λ (o : Option Target). permitted v.session.state (judged v (here o (λ t. 3))) (replaces_one v.session.state o (λ t. replace c (text_in t.buffer.full) (around_search v.session typed t)))) none
 
 -- the rows of the selected window, as the session sees them
 rows_off : (state : State) (s : Scrolling) (can : List ℕ → Bool) (ks : List MarkedBuffer) (o : Option Window) → option_and_then (λ (w : Window). w.shows) o ≡ None
@@ -385,6 +417,6 @@ off_seen directory ks xs next h (Some s) none =
     (slice_get-map (window_seen can) (map (window_of ks) ws) h.windows.selected ∙ ap (option_map (window_seen can)) (slice_get-map (window_of ks) ws h.windows.selected))
     ∙ rows_off (state_of h.state) s can ks (slice_get ws h.windows.selected) none
 
-pub outcome_none : (directory : Directory) (ks : List MarkedBuffer) (xs : List Session) (next : Option ℕ) (h : Session) (c : Command) (n : Option ℕ) (typed : List ℕ) → is_of_text c ≡ true → window_marks_of h ≡ None → outcome (view (world_of directory ks xs next) (session_of ks h)) (outcomes.Run c n typed) true ≡ outcome_without (state_of h.state) (scroll_in c) (slice_get h.windows.windows h.windows.selected)
+pub outcome_none : (directory : Directory) (ks : List MarkedBuffer) (xs : List Session) (next : Option ℕ) (h : Session) (c : Command) (n : Option ℕ) (typed : List ℕ) → is_on_text c ≡ true → window_marks_of h ≡ None → outcome (view (world_of directory ks xs next) (session_of ks h)) (outcomes.Run c n typed) true ≡ outcome_without (state_of h.state) (scroll_in c) (slice_get h.windows.windows h.windows.selected)
 outcome_none directory ks xs next h c n typed on none =
     off_target (view (world_of directory ks xs next) (session_of ks h)) c n typed on (selected_none directory ks xs next h none) ∙ off_seen directory ks xs next h (scroll_in c) none

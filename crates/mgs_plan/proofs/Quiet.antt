@@ -1,21 +1,21 @@
 -- Acts that touch nothing, whoever does them and whatever they come to.
-use Rattle.std.proofs.Common.{◌≡◌, ℕ, Bool, true, false, cond, List, [], Option, Some, None, refl}
+use Rattle.std.proofs.Common.{◌≡◌, ℕ, Bool, List, [], Option, Some, None, refl}
 use Rattle.std.specs.Prelude.{Result, Ok, Err}
 use Rattle.std.specs.Option.{option_map}
-use Rattle.mgs_model.specs.Acts.{Target, allowed, around, arranges, fails, finished, finished_state, is_too_large, judged, moved_by, moves, needs, outcome, permitted, sets, target}
+use Rattle.mgs_model.specs.Acts.{Target, allowed, around_search, arranges, judged, needs, outcome, permitted, seeks, sets, sought_by, target}
+use Rattle.mgs_model.specs.Seeking.{SearchFinish, seek}
 use Rattle.mgs_laws.specs.Apart.{touched_by}
 use Rattle.mgs_model.specs.Apply.{outcome_in}
-use Rattle.mgs_model.specs.Outcome.{Act, Run, Adjust, Arrange, No_effect, Outcome}
-use Rattle.mgs_model.specs.Plans.{Finish, acted_state, arrangement, motion, setting}
+use Rattle.mgs_model.specs.Outcome.{Act, Run, Arrange, No_effect, Outcome}
+use Rattle.mgs_model.specs.Plans.{acted_state, arrangement, setting}
 use Rattle.mgs_model.specs.View.{View, text_in, view_of}
 use Rattle.mgs_model.specs.World.{State, World}
 use Rattle.mgs_model.specs.declared.entry.Decision.{Decision}
 use Rattle.mgs_model.specs.declared.entry.Decision.TheVariants.{Granted, DeniedBy, NotGranted}
 use Rattle.mgs_model.specs.declared.message.Message.{Message}
-use Rattle.mgs_model.specs.declared.message.Message.TheVariants.{KillTooLarge}
 use Rattle.mgs_model.specs.declared.session.Arrangement.{Arrangement}
-use Rattle.mgs_model.specs.declared.session.Command.TheVariants.{Ask, LeaveSearch, Move, Rearrange, Set}
-use Rattle.mgs_model.specs.declared.session.Motion.{Motion}
+use Rattle.mgs_model.specs.declared.session.Command.TheVariants.{Ask, LeaveSearch, Rearrange, Seek, Set}
+use Rattle.mgs_model.specs.declared.session.Seeking.{Seeking}
 use Rattle.mgs_model.specs.declared.session.Question.{Question}
 use Rattle.mgs_model.specs.declared.session.Setting.{Setting}
 use Rattle.mgs_model.specs.declared.touched.Touched.{Touched}
@@ -31,20 +31,13 @@ permitted_quiet state Granted o h = h
 permitted_quiet state (DeniedBy n right) o h = refl
 permitted_quiet state (NotGranted right) o h = refl
 
-finished_quiet : (state : State) (f : Finish) → touched_of (finished state f No_effect) ≡ Nowhere
-finished_quiet state f = by (is_too_large f.kill)
+seeks_quiet : (state : State) (o : Option Target) (plan : Target → Result SearchFinish Message) → touched_of (seeks state o plan) ≡ Nowhere
+seeks_quiet state None plan = refl
+seeks_quiet state (Some t) plan = by (plan t)
   where
-    by : (c : Bool) → touched_of (cond c (fails state KillTooLarge) (record { state = finished_state f state; kill = f.kill; arrange = Adjust f.point f.mark f.top None f.sought; effect = No_effect })) ≡ Nowhere
-    by true = refl
-    by false = refl
-
-moves_quiet : (state : State) (o : Option Target) (plan : Target → Result Finish Message) → touched_of (moves state o plan) ≡ Nowhere
-moves_quiet state None plan = refl
-moves_quiet state (Some t) plan = by (plan t)
-  where
-    by : (r : Result Finish Message) → touched_of (moved_by state r) ≡ Nowhere
+    by : (r : Result SearchFinish Message) → touched_of (sought_by state r) ≡ Nowhere
     by (Err message) = refl
-    by (Ok f) = finished_quiet state f
+    by (Ok f) = refl
 
 sets_quiet : (state : State) (r : Result State Message) → touched_of (sets state r) ≡ Nowhere
 sets_quiet state (Err message) = refl
@@ -78,8 +71,8 @@ module _ (v : View) (n : Option ℕ) (stored : Bool) where
   arrangement_quiet a = permitted_quiet v.session.state (judged v (needs v (Run (Rearrange a) n []))) (allowed v (Run (Rearrange a) n []) stored) (arranges_quiet v.session.state (arrangement a v.session.windows v.session.selected n))
 
 module _ (w : World) (id : ℕ) (n : Option ℕ) (typed : List ℕ) (stored : Bool) where
-  pub quiet_motion : (m : Motion) → touched_in (outcome_in w id (Run (Move m) n typed) stored) ≡ Nowhere
-  quiet_motion m = allowed_quiet (Run (Move m) n typed) stored (λ v. moves_quiet v.session.state (target v) (λ t. motion m (text_in t.buffer.full) (around v.session n typed t))) w id
+  pub quiet_seeking : (c : Seeking) → touched_in (outcome_in w id (Run (Seek c) n typed) stored) ≡ Nowhere
+  quiet_seeking c = allowed_quiet (Run (Seek c) n typed) stored (λ v. seeks_quiet v.session.state (target v) (λ t. seek c (text_in t.buffer.full) (around_search v.session typed t))) w id
 
   pub quiet_leaving : touched_in (outcome_in w id (Run LeaveSearch n typed) stored) ≡ Nowhere
   quiet_leaving = allowed_quiet (Run LeaveSearch n typed) stored (λ v. refl) w id

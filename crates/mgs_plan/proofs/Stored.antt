@@ -3,7 +3,7 @@ use Rattle.std.proofs.Common.{◌≡◌, Bool, true, false, refl}
 use Rattle.mgs_model.specs.View.{View}
 use Rattle.mgs_model.specs.Outcome.{Act, Unbound, Run}
 use Rattle.mgs_model.specs.Acts.{outcome}
-use Rattle.mgs_model.specs.declared.session.Command.TheVariants.{Insert, InsertReading, Move, Alter, Scroll, Set, Rearrange, Ask, Named, Entries, ListEntries, SetOwner, SetGroup, UndoEdit, NotModified, SaveBuffer, LeaveSearch, Exit}
+use Rattle.mgs_model.specs.declared.session.Command.TheVariants.{Insert, InsertReading, Move, Alter, Seek, Replace, Scroll, Set, Rearrange, Ask, Named, Entries, ListEntries, SetOwner, SetGroup, UndoEdit, NotModified, SaveBuffer, LeaveSearch, Exit}
 
 abbrev pub is_save : Act → Bool
 is_save (Run SaveBuffer n typed) = true
@@ -16,6 +16,8 @@ unstored v (Run (Insert c) n typed) stored e = refl
 unstored v (Run (InsertReading c) n typed) stored e = refl
 unstored v (Run (Move c) n typed) stored e = refl
 unstored v (Run (Alter c) n typed) stored e = refl
+unstored v (Run (Seek c) n typed) stored e = refl
+unstored v (Run (Replace c) n typed) stored e = refl
 unstored v (Run (Scroll c) n typed) stored e = refl
 unstored v (Run (Set c) n typed) stored e = refl
 unstored v (Run (Rearrange c) n typed) stored e = refl

@@ -1,11 +1,11 @@
 -- What a switch to a buffer comes to.
-use Rattle.std.proofs.Common.{◌≡◌, ℕ, true, false, List, length, Option, Some, None, refl, subst, ◌∙◌}
+use Rattle.std.proofs.Common.{◌≡◌, ℕ, true, false, List, Option, Some, None, refl, subst, ◌∙◌}
 use Rattle.std.proofs.lemmas.List.{length-map}
 use Rattle.mgs_model.specs.Access.{Directory}
 use Rattle.mgs_model.specs.View.{BufferSeen, View, buffer_seen, find_seen}
 use Rattle.mgs_model.specs.Outcome.{No_effect, Run}
 use Rattle.mgs_model.specs.Outcome as outcomes
-use Rattle.mgs_model.specs.Acts.{created, outcome, shows_named}
+use Rattle.mgs_model.specs.Acts.{creates_buffer, outcome, shows_named}
 use Rattle.mgs_model.specs.declared.session.ByName.TheVariants.{SwitchToBuffer}
 use Rattle.mgs_model.specs.declared.session.Command.TheVariants.{Named}
 use Rattle.mgs_buffers.specs.MarkedBuffer.{HasBuffer, MarkedBuffer, has_buffer}
@@ -18,7 +18,7 @@ use Rattle.mgs_plan.proofs.Named.{named_free, named_kept, outcome_named}
 
 -- by what is found under the name
 abbrev switched : View → List ℕ → Option BufferSeen → outcomes.Outcome
-switched v typed o = elim o [ None ↦ created v typed | Some b ↦ shows_named v typed No_effect ]
+switched v typed o = elim o [ None ↦ creates_buffer v typed | Some b ↦ shows_named v typed No_effect ]
 
 switch_seen : (v : View) (typed : List ℕ) (n : Option ℕ) → outcome v (Run (Named SwitchToBuffer) n typed) true ≡ outcome_named v typed 128 (switched v typed) (find_seen typed v.buffers)
 unfolding outcome

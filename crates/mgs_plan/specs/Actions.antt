@@ -8,11 +8,12 @@ use Rattle.mgs_model.specs.Text.{is_edit}
 use Rattle.mgs_model.specs.World.{Item, may}
 use Rattle.mgs_model.specs.World as model
 use Rattle.mgs_model.specs.Apply.{change_first, kill_after}
-use Rattle.mgs_model.specs.Outcome.{Outcome, No_effect, Unmodified, PointPlan, Keep, At, At_origin}
+use Rattle.mgs_model.specs.Outcome.{Outcome, No_effect, Unmodified, PointPlan, Keep_position, At, At_origin}
 use Rattle.mgs_model.specs.Outcome as outcomes
 use Rattle.mgs_model.specs.Plans as plans
 use Rattle.mgs_model.specs.Plans.{alteration, insertion, motion, reading_insertion, scrolling, undo, undone}
-use Rattle.mgs_model.specs.Acts.{effects, fails, finished, edit_of, is_full, is_too_large, moved_by, permitted}
+use Rattle.mgs_model.specs.Seeking.{AroundSearch, SearchChange, seek}
+use Rattle.mgs_model.specs.Acts.{effects, fails, finished, edit_of, is_full, is_too_large, moved_by, permitted, search_finished, sought_by}
 use Rattle.mgs_model.specs.declared.right.Right.{Right}
 use Rattle.mgs_model.specs.declared.right.Right.TheVariants.{ReadData}
 use Rattle.mgs_model.specs.declared.message.Message.{Message}
@@ -22,7 +23,8 @@ use Rattle.mgs_model.specs.declared.session.Command.TheVariants.{Insert, InsertR
 use Rattle.mgs_model.specs.declared.search.Direction.{Direction}
 use Rattle.mgs_model.specs.declared.session.Kind.{Kind}
 use Rattle.mgs_model.specs.declared.session.Kind.TheVariants.{Other}
-use Rattle.mgs_model.specs.declared.session.Motion.TheVariants.{SearchFor}
+use Rattle.mgs_model.specs.declared.session.Seeking.{Seeking}
+use Rattle.mgs_model.specs.declared.session.Seeking.TheVariants.{SearchFor}
 use Rattle.mgs_model.specs.declared.session.EntryChange.{EntryChange}
 use Rattle.mgs_model.specs.declared.session.EntryChange.TheVariants.{DeleteEntry}
 use Rattle.mgs_model.specs.declared.session.Setting.{Setting}
@@ -33,7 +35,7 @@ use Rattle.mgs_windows.specs.declared.WindowMarks.{WindowMarks}
 use Rattle.mgs_windows.specs.declared.Window.{Window}
 use Rattle.mgs_session.specs.Sessions.{acted, failed, told}
 use Rattle.mgs_session.specs.declared.Session.{Session}
-use Rattle.mgs_edit.specs.Reading.{ChangeWithin, FinishWithin, LeavesBehind, change_read, edit_read, finish_read, is_alteration_planned, is_planned, kill_read, motion_read, surrounded, undoing, undone_read}
+use Rattle.mgs_edit.specs.Reading.{ChangeWithin, FinishWithin, LeavesBehind, change_read, edit_read, finish_read, kill_read, motion_read, put_read, surrounded, undoing, undone_read}
 use Rattle.mgs_edit.specs.declared.plan.Around.{Around}
 use Rattle.mgs_edit.specs.declared.plan.Change.{Change}
 use Rattle.mgs_edit.specs.declared.plan.Finish.{Finish}
@@ -59,8 +61,8 @@ act_of (Run c n) = outcomes.Run c n []
 abbrev pub is_on_text : Command → Bool
 is_on_text (Insert c) = true
 is_on_text (InsertReading c) = true
-is_on_text (Move c) = is_planned c
-is_on_text (Alter c) = is_alteration_planned c
+is_on_text (Move c) = true
+is_on_text (Alter c) = true
 is_on_text (Scroll c) = true
 is_on_text UndoEdit = true
 is_on_text NotModified = true
@@ -151,10 +153,6 @@ around_in directory ks user x height n typed kill state =
       serial = b.serial;
       place = place_in reads (mark_at x.name ks x.point) (length b.text);
       mark = mark_if reads (mark_shown ks x);
-      origin = 0;
-      anchor = 0;
-      sought_here = false;
-      old = state.old;
       argument = n;
       typed = typed;
       kill = kill;
@@ -173,7 +171,7 @@ pub record CanFinish (size after : ℕ) (text kill : List ℕ) (f : Finish) : Ty
 pub record CanChange (text kill : List ℕ) (serial : ℕ) (c : Change) : Type 0 where
   pub within : ChangeWithin text kill c
   pub small : is_too_large (kill_read text kill c.finish.kill) ≡ false
-  pub room : is_full (length text) serial (change_read text kill c) ≡ false
+  pub room : is_full (length text) serial c.from c.to (put_read text kill c.put) ≡ false
 
 -- what the edit of a serial took out, where it is kept
 abbrev pub removed_or_none : Option Item → List ℕ
@@ -187,7 +185,7 @@ pub record CanUndo (text : List ℕ) (items : List Item) (kill : List ℕ) (seri
   pub within : u.from + u.gone ≤ length text
   pub len : length (removed_by u.serial items) ≡ u.len
   pub finish : LeavesBehind u.finish
-  pub room : is_full (length text) serial (undone_read text kill (removed_by u.serial items) u) ≡ false
+  pub room : is_full (length text) serial u.from (u.from + u.gone) (removed_by u.serial items) ≡ false
 
 -- of a buffer
 abbrev pub CanUndoIn : model.Buffer → List ℕ → Undone → Type 0
@@ -211,10 +209,10 @@ CanBeDone ks x kill action = CanDoIn ks x.name kill action
 -- buffer
 abbrev pub action_outcome : model.State → List ℕ → List ℕ → List Item → List ℕ → Action → Outcome
 action_outcome state name text items kill (Fails message) = fails state message
-action_outcome state name text items kill (Edits mask c) = finished state (change_read text kill c).finish (edit_of name (change_read text kill c))
+action_outcome state name text items kill (Edits mask c) = finished state (change_read text kill c).finish (edit_of name c.from c.to (put_read text kill c.put))
 action_outcome state name text items kill (Undoes u) =
-    let c = undone_read text kill (removed_by u.serial items) u in
-    finished state c.finish (edit_of name c)
+    let removed = removed_by u.serial items in
+    finished state (undone_read text kill removed u).finish (edit_of name u.from (u.from + u.gone) removed)
 action_outcome state name text items kill (Moves f) = finished state (finish_read text kill 0 f) No_effect
 action_outcome state name text items kill Clears = effects state (Ok (Unmodified name))
 
@@ -250,7 +248,7 @@ mark_told Clears = None
 
 -- one mark goes to a position, if it does
 abbrev pub mark_gone : List ℕ → ℕ → PointPlan → List MarkedBuffer → List MarkedBuffer
-mark_gone name id Keep ks = ks
+mark_gone name id Keep_position ks = ks
 mark_gone name id (At p) ks = change_first (marked_named name) (marked_placed id p) ks
 mark_gone name id At_origin ks = ks
 
@@ -299,7 +297,14 @@ pub record IsMarked (x : WindowMarks) (position : ℕ) (action : Action) (ks ls 
 
 abbrev pub edit_outcome : model.State → List ℕ → ℕ → ℕ → Result plans.Change Message → Outcome
 edit_outcome state name size serial (Err message) = fails state message
-edit_outcome state name size serial (Ok c) = if is_full size serial c then fails state BufferFull else finished state c.finish (edit_of name c)
+edit_outcome state name size serial (Ok c) =
+    if is_full size serial c.a c.b c.put then fails state BufferFull else finished state c.finish (edit_of name c.a c.b c.put)
+
+-- the same where a match is replaced
+abbrev pub replaced_outcome : model.State → List ℕ → ℕ → ℕ → Result SearchChange Message → Outcome
+replaced_outcome state name size serial (Err message) = fails state message
+replaced_outcome state name size serial (Ok c) =
+    if is_full size serial c.a c.b c.put then fails state BufferFull else search_finished state c.finish (edit_of name c.a c.b c.put)
 
 -- an insertion at the text's end appends, one elsewhere writes
 abbrev pub insertion_mask : ℕ → ℕ → ℕ
@@ -342,6 +347,27 @@ plan_in directory ks state user x height c n typed kill =
     let b = (marked_at x.name ks).buffer in
     outcome_at state c (decider directory b.owners user b.entries) b.text b.items (around_in directory ks user x height n typed kill state)
 
+-- what a search is given there, by a session that has no positions of one
+abbrev pub around_search_in : Directory → List MarkedBuffer → List ℕ → WindowMarks → List ℕ → model.State → AroundSearch
+around_search_in directory ks user x typed state =
+    let b = (marked_at x.name ks).buffer in
+    record {
+      name = x.name;
+      places = record { origin = 0; anchor = 0; point = place_in (may directory user ReadData b) (mark_at x.name ks x.point) (length b.text) };
+      sought_here = false;
+      old = state.old;
+      typed = typed;
+    }
+
+-- and what it comes to
+abbrev pub sought_at : model.State → Seeking → (Right → Decider) → List ℕ → AroundSearch → Outcome
+sought_at state c deciders text a = permitted state (decision_by deciders (rights_in 1)) (sought_by state (seek c text a))
+
+abbrev pub seek_in : Directory → List MarkedBuffer → model.State → List ℕ → WindowMarks → Seeking → List ℕ → Outcome
+seek_in directory ks state user x c typed =
+    let b = (marked_at x.name ks).buffer in
+    sought_at state c (decider directory b.owners user b.entries) b.text (around_search_in directory ks user x typed state)
+
 -- WHAT PLANS SAY
 
 -- that an action is what a planned edit of a text of this serial comes to, or a planned motion
@@ -371,7 +397,7 @@ IsTakenBack text serial name target item action =
 abbrev pub CanTakeBack : List ℕ → ℕ → ℕ → Item → Action → Type 0
 CanTakeBack text serial target item action = (items : List Item) (kill : List ℕ) → find (has_serial target) items ≡ Some item → CanDo text items kill serial action
 
--- that it is what an undo comes to in the buffer of a name, or any command whose rights are granted, and a search
+-- that it is what an undo comes to in the buffer of a name, or any command whose rights are granted
 abbrev pub IsUndoIn : List MarkedBuffer → List ℕ → Kind → Action → Type 0
 IsUndoIn ks name kind action =
     let b = (marked_at name ks).buffer in
@@ -384,12 +410,6 @@ IsGrantedIn ks name kill around c action =
     (state : model.State) (rest : plans.Around)
     → action_outcome state name b.text b.items kill action ≡ granted_outcome state c b.text b.items (surrounded around (length b.text) (record rest { name = name; kill = kill; serial = b.serial }))
 
-abbrev pub IsSearchIn : List MarkedBuffer → List ℕ → List ℕ → ℕ → Direction → List ℕ → Action → Type 0
-IsSearchIn ks name kill place direction pattern action =
-    let b = (marked_at name ks).buffer in
-    (state : model.State) (rest : plans.Around)
-    → action_outcome state name b.text b.items kill action ≡ moved_by state (motion (SearchFor direction) b.text (record rest { place = place; typed = pattern }))
-
 -- that it is what a command comes to through a window's marks, by a user who is given this and has this kill buffer
 abbrev pub IsActionFor : Directory → List MarkedBuffer → List ℕ → WindowMarks → Given → List ℕ → Command → List ℕ → Action → Type 0
 IsActionFor directory ks user x g kill c typed action =
@@ -400,5 +420,14 @@ abbrev pub IsActionOf : Directory → List MarkedBuffer → Session → WindowMa
 IsActionOf directory ks h x c n typed action =
     let state = idle (state_of h.state) in outcome_through state x ks h.kill action ≡ plan_in directory ks state h.user x (selected_height h) c n typed h.kill
 
-abbrev pub IsSearchOf : Directory → List MarkedBuffer → Session → WindowMarks → Direction → Option ℕ → List ℕ → Action → Type 0
-IsSearchOf directory ks h x direction n pattern action = IsActionOf directory ks h x (Move (SearchFor direction)) n pattern action
+-- that it is what a search for a pattern comes to, where reading is granted, from a place in the buffer of a name
+abbrev pub IsSearchIn : List MarkedBuffer → List ℕ → ℕ → Direction → List ℕ → Action → Type 0
+IsSearchIn ks name place direction pattern action =
+    let b = (marked_at name ks).buffer in
+    (state : model.State) (kill : List ℕ) (rest : AroundSearch)
+    → action_outcome state name b.text b.items kill action ≡ sought_by state (seek (SearchFor direction) b.text (record rest { places = record rest.places { point = place }; typed = pattern }))
+
+-- and through a window's marks, by a user
+abbrev pub IsSearchFor : Directory → List MarkedBuffer → List ℕ → WindowMarks → Direction → List ℕ → Action → Type 0
+IsSearchFor directory ks user x direction pattern action =
+    (state : model.State) (kill : List ℕ) → outcome_through state x ks kill action ≡ seek_in directory ks state user x (SearchFor direction) pattern

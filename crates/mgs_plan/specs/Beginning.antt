@@ -1,9 +1,7 @@
--- Searches: the record with which a begin is decided, the search of a session, and what a step is given.
-use Rattle.std.specs.Prelude.{ℕ, true, false, List, [], Option, None, Some, slice_get}
+-- Searches: the state with which a begin is decided, and the search of a session.
+use Rattle.std.specs.Prelude.{ℕ, false, List, [], Option, None, Some, slice_get}
 use Rattle.mgs_model.specs.World.{State}
-use Rattle.mgs_model.specs.Plans as plans
 use Rattle.mgs_model.specs.declared.search.Direction.{Direction}
-use Rattle.mgs_model.specs.declared.search.SearchPlaces.{SearchPlaces}
 use Rattle.mgs_model.specs.declared.session.Mode.TheVariants.{Searching}
 use Rattle.mgs_session.specs.declared.Session.{Session}
 use Rattle.mgs_session.specs.declared.search.Search.{Search}
@@ -18,7 +16,3 @@ search_or_none (Some h) = h.state.search
 
 abbrev pub search_held : ℕ → List Session → Option Search
 search_held at xs = search_or_none (slice_get xs at)
-
--- what the model's step is given then
-abbrev pub seeking : plans.Around → SearchPlaces → List ℕ → plans.Around
-seeking rest x pattern = record rest { origin = x.origin; anchor = x.anchor; sought_here = true; place = x.point; typed = pattern }

@@ -1,7 +1,7 @@
 -- What is decided, as the model has it.
 use Rattle.std.specs.Prelude.{◌≡◌, ℕ, Bool, false, true, List, [], length, Option, Some, Result, Ok, slice_get}
 use Rattle.mgs_model.specs.Access.{Directory}
-use Rattle.mgs_model.specs.Acts.{created, effects, fails, outcome, permitted, list_set, shows_named}
+use Rattle.mgs_model.specs.Acts.{creates_buffer, effects, fails, outcome, permitted, list_set, shows_named}
 use Rattle.mgs_model.specs.Outcome.{Act, Create, Effect, Kill, No_effect, SetOwners, Run}
 use Rattle.mgs_model.specs.Outcome as outcomes
 use Rattle.mgs_model.specs.View.{View, view}
@@ -144,7 +144,7 @@ IsRuled ks effect o = (v : View) (stored : Bool) → outcome_read ks v o stored 
 
 -- that it is what it comes to that a buffer is made of this name
 abbrev pub IsCreation : List MarkedBuffer → List ℕ → Outcome → Type 0
-IsCreation ks typed o = (v : View) (stored : Bool) → length v.buffers ≡ length ks → created v typed ≡ outcome_read ks v o stored
+IsCreation ks typed o = (v : View) (stored : Bool) → length v.buffers ≡ length ks → creates_buffer v typed ≡ outcome_read ks v o stored
 
 -- that it is what scrolling comes to, or any other command on a text, in a session whose selected window shows none
 abbrev pub IsUnshown : Session → Option Scrolling → Outcome → Type 0

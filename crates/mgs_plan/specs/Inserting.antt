@@ -72,12 +72,12 @@ insertion_outcome directory ks state user typed (Some x) = outcome_from director
 -- there is no room for it
 abbrev pub is_copy_full : List MarkedBuffer → List ℕ → List ℕ → ℕ → Bool
 is_copy_full ks source name place =
-    let b = (marked_at name ks).buffer in is_full (length b.text) b.serial (insertion_of place (marked_at source ks).buffer.text)
+    let b = (marked_at name ks).buffer in is_full (length b.text) b.serial place place (marked_at source ks).buffer.text
 
 -- ONCE IT IS DECIDED
 
 abbrev pub put_outcome : State → List ℕ → ℕ → List ℕ → Outcome
-put_outcome state name place put = let c = insertion_of place put in finished state c.finish (edit_of name c)
+put_outcome state name place put = finished state (insertion_of place put).finish (edit_of name place place put)
 
 abbrev pub decided_outcome : List MarkedBuffer → State → List ℕ → Inserted → Outcome
 decided_outcome ks state name (Fails message) = fails state message
@@ -86,7 +86,7 @@ decided_outcome ks state name (Copies source place) = put_outcome state name pla
 -- what it asks of a buffer
 pub record CanPut (b : Buffer) (put : List ℕ) (place : ℕ) : Type 0 where
   pub within : place ≤ length b.text
-  pub room : is_full (length b.text) b.serial (insertion_of place put) ≡ false
+  pub room : is_full (length b.text) b.serial place place put ≡ false
 
 -- and of both
 pub record CanCopy (ks : List MarkedBuffer) (name source : List ℕ) (place : ℕ) : Type 0 where

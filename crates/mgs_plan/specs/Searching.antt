@@ -1,13 +1,13 @@
 -- What is searched for, and what an answer gives its command.
 use Rattle.std.specs.Prelude.{ℕ, ◌==◌, List, length, Option, cond}
 use Rattle.mgs_model.specs.Outcome.{Act, Run}
-use Rattle.mgs_model.specs.Turns.{answered}
+use Rattle.mgs_model.specs.Turns.{command_for}
 use Rattle.mgs_model.specs.World.{State}
 use Rattle.mgs_model.specs.declared.session.Question.{Question}
 use Rattle.mgs_model.specs.declared.session.Question.TheVariants.{SearchWhat}
 use Rattle.mgs_model.specs.declared.search.Direction.{Direction}
-use Rattle.mgs_model.specs.declared.session.Command.TheVariants.{Move}
-use Rattle.mgs_model.specs.declared.session.Motion.TheVariants.{SearchFor}
+use Rattle.mgs_model.specs.declared.session.Command.TheVariants.{Seek}
+use Rattle.mgs_model.specs.declared.session.Seeking.TheVariants.{SearchFor}
 use Rattle.mgs_session.specs.declared.Session.{Session}
 use Rattle.mgs_world.specs.Worlds.{state_of}
 
@@ -22,8 +22,8 @@ meant _ pattern typed = typed
 
 -- the act that an answer is, by what the session holds that gives it
 abbrev pub answer_act : Question → Option ℕ → List ℕ → State → Act
-answer_act question n typed state = Run (answered question) n (meant question state.pattern typed)
+answer_act question n typed state = Run (command_for question) n (meant question state.pattern typed)
 
 -- and the one that a search is
 abbrev pub searches : Session → Direction → Option ℕ → List ℕ → Act
-searches h direction n typed = Run (Move (SearchFor direction)) n (sought (state_of h.state).pattern typed)
+searches h direction n typed = Run (Seek (SearchFor direction)) n (sought (state_of h.state).pattern typed)

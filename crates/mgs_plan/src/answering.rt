@@ -64,7 +64,7 @@ pub fn plan_answer<T: Marked + Drop>(
             plan_text(buffers, directory, session, command, line)
         }
         Question::SearchWhat(direction) => {
-            plan_search(buffers, directory, session, direction, argument, typed)
+            plan_search(buffers, directory, session, direction, typed)
         }
         // Their answers are none of a command that is done here.
         Question::RunWhich | Question::ReplaceWhat | Question::ReplaceWith => {

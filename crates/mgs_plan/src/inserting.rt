@@ -1,5 +1,5 @@
 // What the insertion of a buffer's text into the one that is shown comes to.
-ghost use Rattle.std.specs.Prelude.{◌≡◌, ◌<◌, ◌≤◌, ℕ, List, length, Option, Some, None, IfSome};
+ghost use Rattle.std.specs.Prelude.{◌≡◌, ◌<◌, ◌≤◌, ℕ, length, Option, Some, None, IfSome};
 ghost use Rattle.mgs_model.specs.Outcome.{Run};
 ghost use Rattle.mgs_model.specs.World.{State};
 ghost use Rattle.mgs_model.specs.declared.entry.Decision.TheVariants.{Granted};

@@ -1,5 +1,5 @@
 // Rights are judged before anything is done.
-ghost use Rattle.std.specs.Prelude.{◌≡◌, Option, None, IfSome};
+ghost use Rattle.std.specs.Prelude.{◌≡◌, None, IfSome};
 ghost use Rattle.mgs_buffers.specs.MarkedBuffer.{HasBuffer};
 ghost use Rattle.mgs_plan.specs.Deciding.{CanPerformJudged, IsGranted, IsJudged, Refuses};
 ghost use Rattle.mgs_plan.specs.Inserting.{rights_decision};

@@ -1,5 +1,5 @@
 // What a command on a text comes to: whether it is permitted, and what its family plans.
-ghost use Rattle.std.specs.Prelude.{◌≡◌, ◌≤◌, ◌+◌, ℕ, List, [], length, Option, None, Ok, IfOk, IfSome, true};
+ghost use Rattle.std.specs.Prelude.{◌≡◌, ◌≤◌, ◌+◌, ℕ, List, [], length, None, Ok, IfOk, IfSome, true};
 ghost use Rattle.mgs_model.specs.declared.entry.Decision.TheVariants.{Granted};
 ghost use Rattle.mgs_model.specs.World.{Item};
 ghost use Rattle.mgs_undo.specs.Numbered.{item_of};
@@ -37,7 +37,7 @@ fn mark<T: Marked + Drop>(found: &Found<T>, window_marks: &WindowMarks) -> Optio
 }
 
 /// What a planner is given. A user who may not read the text acts at its end, and has no mark.
-pub(crate) fn around<T: Marked + Drop>(
+fn around<T: Marked + Drop>(
     found: &Found<T>,
     directory: &Directory,
     user: &Name,
@@ -86,7 +86,7 @@ pub fn insertion_mask(place: usize, size: usize) -> Mask
 }
 
 /// The rights that a command needs at a place of a text of `size` characters.
-pub(crate) fn needs(command: &Command, place: usize, size: usize) -> Mask
+fn needs(command: &Command, place: usize, size: usize) -> Mask
     ensures { result ≡ mask_at command.now place size }
 {
     let read = Right::ReadData.bit();
@@ -141,7 +141,7 @@ fn edits_so<T: Text>(text: &T, serial: u64, kill: &[char], mask: Mask, change: C
 }
 
 /// What a plan of a motion comes to.
-pub(crate) fn moves<T: Text>(text: &T, kill: &[char], planned: Result<Finish, Message>) -> Action
+fn moves<T: Text>(text: &T, kill: &[char], planned: Result<Finish, Message>) -> Action
     requires { IfOk planned (FinishWithin (length (T.text text.now)) (length (T.text text.now))) }
     ensures value { IsMotionOf (T.text text.now) kill.now planned result }
     ensures can { (items : List Item) (serial : ℕ) → CanDo (T.text text.now) items kill.now serial result }

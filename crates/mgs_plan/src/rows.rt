@@ -1,5 +1,5 @@
 // What a command on a text comes to in a window that shows none: the rows of a list are scrolled, and nothing else is done.
-ghost use Rattle.std.specs.Prelude.{◌≡◌, List, Option, None, slice_get};
+ghost use Rattle.std.specs.Prelude.{◌≡◌, List, None, slice_get};
 ghost use Rattle.mgs_model.specs.Access.{Directory};
 ghost use Rattle.mgs_session.specs.Sessions.{window_marks_of};
 ghost use Rattle.mgs_buffers.specs.MarkedBuffer.{MarkedBuffer};

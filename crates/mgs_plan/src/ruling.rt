@@ -1,5 +1,5 @@
 // What a change of the rules of a buffer comes to: of its owner, its owning group, or an entry of its access list.
-ghost use Rattle.std.specs.Prelude.{◌≡◌, ◌<◌, ◌-◌, ℕ, List as Items, length, Option, None, IfSome, true, false};
+ghost use Rattle.std.specs.Prelude.{◌≡◌, ◌<◌, ◌-◌, ℕ, List as Items, length, None, IfSome, true, false};
 ghost use Rattle.mgs_model.specs.Acts.{list_set};
 ghost use Rattle.mgs_model.specs.Outcome.{Run};
 ghost use Rattle.mgs_model.specs.Plans.{count_of, entries_changed, entry_inserted, entry_replaced, has_entry, new_number};

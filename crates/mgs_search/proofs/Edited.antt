@@ -3,17 +3,16 @@ use Rattle.std.proofs.Common.{◌≡◌, ℕ, true, false, ◌+◌, ◌-◌, Lis
 use Rattle.std.specs.Prelude.{Result, Ok}
 use Rattle.std.specs.Option.{option_map}
 use Rattle.std.proofs.Math.Seq.{drop-append_seam}
-use Rattle.mgs_model.specs.Outcome.{At, Anchor_at}
+use Rattle.mgs_model.specs.Outcome.{Keep_position, At}
 use Rattle.mgs_model.specs.Text.{edited}
 use Rattle.mgs_model.specs.Searching.{begins, first_in, first_match, matches_at, match_from, match_past, found_places, Sought, places_after, sought_after}
-use Rattle.mgs_model.specs.Plans as model
-use Rattle.mgs_model.specs.Plans.{alteration, met, motion, next_match, goes, stays}
+use Rattle.mgs_model.specs.Seeking.{AroundSearch, SearchFinish, SearchChange, met, next_match, seek, replace}
 use Rattle.mgs_model.specs.declared.message.Message.{Message}
 use Rattle.mgs_model.specs.declared.search.SearchPlaces.{SearchPlaces}
 use Rattle.mgs_model.specs.declared.search.SearchStep.{SearchStep}
 use Rattle.mgs_model.specs.declared.search.SearchStep.TheVariants.{Stays, FromAnchor, PastAnchor, FromOrigin, ToOrigin, Ends, Quits, Leaves}
-use Rattle.mgs_model.specs.declared.session.Alteration.TheVariants.{ReplaceMatch}
-use Rattle.mgs_model.specs.declared.session.Motion.TheVariants.{SearchOn}
+use Rattle.mgs_model.specs.declared.session.Replacement.TheVariants.{ReplaceMatch}
+use Rattle.mgs_model.specs.declared.session.Seeking.TheVariants.{SearchOn}
 use Rattle.mgs_search.specs.Planned.{replacement_read, stepped}
 
 -- COUNTED FROM FURTHER ON
@@ -49,47 +48,41 @@ next_behind : (old put text : List ℕ) (a b : ℕ) → length (take a text) ≡
 next_behind old put text a b size =
     ap (first_in old (a + length put)) (behind a b put text size) ∙ counted old (drop b text) b (a + length put)
 
-met_there : (x : model.Around) (f : model.Finish) (from : ℕ) (text : List ℕ) → met (length x.old) f (first_match x.old text from) ≡ next_match x from f text
-met_there x f from text = by (first_match x.old text from)
-  where
-    by : (o : Option ℕ) → met (length x.old) f o ≡ elim o [ None ↦ record f { mode = model.Over } | Some m ↦ record f { point = At (m + length x.old); sought = Anchor_at m } ]
-    by None = refl
-    by (Some m) = refl
+abbrev given : ℕ → List ℕ → List ℕ → AroundSearch → AroundSearch
+given anchor old put rest = record rest { places = record rest.places { anchor = anchor }; sought_here = true; old = old; typed = put }
 
-abbrev given : ℕ → List ℕ → List ℕ → model.Around → model.Around
-given anchor old put rest = record rest { anchor = anchor; sought_here = true; old = old; typed = put }
+-- replaced or kept, with what each leaves
+abbrev either : ℕ → List ℕ → List ℕ → List ℕ → AroundSearch → Bool → Result SearchChange Message
+either anchor old put text rest b =
+    let x : AroundSearch = given anchor old put rest in
+    let after : List ℕ = edited anchor (anchor + length old) put text in
+    cond b (Ok (record { a = anchor; b = anchor + length old; put = put; finish = next_match x (anchor + length put) 1 (At (anchor + length put)) after }))
+    (Ok (record { a = anchor; b = anchor; put = []; finish = next_match x anchor 0 Keep_position text }))
 
-pub replaced_so : (anchor : ℕ) (old put text : List ℕ) (next : Option ℕ) (rest : model.Around) → length (take anchor text) ≡ anchor → matches_at old text anchor ≡ true
+pub replaced_so : (anchor : ℕ) (old put text : List ℕ) (next : Option ℕ) (rest : AroundSearch) → length (take anchor text) ≡ anchor → matches_at old text anchor ≡ true
     → next ≡ option_map (λ m. m - (anchor + length old) + (anchor + length put)) (first_match old text (anchor + length old))
-    → Ok (replacement_read anchor (length old) put (record { replaces = true; next = next })) ≡ alteration ReplaceMatch text (given anchor old put rest)
+    → Ok (replacement_read anchor (length old) put (record { replaces = true; next = next })) ≡ replace ReplaceMatch text (given anchor old put rest)
 replaced_so anchor old put text next rest size here is =
-    let x : model.Around = given anchor old put rest in
-    let f : model.Finish = record (goes (anchor + length put)) { replaced = 1 } in
-    let after : List ℕ = edited anchor (anchor + length old) put text in
-    let met_next : met (length old) f next ≡ next_match x (anchor + length put) f after = ap (met (length old) f) (is ∙ sym (next_behind old put text anchor (anchor + length old) size)) ∙ met_there x f (anchor + length put) after in
-    ap (λ (g : model.Finish). Ok (record { a = anchor; b = anchor + length old; put = put; finish = g })) met_next
-    ∙ sym (ap (λ (b : Bool). Ok (cond b (record { a = anchor; b = anchor + length old; put = put; finish = next_match x (anchor + length put) f after }) (record { a = anchor; b = anchor; put = []; finish = next_match x anchor stays text }))) here)
+    ap (λ (o : Option ℕ). Ok (record { a = anchor; b = anchor + length old; put = put; finish = met (length old) 1 (At (anchor + length put)) o })) (is ∙ sym (next_behind old put text anchor (anchor + length old) size))
+    ∙ sym (ap (either anchor old put text rest) here)
 
-pub kept_so : (anchor : ℕ) (old put text : List ℕ) (next : Option ℕ) (rest : model.Around) → matches_at old text anchor ≡ false
+pub kept_so : (anchor : ℕ) (old put text : List ℕ) (next : Option ℕ) (rest : AroundSearch) → matches_at old text anchor ≡ false
     → next ≡ first_match old text anchor
-    → Ok (replacement_read anchor (length old) put (record { replaces = false; next = next })) ≡ alteration ReplaceMatch text (given anchor old put rest)
+    → Ok (replacement_read anchor (length old) put (record { replaces = false; next = next })) ≡ replace ReplaceMatch text (given anchor old put rest)
 kept_so anchor old put text next rest gone is =
-    let x : model.Around = given anchor old put rest in
-    let f : model.Finish = record (goes (anchor + length put)) { replaced = 1 } in
-    let after : List ℕ = edited anchor (anchor + length old) put text in
-    ap (λ (g : model.Finish). Ok (record { a = anchor; b = anchor; put = []; finish = g })) (ap (met (length old) stays) is ∙ met_there x stays anchor text)
-    ∙ sym (ap (λ (b : Bool). Ok (cond b (record { a = anchor; b = anchor + length old; put = put; finish = next_match x (anchor + length put) f after }) (record { a = anchor; b = anchor; put = []; finish = next_match x anchor stays text }))) gone)
+    ap (λ (o : Option ℕ). Ok (record { a = anchor; b = anchor; put = []; finish = met (length old) 0 Keep_position o })) is
+    ∙ sym (ap (either anchor old put text rest) gone)
 
 -- A STEP OF AN INCREMENTAL SEARCH: where it goes does not depend on whether it was failing
 places_same : (o : Option ℕ) (s : Sought) (x : SearchPlaces) → found_places o s x ≡ found_places o (record s { failing = false }) x
 places_same None s x = refl
 places_same (Some p) s x = refl
 
-abbrev ended_at : SearchStep → Option ℕ → SearchPlaces → Result model.Finish Message
+abbrev ended_at : SearchStep → Option ℕ → SearchPlaces → Result SearchFinish Message
 ended_at step o y = Ok (stepped step y (is_none o))
 
-pub step_planned : (step : SearchStep) (s : Sought) (text : List ℕ) (x : SearchPlaces) (rest : model.Around)
-    → Ok (stepped step (places_after step s text x) (sought_after step s text x).failing) ≡ motion (SearchOn s.direction step) text (record rest { origin = x.origin; anchor = x.anchor; sought_here = true; place = x.point; typed = s.pattern })
+pub step_planned : (step : SearchStep) (s : Sought) (text : List ℕ) (x : SearchPlaces) (rest : AroundSearch)
+    → Ok (stepped step (places_after step s text x) (sought_after step s text x).failing) ≡ seek (SearchOn s.direction step) text (record rest { places = x; sought_here = true; typed = s.pattern })
 step_planned Stays s text x rest = refl
 step_planned FromAnchor s text x rest =
     let o : Option ℕ = match_from s.direction s.pattern text x.anchor in

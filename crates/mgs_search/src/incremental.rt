@@ -217,7 +217,7 @@ impl IncrementalSearch {
     }
 
     /// Does a step in a text, and tells the positions afterwards. Where it looks for the pattern and finds nothing, the point
-    /// stays, and so does the anchor, but for `FromOrigin`. This is the plan of the step: what the act that it is leaves.
+    /// stays, and so does the anchor, but for `FromOrigin`. This is the plan of the step: what the command that it is leaves.
     #[tactic(auto, using(crate::proofs::Edited::step_planned))]
     pub fn look<T: Text>(
         &mut self,

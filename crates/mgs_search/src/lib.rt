@@ -14,7 +14,7 @@ pub use incremental::IncrementalSearch;
 use mgs_model::Direction;
 use mgs_text::Text;
 pub use prompted::search_for;
-pub use replacing::{Replacement, begin_replacing, replace_last, replace_match, skip_match};
+pub use replacing::{MatchPlan, begin_replacing, replace_last, replace_match, skip_match};
 
 // The case of ASCII letters is ignored.
 fn is_same(a: char, b: char) -> bool

@@ -1,16 +1,16 @@
 // Query-replace: where its matches are.
 ghost use Rattle.std.specs.Prelude.{◌≡◌, ℕ, ◌+◌, ◌-◌, ◌≤◌, ◌<◌, ◌^◌, List, length, IfSome, IfOk, OnOk};
 ghost use Rattle.std.specs.Option.{option_map};
-ghost use Rattle.mgs_model.specs.declared.session.Alteration.TheVariants.{ReplaceMatch, ReplaceLast};
+ghost use Rattle.mgs_model.specs.declared.session.Replacement.TheVariants.{ReplaceMatch, ReplaceLast};
 ghost use Rattle.mgs_search.specs.Planned.{IsBegun, IsReplacement, IsSkipped};
 
 use crate::{find_forward, matches_at};
 use mgs_model::Message;
 use mgs_text::Text;
 
-/// A replacement at an anchor, as it is planned.
+/// The plan of a replacement at an anchor.
 #[derive(Clone, Copy, PartialEq, Eq)]
-pub struct Replacement {
+pub struct MatchPlan {
     /// Whether the text still stands at the anchor, and is replaced.
     pub replaces: bool,
     /// Where the next match begins when that is done.
@@ -60,7 +60,7 @@ fn moved(found: Option<usize>, from: usize, to: usize) -> Option<usize>
 /// Plans a replacement of the match at an anchor by `put`, and where the next match begins when it is done: behind what is
 /// put in. Where the text no longer stands there, nothing is replaced, and the next match is looked for from the anchor on.
 #[tactic(auto, using(crate::proofs::Edited::kept_so))]
-pub fn replace_match<T: Text>(text: &T, anchor: usize, old: &[char], put: &[char]) -> Replacement
+pub fn replace_match<T: Text>(text: &T, anchor: usize, old: &[char], put: &[char]) -> MatchPlan
     requires anchor { anchor ≤ length (T.text text.now) }
     requires short { length (T.text text.now) < 2 ^ 32 }
     requires put { length put.now < 2 ^ 32 }
@@ -68,25 +68,25 @@ pub fn replace_match<T: Text>(text: &T, anchor: usize, old: &[char], put: &[char
 {
     let _len = text.len();
     if !matches_at(text, anchor, old) {
-        return Replacement {
+        return MatchPlan {
             replaces: false,
             next: find_forward(text, anchor, old),
         };
     }
     let from = anchor + old.len();
     let next = moved(find_forward(text, from, old), from, anchor + put.len());
-    Replacement {
+    MatchPlan {
         replaces: true,
         next,
     }
 }
 
 /// Plans the last replacement, at an anchor: no next match is looked for.
-pub fn replace_last<T: Text>(text: &T, anchor: usize, old: &[char]) -> Replacement
+pub fn replace_last<T: Text>(text: &T, anchor: usize, old: &[char]) -> MatchPlan
     requires { anchor ≤ length (T.text text.now) }
     ensures { (put : List ℕ) → IsReplacement ReplaceLast old.now put (T.text text.now) anchor result }
 {
-    Replacement {
+    MatchPlan {
         replaces: matches_at(text, anchor, old),
         next: None,
     }

@@ -4,18 +4,21 @@ use Rattle.std.specs.Prelude.{IfSome, slice_get, slice_set}
 use Rattle.std.specs.List.{position_or_len}
 use Rattle.std.proofs.lemmas.Option.{get_or_from_slice_get}
 use Rattle.mgs_model.specs.Access.{Directory}
-use Rattle.mgs_model.specs.Acts.{counted, edit_of, finished}
+use Rattle.mgs_model.specs.Acts.{counted, edit_of, search_finished}
 use Rattle.mgs_laws.specs.Apart.{touched_by}
 use Rattle.mgs_model.specs.Apply.{act, applied, apply, change_first, outcome_in, session_arranged}
 use Rattle.mgs_laws.specs.Refusals.{may_be_refused}
 use Rattle.mgs_model.specs.Outcome.{Edit, No_effect, Outcome, Run, Act}
 use Rattle.mgs_laws.specs.Refusals.{takes_memory}
-use Rattle.mgs_model.specs.Plans.{Change, Finish}
+use Rattle.mgs_model.specs.Plans.{Change}
+use Rattle.mgs_model.specs.Seeking.{SearchFinish, met}
+use Rattle.mgs_model.specs.Text.{is_edit}
 use Rattle.mgs_model.specs.World.{State, World, has_id}
-use Rattle.mgs_model.specs.declared.session.Command.TheVariants.{Alter}
+use Rattle.mgs_model.specs.declared.session.Command.TheVariants as commands
 use Rattle.mgs_model.specs.declared.touched.Touched.{Touched}
 use Rattle.mgs_buffers.specs.MarkedBuffer.{HasBuffer, MarkedBuffer, marked_at, IsMark}
 use Rattle.mgs_windows.specs.declared.WindowMarks.{WindowMarks}
+use Rattle.mgs_edit.specs.Reading.{top_read}
 use Rattle.mgs_session.specs.Replacing.{Replacing}
 use Rattle.mgs_session.specs.Seeking.{searching, search_edited}
 use Rattle.mgs_session.specs.declared.Session.{Session}
@@ -38,8 +41,8 @@ use Rattle.mgs_plan.proofs.Commands.{outcome_known}
 use Rattle.mgs_plan.proofs.Deeds.{edited_buffers, edited_sound, gone_buffers, no_quit}
 use Rattle.mgs_plan.proofs.Followed.{place_followed, sessions_went, sound_kept, within_followed}
 use Rattle.mgs_plan.proofs.Leaving.{length_edited_by, mark_edited_by}
-use Rattle.mgs_seek.specs.Planning.{CanPerform, IsDone, IsPlanned, change_planned, counted_if, edit_of_plan, left_at, old_of, one_met, search_after, session_after, size_then, IsTyped, ReplacementFails, IsLeft, put_of, touched_edit}
-use Rattle.mgs_seek.specs.Replacing.{finish_met, is_change, point_met, remaining_at, remaining_in, replacement, session_met, taken}
+use Rattle.mgs_seek.specs.Planning.{CanPerform, IsDone, IsPlanned, change_planned, counted_if, edit_of_plan, edit_planned_in, left_at, old_of, one_met, search_after, session_after, size_then, IsTyped, ReplacementFails, IsLeft, put_of, touched_edit}
+use Rattle.mgs_seek.specs.Replacing.{point_met, remaining_at, remaining_in, replacement, session_met, taken}
 use Rattle.mgs_seek.specs.declared.replacing.Planned.{Planned}
 use Rattle.mgs_seek.proofs.Lifts.{acts_sound, found_at, in_this, acts, does_fail, held_at, only_state}
 use Rattle.mgs_seek.proofs.Meets.{counts, met_does, only_met, replaces}
@@ -68,8 +71,8 @@ old_after n (Some e) h = by h.state.search
     by None = refl
     by (Some s) = refl
 
-touched_is : (n : List ℕ) (size : ℕ) (c : Change) → touched_edit n (edit_told size c) ≡ touched_by (edit_of n c)
-touched_is n size c = by (is_change c)
+touched_is : (n : List ℕ) (size : ℕ) (c : Change) → touched_edit n (edit_told size c) ≡ touched_by (edit_of n c.a c.b c.put)
+touched_is n size c = by (is_edit c.a c.b c.put)
   where
     by : (q : Bool) → touched_edit n (cond q (Some (record { size = size; from = c.a; to = c.b; added = length c.put })) None) ≡ touched_by (cond q (Edit n c.a c.b c.put) No_effect)
     by true = refl
@@ -197,11 +200,11 @@ module _ (d : Directory) (ks : List MarkedBuffer) (xs : List Session) (at : ℕ)
   abbrev ls : List MarkedBuffer
   ls = mark_gone x.name x.point (point_met (length r.pattern) p.plan.next (left_at p)) ks1
 
-  abbrev f : Finish
-  f = finish_met (length r.pattern) p.plan.next (left_at p) (one_met b)
+  abbrev f : SearchFinish
+  f = met (length r.pattern) (one_met b) (top_read (left_at p)) p.plan.next
 
   abbrev o : Outcome
-  o = finished (state_of h.state) f (edit_of x.name c)
+  o = search_finished (state_of h.state) f (edit_planned_in p h.state.search)
 
   kept : HasBuffer x.name ks
   kept = mark_is_kept x.name x.point ks planned.can.mark
@@ -249,37 +252,34 @@ module _ (d : Directory) (ks : List MarkedBuffer) (xs : List Session) (at : ℕ)
 
     put_world : world_of d ls (slice_set xs1 at y) next ≡ apply w id o
     put_world =
-        let g : Outcome = finished (state_of h1.state) f No_effect in
+        let g : Outcome = search_finished (state_of h1.state) f No_effect in
         only_world nothing_held d ks1 ls xs1 next id at h1 y (session_arranged g) (sound_but ks1 xs1 sound1) (place_followed x.name e xs id at place) is1 within1 only1
         (met_does ks1 h1 x s1 r (session_sound ks1 xs1 at h1 sound1 is1 within1) planned.sought.target.sel name1 (length r.pattern) (left_at p) (count_met b r.count) (one_met b) (count_is b r.count planned.count) p.plan.next next1)
         ∙ same_world d _ _ _ _ (id_after next) (edited_buffers x.name c ks)
         (ap (change_first (has_id id) (session_arranged g))
         (ap (λ (n : ℕ). map (session_of ks1) (followed x.name (edit_told n c) xs)) planned.can.size ∙ sessions_went x.name c ks xs planned.can.order planned.can.within kept)
         ∙ sym (no_quit x.name c id _))
-        ∙ ap (λ (state : State). apply w id (finished state f (edit_of x.name c))) (sym state_is)
+        ∙ ap (λ (state : State). apply w id (search_finished state f (edit_planned_in p h.state.search))) (sym state_is)
 
     -- by what the session holds
     module _ (t : Search) (u : Replacing) (held : search_held at xs ≡ Some t) (aim : t.aim ≡ Replace u) where
       same : r ≡ u
       same = same_replacing s r t u (sym planned.held ∙ ap search_or_none (sym found) ∙ held) aim
 
-      known_held : outcome_in w id (Run (Alter (replacement last)) None u.put) true ≡ Some o
+      known_held : outcome_in w id (Run (commands.Replace (replacement last)) None u.put) true ≡ Some o
       known_held =
-          ap (λ (v : Replacing). outcome_in w id (Run (Alter (replacement last)) None v.put) true) (sym same)
-          ∙ outcome_known d ks xs next id at h (Run (Alter (replacement last)) None r.put) place within found
+          ap (λ (v : Replacing). outcome_in w id (Run (commands.Replace (replacement last)) None v.put) true) (sym same)
+          ∙ outcome_known d ks xs next id at h (Run (commands.Replace (replacement last)) None r.put) place within found
           ∙ ap (λ (q : Outcome). Some q) (planned.known xs next)
 
-      put_act : world_of d ls (slice_set xs1 at y) next ≡ act w id (Run (Alter (replacement last)) None u.put) true
+      put_act : world_of d ls (slice_set xs1 at y) next ≡ act w id (Run (commands.Replace (replacement last)) None u.put) true
       put_act = put_world ∙ sym (ap (applied w id) known_held)
 
-      put_tells : touched_by (edit_of x.name c) ≡ touched_in (outcome_in w id (Run (Alter (replacement last)) None u.put) true)
-      put_tells = sym (ap touched_in known_held ∙ by (is_change c))
-        where
-          by : (q : Bool) → touched_by (finished (state_of h.state) f (cond q (Edit x.name c.a c.b c.put) No_effect)).effect ≡ touched_by (cond q (Edit x.name c.a c.b c.put) No_effect)
-          by q = refl
+      put_tells : touched_by (edit_planned_in p h.state.search) ≡ touched_in (outcome_in w id (Run (commands.Replace (replacement last)) None u.put) true)
+      put_tells = sym (ap touched_in known_held)
 
-      pub put_may : is_change c ≡ true → may_be_refused (outcome_in w id (Run (Alter (replacement last)) None u.put) true) ≡ true
-      put_may change = ap may_be_refused known_held ∙ ap (λ (q : Bool). takes_memory (finished (state_of h.state) f (cond q (Edit x.name c.a c.b c.put) No_effect))) change
+      pub put_may : is_edit c.a c.b c.put ≡ true → may_be_refused (outcome_in w id (Run (commands.Replace (replacement last)) None u.put) true) ≡ true
+      put_may change = ap may_be_refused known_held ∙ ap (λ (q : Bool). takes_memory (search_finished (state_of h.state) f (cond q (Edit x.name c.a c.b c.put) No_effect))) change
 
   abbrev text : List ℕ
   text = (marked_at x.name ks).buffer.text
@@ -347,13 +347,13 @@ module _ (d : Directory) (ks : List MarkedBuffer) (xs : List Session) (at : ℕ)
     done_further s t before now some = rw (buffers_so, sessions_so) (put_further s t before (sym (ap (search_held at) sessions_so) ∙ now) some)
 
     module _ (next : Option ℕ) (id : ℕ) (place : at ≡ position_or_len (session_id id) xs) (q : Search) (u : Replacing) (held : search_held at xs ≡ Some q) (aim : q.aim ≡ Replace u) where
-      pub done_act : world_of d ks2 xs2 next ≡ act (world_of d ks xs next) id (Run (Alter (replacement last)) None u.put) true
+      pub done_act : world_of d ks2 xs2 next ≡ act (world_of d ks xs next) id (Run (commands.Replace (replacement last)) None u.put) true
       done_act =
           ap (λ (k : List MarkedBuffer). world_of d k xs2 next) buffers_so
           ∙ ap (λ (zs : List Session). world_of d ls zs next) sessions_so
           ∙ put_act next id place q u held aim
 
-      pub done_tells : touched ≡ touched_in (outcome_in (world_of d ks xs next) id (Run (Alter (replacement last)) None u.put) true)
+      pub done_tells : touched ≡ touched_in (outcome_in (world_of d ks xs next) id (Run (commands.Replace (replacement last)) None u.put) true)
       done_tells = t.tells ∙ put_tells next id place q u held aim
 
   -- it has a search
@@ -395,7 +395,7 @@ module _ (d : Directory) (ks : List MarkedBuffer) (xs : List Session) (at : ℕ)
   now = world_of d ks xs next
 
   abbrev replaces_with : List ℕ → Act
-  replaces_with typed = Run (Alter (replacement last)) None typed
+  replaces_with typed = Run (commands.Replace (replacement last)) None typed
 
   fails_so : (typed : List ℕ) → IsTyped h.state.search typed → world_of d ks (slice_set xs at (failed message h)) next ≡ act now id (replaces_with typed) true
   fails_so typed so =

@@ -5,11 +5,11 @@ use Rattle.std.specs.List.{position_or_len}
 use Rattle.std.specs.Option.{option_map}
 use Rattle.std.proofs.lemmas.Option.{slice_get-get_or}
 use Rattle.mgs_model.specs.Access.{Directory}
-use Rattle.mgs_model.specs.Acts.{fails, finished, finished_state, outcome}
+use Rattle.mgs_model.specs.Acts.{fails, outcome, search_finished, search_finished_state}
 use Rattle.mgs_model.specs.Apply.{act, applied, apply, change_at, change_first, search_after, searches, session_arranged, window_adjusted}
 use Rattle.mgs_model.specs.Events.{state_set, with_state}
-use Rattle.mgs_model.specs.Outcome.{Act, At, At_origin, Keep, Keep_mark, No_effect, Outcome, PointPlan, SearchPlan}
-use Rattle.mgs_model.specs.Plans.{Finish, ModePlan, stays}
+use Rattle.mgs_model.specs.Outcome.{Act, At, At_origin, Keep_mark, Keep_position, No_effect, Outcome, PointPlan}
+use Rattle.mgs_model.specs.Seeking.{SearchFinish}
 use Rattle.mgs_model.specs.View.{view}
 use Rattle.mgs_model.specs.World.{State, World, has_id}
 use Rattle.mgs_model.specs.World as model
@@ -63,7 +63,7 @@ point_state h x sel =
     omega (arith, u, point_used x, sum_at (window_uses x.name x.point) got.0 h.windows.windows h.windows.selected got.1)
 
 pub only_gone : (ks : List MarkedBuffer) (h : Session) (x : WindowMarks) (to : PointPlan) (o : held.State) → window_marks_of h ≡ Some x → IsMark x.name x.point ks → (let y : Session = record h { state = o } in OnlyThis nothing_held ks (mark_gone x.name x.point to ks) h y)
-only_gone ks h x Keep o sel mark = only_state ks h o
+only_gone ks h x Keep_position o sel mark = only_state ks h o
 only_gone ks h x At_origin o sel mark = only_state ks h o
 only_gone ks h x (At p) o sel mark = record {
   buffers = gone_buffers x.name x.point (At p) ks;
@@ -94,12 +94,12 @@ module _ (ks : List MarkedBuffer) (h : Session) (x : WindowMarks) (to : PointPla
       ∙ ap (λ (b : Bool). cond b (selected_at (point_by to) s ∷ []) (s ∷ [])) same)
 
   -- by what is left: whatever its record and its search were before
-  pub gone_does : (state : State) (q : Option model.Search) (p : State) (sought : SearchPlan) (mode : ModePlan) (n : ℕ)
-      → ((search : Option model.Search) (w : model.Window) → point_by to w ≡ window_adjusted search to Keep_mark Keep None w)
-      → (let left : Finish = record stays { point = to; sought = sought; mode = mode; replaced = n } in state_of o ≡ finished_state left state
-      → search_of (buffers_of ks) o.search ≡ cond (searches (finished_state left state).mode) (search_after sought q) None
-      → (let z : model.Session = record (session_of ks h) { search = q; state = p } in session_of (mark_gone x.name x.point to ks) y ≡ session_arranged (finished state left No_effect) z))
-  gone_does state q p sought mode n adjusts state_is search_is =
+  pub gone_does : (state : State) (q : Option model.Search) (p : State) (f : SearchFinish)
+      → ((search : Option model.Search) (w : model.Window) → point_by to w ≡ window_adjusted search f.point Keep_mark Keep_position None w)
+      → state_of o ≡ search_finished_state f state
+      → search_of (buffers_of ks) o.search ≡ cond (searches (search_finished_state f state).mode) (search_after f.sought q) None
+      → (let z : model.Session = record (session_of ks h) { search = q; state = p } in session_of (mark_gone x.name x.point to ks) y ≡ session_arranged (search_finished state f No_effect) z)
+  gone_does state q p f adjusts state_is search_is =
       let s = session_of ks h in
       gone_here ∙ (λ i. record s { windows = change_at s.selected (λ w. adjusts q w i) s.windows; state = state_is i; search = search_is i })
 

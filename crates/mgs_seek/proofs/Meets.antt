@@ -4,12 +4,13 @@ use Rattle.std.proofs.Math.Nat.{min-eq_left}
 use Rattle.std.specs.Prelude.{IfSome}
 use Rattle.mgs_model.specs.World.{State}
 use Rattle.mgs_model.specs.World as model
-use Rattle.mgs_model.specs.Outcome.{Anchor_at, Keep, Keep_mark, Keep_search, No_effect}
-use Rattle.mgs_model.specs.Plans.{Goes_on, Over}
-use Rattle.mgs_model.specs.Acts.{counted, finished, finished_state}
+use Rattle.mgs_model.specs.Outcome.{Keep_mark, Keep_position, No_effect}
+use Rattle.mgs_model.specs.Seeking.{SearchFinish, met}
+use Rattle.mgs_model.specs.Acts.{counted, search_finished, search_finished_state}
 use Rattle.mgs_model.specs.Apply.{session_arranged, window_adjusted}
 use Rattle.mgs_buffers.specs.MarkedBuffer.{IsMark, MarkedBuffer, marked_at}
 use Rattle.mgs_windows.specs.declared.WindowMarks.{WindowMarks}
+use Rattle.mgs_edit.specs.Reading.{top_read}
 use Rattle.mgs_session.specs.Seeking.{searching}
 use Rattle.mgs_session.specs.Sessions.{window_marks_of}
 use Rattle.mgs_session.specs.declared.Session.{Session}
@@ -17,7 +18,7 @@ use Rattle.mgs_session.specs.declared.search.Aim.TheVariants.{Replace}
 use Rattle.mgs_session.specs.Replacing.{Replacing}
 use Rattle.mgs_session.specs.declared.search.Search.{Search}
 use Rattle.mgs_plan.specs.Actions.{mark_gone}
-use Rattle.mgs_seek.specs.Replacing.{finish_met, point_met, session_met, session_over}
+use Rattle.mgs_seek.specs.Replacing.{point_met, session_met, session_over}
 use Rattle.mgs_world.specs.Sound.{IsSessionSound}
 use Rattle.mgs_seek.proofs.Lifts.{gone_does, marks_held, only_gone}
 use Rattle.mgs_world.specs.Only.{OnlyThis, nothing_held}
@@ -27,7 +28,7 @@ use Rattle.mgs_world.proofs.Soundness.{mark_is_kept}
 use Rattle.mgs_plan.proofs.Deeds.{point_by}
 
 -- the point goes there whatever is searched for
-pub adjusted_met : (len : ℕ) (next left : Option ℕ) (search : Option model.Search) (w : model.Window) → point_by (point_met len next left) w ≡ window_adjusted search (point_met len next left) Keep_mark Keep None w
+pub adjusted_met : (len : ℕ) (next left : Option ℕ) (search : Option model.Search) (w : model.Window) → point_by (point_met len next left) w ≡ window_adjusted search (point_met len next left) Keep_mark Keep_position None w
 adjusted_met len (Some m) left search w = refl
 adjusted_met len None (Some p) search w = refl
 adjusted_met len None None search w = refl
@@ -40,7 +41,7 @@ replaces s r = record s { aim = Replace r }
 abbrev pub counts : Search → Replacing → ℕ → Search
 counts s r k = replaces s (record r { count = k })
 
-met_state : (len : ℕ) (met left : Option ℕ) (s : Search) (r : Replacing) (k n : ℕ) (h : Session) → k ≡ counted r.count n → state_of (session_met met (counts s r k) h).state ≡ finished_state (finish_met len met left n) (state_of (searching (replaces s r) h).state)
+met_state : (len : ℕ) (next left : Option ℕ) (s : Search) (r : Replacing) (k n : ℕ) (h : Session) → k ≡ counted r.count n → state_of (session_met next (counts s r k) h).state ≡ search_finished_state (met len n (top_read left) next) (state_of (searching (replaces s r) h).state)
 met_state len None _ s r k n h e = ap (λ (q : ℕ). state_of (session_over q h).state) e
 met_state len (Some m) _ s r k n h e = ap (λ (q : ℕ). state_of (session_met (Some m) (counts s r q) h).state) e
 
@@ -49,13 +50,16 @@ module _ (ks : List MarkedBuffer) (h : Session) (x : WindowMarks) (s : Search) (
   abbrev state : State
   state = state_of (searching (replaces s r) h).state
 
-  pub met_does : (met : Option ℕ) → IfSome met (λ m. m ≤ length (marked_at x.name ks).buffer.text)
-      → session_of (mark_gone x.name x.point (point_met len met left) ks) (session_met met (counts s r k) h) ≡ session_arranged (finished state (finish_met len met left n) No_effect) (session_of ks (searching (replaces s r) h))
+  abbrev left_so : Option ℕ → SearchFinish
+  left_so next = met len n (top_read left) next
+
+  pub met_does : (next : Option ℕ) → IfSome next (λ m. m ≤ length (marked_at x.name ks).buffer.text)
+      → session_of (mark_gone x.name x.point (point_met len next left) ks) (session_met next (counts s r k) h) ≡ session_arranged (search_finished state (left_so next) No_effect) (session_of ks (searching (replaces s r) h))
   met_does None small =
-      gone_does ks h x (point_met len None left) (session_met None (counts s r k) h).state sound sel state (session_of ks (searching (replaces s r) h)).search state Keep_search Over n (adjusted_met len None left) (met_state len None left s r k n h count) refl
+      gone_does ks h x (point_met len None left) (session_met None (counts s r k) h).state sound sel state (session_of ks (searching (replaces s r) h)).search state (left_so None) (adjusted_met len None left) (met_state len None left s r k n h count) refl
   met_does (Some m) small =
       let size : size_named s.name (buffers_of ks) ≡ length (marked_at x.name ks).buffer.text = ap (λ (q : List ℕ). size_named q (buffers_of ks)) name ∙ size_kept x.name ks (mark_is_kept x.name x.point ks (marks_held ks h x sound sel).point) in
-      gone_does ks h x (point_met len (Some m) left) (session_met (Some m) (counts s r k) h).state sound sel state (session_of ks (searching (replaces s r) h)).search state (Anchor_at m) Goes_on n (adjusted_met len (Some m) left) (met_state len (Some m) left s r k n h count)
+      gone_does ks h x (point_met len (Some m) left) (session_met (Some m) (counts s r k) h).state sound sel state (session_of ks (searching (replaces s r) h)).search state (left_so (Some m)) (adjusted_met len (Some m) left) (met_state len (Some m) left s r k n h count)
       (ap (λ (a : ℕ). let t : model.Search = record { name = s.name; origin = min s.origin (size_named s.name (buffers_of ks)); anchor = a } in Some t) (ap (min m) size ∙ min-eq_left small))
 
 -- the session of a match, or of none, uses the marks that it used

@@ -1,19 +1,19 @@
 -- A replacement as it is planned: what it takes out is in the text, and the next match is less far from its end.
-use Rattle.std.proofs.Common.{◌≡◌, ℕ, ◌+◌, ◌-◌, ◌<◌, ◌≤◌, min, Bool, true, false, cond, List, [], ◌∷◌, ◌&&◌, ◌++◌, length, take, drop, Option, Some, None, refl, sym, ap, ◌∙◌, arith, length-append, length-drop}
+use Rattle.std.proofs.Common.{◌≡◌, ℕ, ◌+◌, ◌-◌, ◌<◌, ◌≤◌, min, Bool, true, false, cond, List, [], ◌∷◌, ◌&&◌, ◌++◌, length, take, drop, Option, Some, None, refl, sym, ap, subst, subst₂, ◌∙◌, arith, length-append, length-drop}
 use Rattle.std.proofs.lemmas.List.{length-take}
 use Rattle.std.specs.Prelude.{Result, Ok}
 use Rattle.std.specs.Char.{eq_ignore_ascii_case}
-use Rattle.mgs_model.specs.Outcome.{Anchor_at, Begin, Keep_search, No_search, SearchPlan}
-use Rattle.mgs_model.specs.Plans.{Around, Change, Finish, Over, alteration, goes, met, next_match, stays}
+use Rattle.mgs_model.specs.Outcome.{Anchor_at, At, Begin, Keep_position, Keep_search, No_search, SearchPlan}
+use Rattle.mgs_model.specs.Seeking.{AroundSearch, Failing, Goes_on, Keep_mode, ModePlan, Over, SearchChange, met, replace}
 use Rattle.mgs_model.specs.Searching.{begins, first_in, first_match, matches_at}
 use Rattle.mgs_model.specs.Text.{edited}
-use Rattle.mgs_model.specs.declared.session.Kind.TheVariants.{Other}
-use Rattle.mgs_model.specs.declared.session.Alteration.TheVariants.{ReplaceLast, ReplaceMatch}
+use Rattle.mgs_model.specs.declared.session.Replacement.TheVariants.{ReplaceLast, ReplaceMatch}
+use Rattle.mgs_edit.specs.Reading.{top_read}
 use Rattle.mgs_search.specs.Planned.{IsReplacement, replacement_read}
-use Rattle.mgs_search.specs.declared.replacing.Replacement.{Replacement}
+use Rattle.mgs_search.specs.declared.replacing.MatchPlan.{MatchPlan}
 use Rattle.mgs_session.specs.Replacing.{Replacing}
 use Rattle.mgs_seek.specs.Planning.{IsPlan, one_met, put_by, to_by}
-use Rattle.mgs_seek.specs.Replacing.{finish_met, replacement, taken}
+use Rattle.mgs_seek.specs.Replacing.{replacement}
 
 -- WHERE A MATCH IS
 
@@ -59,79 +59,89 @@ first_past ps text i m other is = past (drop i text) other is
 same_ok : {T E : Type 0} (x y : T) → Path (Result T E) (Ok x) (Ok y) → x ≡ y
 same_ok x y e = cc
 
--- where a search goes on by what is left
+either : {T E : Type 0} (f : Bool → T) (b : Bool) → Path (Result T E) (cond b (Ok (f true)) (Ok (f false))) (Ok (f b))
+either f true = refl
+either f false = refl
+
+-- where a search goes on by what is left, and how many more were replaced
 abbrev place_of : SearchPlan → Option ℕ
 place_of Keep_search = None
 place_of No_search = None
 place_of (Begin name origin anchor) = None
 place_of (Anchor_at p) = Some p
 
-met_replaced : (len : ℕ) (f : Finish) (next : Option ℕ) → (met len f next).replaced ≡ f.replaced
-met_replaced len f None = refl
-met_replaced len f (Some m) = refl
+abbrev count_of : ModePlan → ℕ
+count_of Keep_mode = 0
+count_of (Goes_on n) = n
+count_of (Over n) = n
+count_of (Failing failing) = 0
 
-met_place : (len : ℕ) (f : Finish) (next : Option ℕ) → f.sought ≡ Keep_search → place_of (met len f next).sought ≡ next
-met_place len f None keeps = ap place_of keeps
-met_place len f (Some m) keeps = refl
+-- a match of so many characters is replaced by this, or nothing is, and the next one is there
+abbrev change : ℕ → ℕ → List ℕ → Bool → Option ℕ → SearchChange
+change a len put q next =
+    cond q (record { a = a; b = a + len; put = put; finish = met len 1 (At (a + length put)) next })
+    (record { a = a; b = a; put = []; finish = met len 0 Keep_position next })
 
-abbrev met_or_over : Bool → Around → ℕ → Finish → List ℕ → Finish
-met_or_over true x from f text = record f { mode = Over }
-met_or_over false x from f text = next_match x from f text
+change_count : (a len : ℕ) (put : List ℕ) (q : Bool) (next : Option ℕ) → count_of (change a len put q next).finish.mode ≡ one_met q
+change_count a len put true None = refl
+change_count a len put true (Some m) = refl
+change_count a len put false None = refl
+change_count a len put false (Some m) = refl
 
-found_replaced : (last : Bool) (x : Around) (from : ℕ) (f : Finish) (text : List ℕ) → (met_or_over last x from f text).replaced ≡ f.replaced
-found_replaced true x from f text = refl
-found_replaced false x from f text = met_replaced (length x.old) f (first_match x.old text from)
+change_place : (a len : ℕ) (put : List ℕ) (q : Bool) (next : Option ℕ) → place_of (change a len put q next).finish.sought ≡ next
+change_place a len put true None = refl
+change_place a len put true (Some m) = refl
+change_place a len put false None = refl
+change_place a len put false (Some m) = refl
 
-found_place : (last : Bool) (x : Around) (from : ℕ) (f : Finish) (text : List ℕ) (m : ℕ) → f.sought ≡ Keep_search → place_of (met_or_over last x from f text).sought ≡ Some m → first_match x.old text from ≡ Some m
-found_place true x from f text m keeps is = (let none : Path (Option ℕ) None (Some m) = sym (ap place_of keeps) ∙ is in cc)
-found_place false x from f text m keeps is = sym (met_place (length x.old) f (first_match x.old text from) keeps) ∙ is
+one_same : (p q : Bool) → one_met p ≡ one_met q → p ≡ q
+one_same true true e = refl
+one_same false false e = refl
+one_same true false e = (let no : ◌≡◌ {A = ℕ} 1 0 = e in absurd (omega (arith, no)))
+one_same false true e = (let no : ◌≡◌ {A = ℕ} 1 0 = sym e in absurd (omega (arith, no)))
 
-module _ (last : Bool) (a : ℕ) (r : Replacing) (text : List ℕ) (plan : Replacement) (inside : a ≤ length text) (planned : IsPlan text a r last plan) where
+-- as the model plans it: the last one looks for no next match
+abbrev next_by : Bool → List ℕ → List ℕ → ℕ → Option ℕ
+next_by true old text from = None
+next_by false old text from = first_match old text from
+
+abbrev next_there : Bool → ℕ → List ℕ → List ℕ → List ℕ → Bool → Option ℕ
+next_there last a old put text true = next_by last old (edited a (a + length old) put text) (a + length put)
+next_there last a old put text false = next_by last old text a
+
+module _ (last : Bool) (a : ℕ) (r : Replacing) (text : List ℕ) (plan : MatchPlan) (inside : a ≤ length text) (planned : IsPlan text a r last plan) where
   abbrev old : List ℕ
   old = r.pattern
 
   abbrev put : List ℕ
   put = r.put
 
-  abbrev around : Around
-  around = record { name = []; size = 0; serial = 0; place = 0; mark = None; origin = 0; anchor = a; sought_here = true; old = old; argument = None; typed = put; kill = []; kind = Other; height = 0; fill = 0 }
+  abbrev found : Bool
+  found = matches_at old text a
 
-  abbrev replaces : Finish
-  replaces = record (goes (a + length put)) { replaced = 1 }
+  abbrev next_found : Bool → Option ℕ
+  next_found q = next_there last a old put text q
 
-  abbrev model_change : Bool → Change
-  model_change q =
-      cond q (record { a = a; b = a + length old; put = put; finish = met_or_over last around (a + length put) replaces (edited a (a + length old) put text) })
-      (record { a = a; b = a; put = []; finish = met_or_over last around a stays text })
+  abbrev given : AroundSearch
+  given = record { name = []; places = record { origin = 0; anchor = a; point = 0 }; sought_here = true; old = old; typed = put }
 
-  planned_so : (q : Bool) → alteration (replacement q) text around ≡ Ok (cond (matches_at old text a) (record { a = a; b = a + length old; put = put; finish = met_or_over q around (a + length put) replaces (edited a (a + length old) put text) }) (record { a = a; b = a; put = []; finish = met_or_over q around a stays text }))
-  planned_so true = refl
-  planned_so false = refl
+  planned_so : (q : Bool) → replace (replacement q) text given ≡ Ok (change a (length old) put found (next_there q a old put text found))
+  planned_so true = either (λ b. change a (length old) put b (next_there true a old put text b)) found
+  planned_so false = either (λ b. change a (length old) put b (next_there false a old put text b)) found
 
-  abbrev change : Bool → Change
-  change p =
-      cond p (record { a = a; b = a + length old; put = put; finish = met (length old) replaces plan.next })
-      (record { a = a; b = a; put = []; finish = met (length old) stays plan.next })
+  same : change a (length old) put plan.replaces plan.next ≡ change a (length old) put found (next_found found)
+  same = same_ok _ _ (planned given ∙ planned_so last)
 
-  same : change plan.replaces ≡ model_change (matches_at old text a)
-  same = same_ok _ _ (planned around ∙ planned_so last)
+  replaces_is : plan.replaces ≡ found
+  replaces_is = one_same plan.replaces found (sym (change_count a (length old) put plan.replaces plan.next) ∙ ap (λ (c : SearchChange). count_of c.finish.mode) same ∙ change_count a (length old) put found (next_found found))
 
-  no_one : ◌≡◌ {A = ℕ} 1 0 → ⊥
-  no_one e = omega (arith, e)
-
-  replaces_is : plan.replaces ≡ matches_at old text a
-  replaces_is = by plan.replaces (matches_at old text a) same
-    where
-      by : (p q : Bool) → change p ≡ model_change q → p ≡ q
-      by true true e = refl
-      by false false e = refl
-      by true false e = absurd (no_one (sym (met_replaced (length old) replaces plan.next) ∙ ap (λ (c : Change). c.finish.replaced) e ∙ found_replaced last around a stays text))
-      by false true e = absurd (no_one (sym (sym (met_replaced (length old) stays plan.next) ∙ ap (λ (c : Change). c.finish.replaced) e ∙ found_replaced last around (a + length put) replaces (edited a (a + length old) put text))))
+  next_is : plan.next ≡ next_found found
+  next_is = sym (change_place a (length old) put plan.replaces plan.next) ∙ ap (λ (c : SearchChange). place_of c.finish.sought) same ∙ change_place a (length old) put found (next_found found)
 
   pub within_text : to_by plan.replaces a old ≤ length text
   within_text = by plan.replaces replaces_is
     where
-      by : (q : Bool) → q ≡ matches_at old text a → to_by q a old ≤ length text
+      by : (q : Bool) → q ≡ found → to_by q a old ≤ length text
       by true is = matches_fit old text a inside (sym is)
       by false is = inside
 
@@ -141,54 +151,41 @@ module _ (last : Bool) (a : ℕ) (r : Replacing) (text : List ℕ) (plan : Repla
   length_put : a + length old ≤ length text → length (edited a (a + length old) put text) ≡ size_by true
   length_put fits = omega (arith, fits, length-append (take a text ++ put) (drop (a + length old) text), length-append (take a text) put, length-take a text, length-drop (a + length old) text)
 
+  first_found : (q : Bool) (from : ℕ) (text : List ℕ) (m : ℕ) → next_by q old text from ≡ Some m → first_match old text from ≡ Some m
+  first_found true from text m is = cc
+  first_found false from text m is = is
+
   pub next_facts : (m : ℕ) → plan.next ≡ Some m → (m + length old ≤ size_by plan.replaces) × (0 < length old → size_by plan.replaces - min m (size_by plan.replaces) < length text - a)
-  next_facts m is = by plan.replaces (matches_at old text a) replaces_is refl same
+  next_facts m is = subst (λ (q : Bool). (m + length old ≤ size_by q) × (0 < length old → size_by q - min m (size_by q) < length text - a)) (sym replaces_is) (by found refl (sym next_is ∙ is))
     where
-      by : (p q : Bool) → p ≡ q → matches_at old text a ≡ q → change p ≡ model_change q → (m + length old ≤ size_by p) × (0 < length old → size_by p - min m (size_by p) < length text - a)
-      by true true pq here e =
+      by : (q : Bool) → found ≡ q → next_found q ≡ Some m → (m + length old ≤ size_by q) × (0 < length old → size_by q - min m (size_by q) < length text - a)
+      by true here e =
           let fits : a + length old ≤ length text = matches_fit old text a inside here in
           let after = edited a (a + length old) put text in
-          let found : first_match old after (a + length put) ≡ Some m =
-          found_place last around (a + length put) replaces after m refl (sym (ap (λ (c : Change). place_of c.finish.sought) e) ∙ met_place (length old) replaces plan.next refl ∙ is) in
-          let there = first_within old after (a + length put) m (omega (arith, fits, length_put fits)) found in
+          let there = first_within old after (a + length put) m (omega (arith, fits, length_put fits)) (first_found last (a + length put) after m e) in
           (omega (arith, there.1, length_put fits), λ some. omega (arith, fits, there.0, there.1, length_put fits, some))
-      by false false pq here e =
-          let found : first_match old text a ≡ Some m =
-          found_place last around a stays text m refl (sym (ap (λ (c : Change). place_of c.finish.sought) e) ∙ met_place (length old) stays plan.next refl ∙ is) in
-          let there = first_within old text a m inside found in
-          let past = first_past old text a m here found in
+      by false here e =
+          let first = first_found last a text m e in
+          let there = first_within old text a m inside first in
+          let past = first_past old text a m here first in
           (omega (arith, there.1), λ some. omega (arith, there.1, past))
-      by true false pq here e = cc
-      by false true pq here e = cc
 
   -- the change, with what it leaves
-  pub change_read : replacement_read a (length old) put plan ≡ record (taken a (to_by plan.replaces a old) (put_by plan.replaces put)) { finish = finish_met (length old) plan.next (cond plan.replaces (Some (a + length (put_by plan.replaces put))) None) (one_met plan.replaces) }
-  change_read = by plan.replaces plan.next
+  pub change_read : replacement_read a (length old) put plan ≡ record { a = a; b = to_by plan.replaces a old; put = put_by plan.replaces put; finish = met (length old) (one_met plan.replaces) (top_read (cond plan.replaces (Some (a + length (put_by plan.replaces put))) None)) plan.next }
+  change_read = by plan.replaces
     where
-      by : (q : Bool) (next : Option ℕ)
-          → cond q (record { a = a; b = a + length old; put = put; finish = met (length old) replaces next }) (record { a = a; b = a; put = []; finish = met (length old) stays next })
-          ≡ record (taken a (to_by q a old) (put_by q put)) { finish = finish_met (length old) next (cond q (Some (a + length (put_by q put))) None) (one_met q) }
-      by true None = refl
-      by true (Some m) = refl
-      by false None = refl
-      by false (Some m) = refl
+      by : (q : Bool) → change a (length old) put q plan.next ≡ record { a = a; b = to_by q a old; put = put_by q put; finish = met (length old) (one_met q) (top_read (cond q (Some (a + length (put_by q put))) None)) plan.next }
+      by true = refl
+      by false = refl
 
 -- the last one, whatever is put in
-pub last_planned : (last : Bool) (a : ℕ) (r : Replacing) (q text : List ℕ) (plan : Replacement) → last ≡ true → q ≡ r.pattern
+pub last_planned : (last : Bool) (a : ℕ) (r : Replacing) (q text : List ℕ) (plan : MatchPlan) → last ≡ true → q ≡ r.pattern
     → ((put : List ℕ) → IsReplacement ReplaceLast q put text a plan)
     → IsPlan text a r last plan
-last_planned last a r q text plan is eq planned = λ rest.
-    sym (ap (λ (k : List ℕ). Ok (replacement_read a (length k) r.put plan)) eq)
-    ∙ planned r.put rest
-    ∙ ap (λ (k : List ℕ). alteration ReplaceLast text (record rest { anchor = a; sought_here = true; old = k; typed = r.put })) eq
-    ∙ ap (λ (k : Bool). alteration (replacement k) text (record rest { anchor = a; sought_here = true; old = r.pattern; typed = r.put })) (sym is)
+last_planned last a r q text plan is eq planned =
+    subst (λ (k : Bool). IsReplacement (replacement k) r.pattern r.put text a plan) (sym is) (subst (λ (k : List ℕ). IsReplacement ReplaceLast k r.put text a plan) eq (planned r.put))
 
 -- one that looks for the next match, with what is put in
-pub next_planned : (last : Bool) (a : ℕ) (r : Replacing) (q p text : List ℕ) (plan : Replacement) → last ≡ false → q ≡ r.pattern → p ≡ r.put → IsReplacement ReplaceMatch q p text a plan → IsPlan text a r last plan
-next_planned last a r q p text plan is eq same planned = λ rest.
-    sym (ap (λ (k : List ℕ). Ok (replacement_read a (length k) r.put plan)) eq)
-    ∙ sym (ap (λ (k : List ℕ). Ok (replacement_read a (length q) k plan)) same)
-    ∙ planned rest
-    ∙ ap (λ (k : List ℕ). alteration ReplaceMatch text (record rest { anchor = a; sought_here = true; old = k; typed = p })) eq
-    ∙ ap (λ (k : List ℕ). alteration ReplaceMatch text (record rest { anchor = a; sought_here = true; old = r.pattern; typed = k })) same
-    ∙ ap (λ (k : Bool). alteration (replacement k) text (record rest { anchor = a; sought_here = true; old = r.pattern; typed = r.put })) (sym is)
+pub next_planned : (last : Bool) (a : ℕ) (r : Replacing) (q p text : List ℕ) (plan : MatchPlan) → last ≡ false → q ≡ r.pattern → p ≡ r.put → IsReplacement ReplaceMatch q p text a plan → IsPlan text a r last plan
+next_planned last a r q p text plan is eq same planned =
+    subst (λ (k : Bool). IsReplacement (replacement k) r.pattern r.put text a plan) (sym is) (subst₂ (λ (k u : List ℕ). IsReplacement ReplaceMatch k u text a plan) eq same planned)

@@ -2,38 +2,31 @@
 use Rattle.std.proofs.Common.{◌≡◌, ℕ, ◌+◌, ◌-◌, ◌<◌, ◌≤◌, min, Bool, true, false, cond, List, length, Option, Some, None, refl, sym, ap, subst, ◌∙◌, arith}
 use Rattle.std.specs.Prelude.{IfErr, IfSome, IfOk, Result, Ok, Err}
 use Rattle.mgs_model.specs.Access.{Directory}
-use Rattle.mgs_model.specs.Acts.{edit_of, fails, finished, is_full, outcome}
+use Rattle.mgs_model.specs.Acts.{edit_of, fails, is_full, outcome, search_finished}
 use Rattle.mgs_model.specs.Outcome.{Act, Outcome, Run}
-use Rattle.mgs_model.specs.Plans as plans
-use Rattle.mgs_model.specs.Plans.{Change, alteration}
+use Rattle.mgs_model.specs.Seeking.{AroundSearch, SearchChange, SearchFinish, met, replace}
 use Rattle.mgs_model.specs.View.{view}
-use Rattle.mgs_model.specs.World as model
 use Rattle.mgs_model.specs.declared.message.Message.{Message}
 use Rattle.mgs_model.specs.declared.message.Message.TheVariants.{BufferFull}
-use Rattle.mgs_model.specs.declared.search.SearchPlaces.{SearchPlaces}
-use Rattle.mgs_model.specs.declared.session.Command.TheVariants.{Alter}
-use Rattle.mgs_model.specs.declared.session.Motion.TheVariants.{SkipMatch}
-use Rattle.mgs_buffers.specs.MarkedBuffer.{HasBuffer, MarkedBuffer, mark_at, marked_at}
+use Rattle.mgs_model.specs.declared.session.Command.TheVariants as commands
+use Rattle.mgs_model.specs.declared.session.Seeking.TheVariants.{SkipMatch}
+use Rattle.mgs_buffers.specs.MarkedBuffer.{MarkedBuffer, marked_at}
 use Rattle.mgs_windows.specs.declared.WindowMarks.{WindowMarks}
-use Rattle.mgs_search.specs.Planned.{replacement_read}
+use Rattle.mgs_edit.specs.Reading.{top_read}
+use Rattle.mgs_search.specs.declared.replacing.MatchPlan.{MatchPlan}
 use Rattle.mgs_session.specs.Replacing.{Replacing}
-use Rattle.mgs_session.specs.Seeking.{searching}
 use Rattle.mgs_session.specs.declared.Session.{Session}
 use Rattle.mgs_session.specs.declared.search.Aim.{Aim}
 use Rattle.mgs_session.specs.declared.search.Aim.TheVariants.{Replace}
 use Rattle.mgs_session.specs.declared.search.Edited.{Edited}
 use Rattle.mgs_session.specs.declared.search.Search.{Search}
-use Rattle.mgs_plan.specs.Actions.{edit_outcome}
-use Rattle.mgs_plan.specs.Beginning.{seeking}
-use Rattle.mgs_world.specs.Worlds.{buffers_of, state_of, session_of, size_named, world_of}
-use Rattle.mgs_world.proofs.Edits.{size_kept}
-use Rattle.mgs_world.proofs.Soundness.{mark_is_kept}
+use Rattle.mgs_plan.specs.Actions.{replaced_outcome}
+use Rattle.mgs_world.specs.Worlds.{state_of, session_of, world_of}
 use Rattle.mgs_seek.specs.Acting.{IsSought, SearchFails}
-use Rattle.mgs_seek.specs.Planning.{FullAt, IsPlanned, PlannedAt, ReplacementFails, anchor_at, edit_planned, old_of, one_met, put_by, put_of, size_then, to_by}
-use Rattle.mgs_seek.specs.Replacing.{finish_met, replacement, taken}
+use Rattle.mgs_seek.specs.Planning.{FullAt, IsPlan, IsPlanned, PlannedAt, ReplacementFails, anchor_at, edit_planned, old_of, one_met, put_by, put_of, size_then, to_by}
+use Rattle.mgs_seek.specs.Replacing.{replacement}
 use Rattle.mgs_seek.specs.declared.replacing.Planned.{Planned}
-use Rattle.mgs_seek.proofs.Comes.{come_here}
-use Rattle.mgs_seek.proofs.Lifts.{in_this}
+use Rattle.mgs_seek.proofs.Comes.{come_sought, sought_place}
 use Rattle.mgs_seek.proofs.Meets.{replaces}
 use Rattle.mgs_seek.proofs.Puts.{change_read, next_facts, within_text}
 use Rattle.mgs_seek.proofs.Seeks.{held_so}
@@ -50,51 +43,37 @@ module _ (d : Directory) (ks : List MarkedBuffer) (h : Session) (x : WindowMarks
   abbrev a : ℕ
   a = anchor_at x ks s.anchor
 
-  name : s.name ≡ x.name
-  name = in_this x.name h.state.search (replaces s r) sought.here held
-
-  kept : HasBuffer x.name ks
-  kept = mark_is_kept x.name x.point ks sought.target.marks.point
-
-  size : size_named s.name (buffers_of ks) ≡ length text
-  size = ap (λ (n : List ℕ). size_named n (buffers_of ks)) name ∙ size_kept x.name ks kept
-
   anchored : a ≤ length text
   anchored = omega arith
 
-  abbrev places : SearchPlaces
-  places = record { origin = min s.origin (length text); anchor = a; point = mark_at x.name ks x.point }
-
   abbrev replaces_it : Act
-  replaces_it = Run (Alter (replacement last)) None r.put
+  replaces_it = Run (commands.Replace (replacement last)) None r.put
 
-  comes_to : (c : Change) → ((rest : plans.Around) → Path (Result Change Message) (Ok c) (alteration (replacement last) text (record rest { anchor = a; sought_here = true; old = r.pattern; typed = r.put })))
-      → (xs : List Session) (next : Option ℕ) → outcome (view (world_of d ks xs next) (session_of ks h)) replaces_it true ≡ edit_outcome (state_of h.state) x.name (length text) serial (Ok c)
-  comes_to c planned xs next =
-      let w = world_of d ks xs next in
-      let shown = searching (replaces s r) h in
+  -- by what is planned, which takes out the characters up to there and puts these in
+  abbrev ends_by : MatchPlan → ℕ → List ℕ → Outcome
+  ends_by plan to put =
+      search_finished (state_of h.state) (met (length r.pattern) (one_met plan.replaces) (top_read (cond plan.replaces (Some (a + length put)) None)) plan.next) (edit_of x.name a to put)
+
+  abbrev comes_to : MatchPlan → ℕ → List ℕ → Outcome
+  comes_to plan to put = cond (is_full (length text) serial a to put) (fails (state_of h.state) BufferFull) (ends_by plan to put)
+
+  comes_so : (plan : MatchPlan) → IsPlan text a r last plan → (xs : List Session) (next : Option ℕ) → outcome (view (world_of d ks xs next) (session_of ks h)) replaces_it true ≡ comes_to plan (to_by plan.replaces a r.pattern) (put_by plan.replaces r.put)
+  comes_so plan planned xs next =
       let here = held_so h (replaces s r) held in
-      ap (λ (y : Session). outcome (view w (session_of ks y)) replaces_it true) here
-      ∙ ap (λ (q : Option model.Search). let y : model.Session = record (session_of ks shown) { search = q } in outcome (view w y) replaces_it true)
-      (λ i. Some (record { name = name i; origin = min s.origin (size i); anchor = min s.anchor (size i) }))
-      ∙ come_here d ks xs next shown (state_of shown.state) None r.put true SkipMatch (replacement last) x sought.target.sel kept sought.target.granted places refl (edit_outcome (state_of shown.state) x.name (length text) serial (Ok c))
-      (λ a name size serial old.
-      let seen = seeking a places r.put in
-      (λ i. edit_outcome (state_of shown.state) (name i) (size i) (serial i) (alteration (replacement last) text seen))
-      ∙ ap (edit_outcome (state_of shown.state) x.name (length text) (marked_at x.name ks).buffer.serial)
-      (ap (λ (q : List ℕ). alteration (replacement last) text (record seen { old = q })) old ∙ sym (planned seen)))
-      ∙ ap (λ (y : Session). edit_outcome (state_of y.state) x.name (length text) serial (Ok c)) (sym here)
+      let there : AroundSearch = record (sought_place d ks h true x (replaces s r) sought held) { typed = r.put } in
+      ap (λ (y : Session). outcome (view (world_of d ks xs next) (session_of ks y)) replaces_it true) here
+      ∙ come_sought d ks h true x (replaces s r) sought held SkipMatch (replacement last) None r.put xs next
+      ∙ ap (λ (y : Session). replaced_outcome (state_of y.state) x.name (length text) serial (replace (replacement last) text there)) (sym here)
+      ∙ ap (replaced_outcome (state_of h.state) x.name (length text) serial) (sym (planned there) ∙ ap (λ (c : SearchChange). Ok c) (change_read last a r text plan anchored planned))
 
   -- the buffer is full
   pub full_fails : (message : Message) → FullAt ks x s.anchor r last message → ReplacementFails d ks h last message
   full_fails message full xs next typed is =
       let t = is (replaces s r) held in
-      let c = replacement_read a (length r.pattern) r.put full.done in
       let same : r ≡ t.0 = same_replacing s r (replaces s r) t.0 refl t.1 in
-      ap (λ (q : List ℕ). outcome (view (world_of d ks xs next) (session_of ks h)) (Run (Alter (replacement last)) None q) true) (t.2 ∙ ap (λ (v : Replacing). v.put) (sym same))
-      ∙ comes_to c full.plan xs next
-      ∙ ap (λ (q : Change). edit_outcome (state_of h.state) x.name (length text) serial (Ok q)) (change_read last a r text full.done anchored full.plan)
-      ∙ ap (λ (q : Bool). cond q (fails (state_of h.state) BufferFull) (finished (state_of h.state) (finish_met (length r.pattern) full.done.next (cond full.done.replaces (Some (a + length (put_by full.done.replaces r.put))) None) (one_met full.done.replaces)) (edit_of x.name (taken a (to_by full.done.replaces a r.pattern) (put_by full.done.replaces r.put))))) full.full
+      ap (λ (q : List ℕ). outcome (view (world_of d ks xs next) (session_of ks h)) (Run (commands.Replace (replacement last)) None q) true) (t.2 ∙ ap (λ (v : Replacing). v.put) (sym same))
+      ∙ comes_so full.done full.plan xs next
+      ∙ ap (λ (q : Bool). cond q (fails (state_of h.state) BufferFull) (ends_by full.done (to_by full.done.replaces a r.pattern) (put_by full.done.replaces r.put))) full.full
       ∙ ap (fails (state_of h.state)) (sym full.told)
 
   -- it is planned
@@ -111,9 +90,6 @@ module _ (d : Directory) (ks : List MarkedBuffer) (h : Session) (x : WindowMarks
     facts : (m : ℕ) → p.plan.next ≡ Some m → (m + length r.pattern ≤ length text - (e.to - a) + e.added) × (0 < length r.pattern → length text - (e.to - a) + e.added - min m (length text - (e.to - a) + e.added) < length text - a)
     facts = next_facts last a r text p.plan anchored planned.plan
 
-    after : Edited → ℕ
-    after q = length text - (q.to - q.from) + q.added
-
     fits : (q : Edited) → q ≡ e → (o : Option ℕ) → p.plan.next ≡ o → IfSome o (λ m. m + length r.pattern ≤ length text - (q.to - q.from) + q.added)
     fits q same None is = tt
     fits q same (Some m) is = subst (λ (z : Edited). m + length r.pattern ≤ length text - (z.to - z.from) + z.added) (sym same) (facts m is).0
@@ -126,19 +102,18 @@ module _ (d : Directory) (ks : List MarkedBuffer) (h : Session) (x : WindowMarks
     order_by true = omega arith
     order_by false = omega arith
 
-    abbrev left : Edited → Option ℕ
-    left q = cond b (Some (q.from + q.added)) None
+    abbrev left : Edited → SearchFinish
+    left q = met (length r.pattern) (one_met b) (top_read (cond b (Some (q.from + q.added)) None)) p.plan.next
 
-    known_at : (q : Edited) → q ≡ e → is_full (length text) serial (taken q.from q.to (put_by b r.put)) ≡ false → (xs : List Session) (next : Option ℕ)
-        → outcome (view (world_of d ks xs next) (session_of ks h)) replaces_it true ≡ finished (state_of h.state) (finish_met (length r.pattern) p.plan.next (left q) (one_met b)) (edit_of x.name (taken q.from q.to (put_of b h.state.search)))
+    known_at : (q : Edited) → q ≡ e → is_full (length text) serial q.from q.to (put_by b r.put) ≡ false → (xs : List Session) (next : Option ℕ)
+        → outcome (view (world_of d ks xs next) (session_of ks h)) replaces_it true ≡ search_finished (state_of h.state) (left q) (edit_of x.name q.from q.to (put_of b h.state.search))
     known_at q same room xs next =
         let state = state_of h.state in
-        let does : Edited → Outcome = λ z. finished state (finish_met (length r.pattern) p.plan.next (left z) (one_met b)) (edit_of x.name (taken z.from z.to (put_by b r.put))) in
-        comes_to (replacement_read a (length r.pattern) r.put p.plan) planned.plan xs next
-        ∙ ap (λ (c : Change). edit_outcome state x.name (length text) serial (Ok c)) (change_read last a r text p.plan anchored planned.plan)
-        ∙ ap (λ (z : Edited). cond (is_full (length text) serial (taken z.from z.to (put_by b r.put))) (fails state BufferFull) (does z)) (sym same)
+        let does : Edited → Outcome = λ z. search_finished state (left z) (edit_of x.name z.from z.to (put_by b r.put)) in
+        comes_so p.plan planned.plan xs next
+        ∙ ap (λ (z : Edited). cond (is_full (length text) serial z.from z.to (put_by b r.put)) (fails state BufferFull) (does z)) (sym same)
         ∙ ap (λ (full : Bool). cond full (fails state BufferFull) (does q)) room
-        ∙ ap (λ (put : List ℕ). finished state (finish_met (length r.pattern) p.plan.next (left q) (one_met b)) (edit_of x.name (taken q.from q.to put))) (sym (put_is b))
+        ∙ ap (λ (put : List ℕ). search_finished state (left q) (edit_of x.name q.from q.to put)) (sym (put_is b))
 
 pub plans_it : (d : Directory) (ks : List MarkedBuffer) (h : Session) (s : Search) (r : Replacing) (last : Bool) (p : Planned) → IsSought d ks h true p.window_marks → h.state.search ≡ Some (replaces s r) → PlannedAt ks p.window_marks s.anchor r last p → IsPlanned d ks h last p
 plans_it d ks h s r last p sought held planned =
@@ -157,7 +132,7 @@ plans_it d ks h s r last p sought held planned =
         size = ap (λ (q : Edited). q.size) planned.edit;
         added = ap (λ (put : List ℕ). length put) (put_is d ks h x s r last sought held p planned p.plan.replaces) ∙ sym (ap (λ (q : Edited). q.added) planned.edit);
         few = planned.few;
-        room = ap (λ (put : List ℕ). is_full size (marked_at x.name ks).buffer.serial (taken p.edit.from p.edit.to put)) (put_is d ks h x s r last sought held p planned p.plan.replaces) ∙ planned.room;
+        room = ap (λ (put : List ℕ). is_full size (marked_at x.name ks).buffer.serial p.edit.from p.edit.to put) (put_is d ks h x s r last sought held p planned p.plan.replaces) ∙ planned.room;
         next = subst (λ (o : Option Search). IfSome p.plan.next (λ m. m + length (old_of o) ≤ size_then p size)) (sym held) (fits d ks h x s r last sought held p planned p.edit planned.edit p.plan.next refl);
       };
       s = s;

@@ -1,21 +1,20 @@
 -- A match is skipped: that what is done is the act.
-use Rattle.std.proofs.Common.{◌≡◌, ℕ, ◌+◌, ◌<◌, ◌≤◌, ◌^◌, min, true, false, List, length, Option, Some, None, refl, sym, ap, subst, ◌∙◌, arith}
+use Rattle.std.proofs.Common.{◌≡◌, ℕ, ◌+◌, ◌<◌, ◌≤◌, ◌^◌, min, true, false, List, length, Option, Some, None, refl, sym, ap, subst, subst₂, ◌∙◌, arith}
 use Rattle.std.proofs.Math.Nat.{min-eq_left}
 use Rattle.std.specs.Prelude.{IfSome, Result, Ok}
 use Rattle.mgs_model.specs.Access.{Directory}
 use Rattle.mgs_model.specs.World.{State}
-use Rattle.mgs_model.specs.World as model
 use Rattle.mgs_model.specs.View.{view}
-use Rattle.mgs_model.specs.Outcome.{No_effect, Run}
-use Rattle.mgs_model.specs.Plans as plans
-use Rattle.mgs_model.specs.Plans.{Finish, met, motion, stays}
-use Rattle.mgs_model.specs.Acts.{moved_by, counted, finished, outcome}
+use Rattle.mgs_model.specs.Outcome.{Keep_position, No_effect, Run}
+use Rattle.mgs_model.specs.Seeking.{AroundSearch, SearchFinish, met, seek}
+use Rattle.mgs_model.specs.Acts.{counted, outcome, search_finished, sought_by}
 use Rattle.mgs_model.specs.declared.message.Message.{Message}
-use Rattle.mgs_model.specs.declared.search.SearchPlaces.{SearchPlaces}
-use Rattle.mgs_model.specs.declared.session.Command.TheVariants.{Move}
-use Rattle.mgs_model.specs.declared.session.Motion.TheVariants.{SkipMatch}
-use Rattle.mgs_buffers.specs.MarkedBuffer.{HasBuffer, MarkedBuffer, mark_at, marked_at}
+use Rattle.mgs_model.specs.declared.session.Command.TheVariants.{Seek}
+use Rattle.mgs_model.specs.declared.session.Replacement.TheVariants.{ReplaceMatch}
+use Rattle.mgs_model.specs.declared.session.Seeking.TheVariants.{SkipMatch}
+use Rattle.mgs_buffers.specs.MarkedBuffer.{MarkedBuffer, marked_at}
 use Rattle.mgs_windows.specs.declared.WindowMarks.{WindowMarks}
+use Rattle.mgs_search.specs.Planned.{IsSkipped}
 use Rattle.mgs_session.specs.Seeking.{searching, unsearched}
 use Rattle.mgs_session.specs.Sessions.{failed}
 use Rattle.mgs_session.specs.declared.Session.{Session}
@@ -24,18 +23,14 @@ use Rattle.mgs_session.specs.declared.search.Aim.TheVariants.{Find, Replace}
 use Rattle.mgs_session.specs.Replacing.{Replacing}
 use Rattle.mgs_session.specs.declared.search.Search.{Search}
 use Rattle.mgs_plan.specs.Actions.{mark_gone}
-use Rattle.mgs_plan.specs.Beginning.{seeking}
-use Rattle.mgs_seek.specs.Replacing.{finish_met, if_replaces, point_met, replacing_of, session_met}
+use Rattle.mgs_seek.specs.Replacing.{if_replaces, point_met, replacing_of, session_met}
 use Rattle.mgs_world.specs.Sound.{IsSessionSound}
-use Rattle.mgs_world.specs.Worlds.{aim_count, aim_old, buffers_of, state_of, session_of, size_named, world_of}
-use Rattle.mgs_world.proofs.Edits.{size_kept}
-use Rattle.mgs_world.proofs.Soundness.{mark_is_kept}
+use Rattle.mgs_world.specs.Worlds.{aim_count, aim_old, state_of, session_of, world_of}
 use Rattle.mgs_seek.specs.Acting.{Does, IsSought, SearchFails, as_is}
 use Rattle.mgs_world.specs.Only.{OnlyThis, nothing_held}
-use Rattle.mgs_seek.proofs.Lifts.{does_fail, in_this}
+use Rattle.mgs_seek.proofs.Comes.{come_sought, name_sought, sought_place}
+use Rattle.mgs_seek.proofs.Lifts.{does_fail}
 use Rattle.mgs_seek.proofs.Meets.{met_does, only_met, replaces}
-use Rattle.mgs_model.specs.declared.session.Alteration.TheVariants.{ReplaceMatch}
-use Rattle.mgs_seek.proofs.Comes.{come_here}
 use Rattle.mgs_seek.proofs.Seeks.{held_so}
 
 -- what a session that was taken the search out of is at the next match
@@ -56,29 +51,14 @@ none_counted n small = (let within : n + 0 ≤ 18446744073709551615 = omega (ari
 
 -- WHAT THE PLANNER ANSWERS, of the text and the pattern as they were read
 
+pub as_read : (P : List ℕ → List ℕ → ℕ → Type 0) (q old t text : List ℕ) (a b : ℕ) → q ≡ old → t ≡ text → a ≡ b → P q t a → P old text b
+as_read P q old t text a b eq et ea so = subst (P old text) ea (subst₂ (λ k u. P k u a) eq et so)
+
 pub within_read : (o : Option ℕ) (q old t text : List ℕ) → q ≡ old → t ≡ text → IfSome o (λ m. m + length q ≤ length t) → IfSome o (λ m. m + length old ≤ length text)
 within_read None q old t text eq et room = tt
 within_read (Some m) q old t text eq et room = omega (arith, room, ap (λ (k : List ℕ). length k) eq, ap (λ (k : List ℕ). length k) et)
 
-pub skip_read : (to : Option ℕ) (q old t text : List ℕ) (a b : ℕ) → q ≡ old → t ≡ text → a ≡ b → ((rest : plans.Around) → Path (Result Finish Message) (Ok (met (length q) stays to)) (motion SkipMatch t (record rest { anchor = a; sought_here = true; old = q })))
-    → (rest : plans.Around) → Path (Result Finish Message) (Ok (met (length old) stays to)) (motion SkipMatch text (record rest { anchor = b; sought_here = true; old = old }))
-skip_read to q old t text a b eq et ea plan rest =
-    sym (ap (λ (k : List ℕ). Ok (met (length k) stays to)) eq)
-    ∙ plan rest
-    ∙ ap (λ (k : List ℕ). motion SkipMatch t (record rest { anchor = a; sought_here = true; old = k })) eq
-    ∙ ap (λ (k : List ℕ). motion SkipMatch k (record rest { anchor = a; sought_here = true; old = old })) et
-    ∙ ap (λ (k : ℕ). motion SkipMatch text (record rest { anchor = k; sought_here = true; old = old })) ea
-
 -- WHAT IS DONE
-
--- what the planner answers is what is left
-quiet_met : (len : ℕ) (next left : Option ℕ) (n : ℕ) (state : State) → (finished state (finish_met len next left n) No_effect).effect ≡ No_effect
-quiet_met len None left n state = refl
-quiet_met len (Some m) left n state = refl
-
-met_finish : (len : ℕ) (next : Option ℕ) → met len stays next ≡ finish_met len next None 0
-met_finish len None = refl
-met_finish len (Some m) = refl
 
 -- the query-replace that a session holds
 pub held_replaces : (o : Option Search) (s : Search) → replacing_of o ≡ Some s → (r : Replacing) × (o ≡ Some (replaces s r)) × (s ≡ replaces s r)
@@ -92,11 +72,11 @@ held_replaces (Some t) s is = by t.aim refl is
         let whole : s ≡ replaces s r = ap (λ (b : Aim). let u : Search = record s { aim = b } in u) (sym (ap (λ (u : Search). u.aim) same) ∙ aim) in
         (r, is ∙ ap (λ (u : Search). Some u) whole, whole)
 
-pub skip_fails : (d : Directory) (ks : List MarkedBuffer) (h : Session) (message : Message) (typed : List ℕ) → SearchFails d ks h false message → Does d ks ks h (failed message h) as_is (Run (Move SkipMatch) None typed)
+pub skip_fails : (d : Directory) (ks : List MarkedBuffer) (h : Session) (message : Message) (typed : List ℕ) → SearchFails d ks h false message → Does d ks ks h (failed message h) as_is (Run (Seek SkipMatch) None typed)
 skip_fails d ks h message typed all =
-    does_fail d ks h (λ state. state) (session_of ks h).search message (Run (Move SkipMatch) None typed) as_is refl refl (λ xs next. all SkipMatch false xs next typed (λ text a. refl))
+    does_fail d ks h (λ state. state) (session_of ks h).search message (Run (Seek SkipMatch) None typed) as_is refl refl (λ xs next. all SkipMatch false xs next typed (λ text a. refl))
 
-module _ (d : Directory) (ks : List MarkedBuffer) (h : Session) (x : WindowMarks) (s : Search) (sound : IsSessionSound ks h) (sought : IsSought d ks h false x) (shown : replacing_of h.state.search ≡ Some s) (few : aim_count s.aim < 2 ^ 64) (to : Option ℕ) (small : IfSome to (λ m. m + length (aim_old s.aim) ≤ length (marked_at x.name ks).buffer.text)) (planned : (rest : plans.Around) → Path (Result Finish Message) (Ok (met (length (aim_old s.aim)) stays to)) (motion SkipMatch (marked_at x.name ks).buffer.text (record rest { anchor = min s.anchor (length (marked_at x.name ks).buffer.text); sought_here = true; old = aim_old s.aim }))) where
+module _ (d : Directory) (ks : List MarkedBuffer) (h : Session) (x : WindowMarks) (s : Search) (sound : IsSessionSound ks h) (sought : IsSought d ks h false x) (shown : replacing_of h.state.search ≡ Some s) (few : aim_count s.aim < 2 ^ 64) (to : Option ℕ) (small : IfSome to (λ m. m + length (aim_old s.aim) ≤ length (marked_at x.name ks).buffer.text)) (planned : IsSkipped (aim_old s.aim) (marked_at x.name ks).buffer.text (min s.anchor (length (marked_at x.name ks).buffer.text)) to) where
   abbrev text : List ℕ
   text = (marked_at x.name ks).buffer.text
 
@@ -109,17 +89,14 @@ module _ (d : Directory) (ks : List MarkedBuffer) (h : Session) (x : WindowMarks
   whole : s ≡ replaces s r
   whole = (held_replaces h.state.search s shown).2
 
-  name : s.name ≡ x.name
-  name = in_this x.name h.state.search (replaces s r) sought.here held_is
-
   abbrev held : Session
   held = searching (replaces s r) h
 
   abbrev state : State
   state = state_of held.state
 
-  abbrev f : Finish
-  f = finish_met (length r.pattern) to None 0
+  abbrev f : SearchFinish
+  f = met (length r.pattern) 0 Keep_position to
 
   few_so : r.count < 2 ^ 64
   few_so = subst (λ (u : Search). aim_count u.aim < 2 ^ 64) whole few
@@ -128,31 +105,14 @@ module _ (d : Directory) (ks : List MarkedBuffer) (h : Session) (x : WindowMarks
   within_so None e = tt
   within_so (Some m) e = omega (arith, e)
 
-  kept : HasBuffer x.name ks
-  kept = mark_is_kept x.name x.point ks sought.target.marks.point
+  abbrev there : AroundSearch
+  there = record (sought_place d ks h false x (replaces s r) sought held_is) { typed = r.put }
 
-  size : size_named s.name (buffers_of ks) ≡ length text
-  size = ap (λ (n : List ℕ). size_named n (buffers_of ks)) name ∙ size_kept x.name ks kept
+  planned_so : Path (Result SearchFinish Message) (Ok f) (seek SkipMatch text there)
+  planned_so = subst (λ (u : Search). Path (Result SearchFinish Message) (Ok (met (length (aim_old u.aim)) 0 Keep_position to)) (seek SkipMatch text (record there { old = aim_old u.aim }))) whole (planned there)
 
-  abbrev places : SearchPlaces
-  places = record { origin = min s.origin (length text); anchor = min s.anchor (length text); point = mark_at x.name ks x.point }
-
-  old_is : aim_old s.aim ≡ r.pattern
-  old_is = ap (λ (u : Search). aim_old u.aim) whole
-
-  planned_so : (rest : plans.Around) → rest.old ≡ r.pattern → Path (Result Finish Message) (Ok f) (motion SkipMatch text (seeking rest places r.put))
-  planned_so rest old =
-      ap (λ (f : Finish). Ok f) (sym (met_finish (length r.pattern) to))
-      ∙ ap (λ (q : List ℕ). Ok (met (length q) stays to)) (sym old_is)
-      ∙ planned (seeking rest places r.put)
-      ∙ ap (λ (q : List ℕ). motion SkipMatch text (record (seeking rest places r.put) { old = q })) (old_is ∙ sym old)
-
-  skipped_known : (xs : List Session) (next : Option ℕ) → outcome (view (world_of d ks xs next) (session_of ks held)) (Run (Move SkipMatch) None r.put) true ≡ finished state f No_effect
-  skipped_known xs next =
-      let w = world_of d ks xs next in
-      ap (λ (q : Option model.Search). let y : model.Session = record (session_of ks held) { search = q } in outcome (view w y) (Run (Move SkipMatch) None r.put) true)
-      (λ i. Some (record { name = name i; origin = min s.origin (size i); anchor = min s.anchor (size i) }))
-      ∙ come_here d ks xs next held state None r.put false SkipMatch ReplaceMatch x sought.target.sel kept sought.target.granted places refl (finished state f No_effect) (λ a name size serial old. ap (moved_by state) (sym (planned_so a old)))
+  skipped_known : (xs : List Session) (next : Option ℕ) → outcome (view (world_of d ks xs next) (session_of ks held)) (Run (Seek SkipMatch) None r.put) true ≡ search_finished state f No_effect
+  skipped_known xs next = come_sought d ks h false x (replaces s r) sought held_is SkipMatch ReplaceMatch None r.put xs next ∙ ap (sought_by state) (sym planned_so)
 
   -- as the code leaves it
   abbrev left : Search → Session
@@ -161,20 +121,20 @@ module _ (d : Directory) (ks : List MarkedBuffer) (h : Session) (x : WindowMarks
   abbrev placed : Search → List MarkedBuffer
   placed u = mark_gone x.name x.point (point_met (length (aim_old u.aim)) to None) ks
 
-  skipped : Does d ks (placed (replaces s r)) held (session_met to (replaces s r) h) as_is (Run (Move SkipMatch) None r.put)
+  skipped : Does d ks (placed (replaces s r)) held (session_met to (replaces s r) h) as_is (Run (Seek SkipMatch) None r.put)
   skipped = record {
-    left = finished state f No_effect;
-    quiet = quiet_met (length r.pattern) to None 0 state;
+    left = search_finished state f No_effect;
+    quiet = refl;
     known = skipped_known;
-    does = met_does ks h x s r sound sought.target.sel name (length r.pattern) None r.count 0 (none_counted r.count few_so) to (within_so to small);
+    does = met_does ks h x s r sound sought.target.sel (name_sought d ks h false x (replaces s r) sought held_is) (length r.pattern) None r.count 0 (none_counted r.count few_so) to (within_so to small);
   }
 
-  pub skip_does : (t : Search) (u : Replacing) → h.state.search ≡ Some t → t.aim ≡ Replace u → Does d ks (placed s) h (left s) as_is (Run (Move SkipMatch) None u.put)
+  pub skip_does : (t : Search) (u : Replacing) → h.state.search ≡ Some t → t.aim ≡ Replace u → Does d ks (placed s) h (left s) as_is (Run (Seek SkipMatch) None u.put)
   skip_does t u held_t aim =
-      subst (λ (v : Replacing). Does d ks (placed s) h (left s) as_is (Run (Move SkipMatch) None v.put)) (same_replacing s r t u (sym held_is ∙ held_t) aim)
-      (subst (λ (v : Search). Does d ks (placed v) h (left v) as_is (Run (Move SkipMatch) None r.put)) (sym whole)
-      (subst (λ (y : Session). Does d ks (placed (replaces s r)) h y as_is (Run (Move SkipMatch) None r.put)) (sym (met_unsearched to (replaces s r) h))
-      (subst (λ (y : Session). Does d ks (placed (replaces s r)) y (session_met to (replaces s r) h) as_is (Run (Move SkipMatch) None r.put)) (sym (held_so h (replaces s r) held_is)) skipped)))
+      subst (λ (v : Replacing). Does d ks (placed s) h (left s) as_is (Run (Seek SkipMatch) None v.put)) (same_replacing s r t u (sym held_is ∙ held_t) aim)
+      (subst (λ (v : Search). Does d ks (placed v) h (left v) as_is (Run (Seek SkipMatch) None r.put)) (sym whole)
+      (subst (λ (y : Session). Does d ks (placed (replaces s r)) h y as_is (Run (Seek SkipMatch) None r.put)) (sym (met_unsearched to (replaces s r) h))
+      (subst (λ (y : Session). Does d ks (placed (replaces s r)) y (session_met to (replaces s r) h) as_is (Run (Seek SkipMatch) None r.put)) (sym (held_so h (replaces s r) held_is)) skipped)))
 
   pub only_skipped : OnlyThis nothing_held ks (placed s) h (left s)
   only_skipped =

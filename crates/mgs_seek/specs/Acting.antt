@@ -5,18 +5,18 @@ use Rattle.mgs_model.specs.Acts.{fails, outcome}
 use Rattle.mgs_model.specs.Apply.{session_arranged}
 use Rattle.mgs_model.specs.Events.{state_set}
 use Rattle.mgs_model.specs.Outcome.{Act, No_effect, Outcome, Run}
-use Rattle.mgs_model.specs.Plans.{Around, Finish, motion}
+use Rattle.mgs_model.specs.Seeking.{AroundSearch, SearchFinish, seek}
 use Rattle.mgs_model.specs.View.{view}
 use Rattle.mgs_model.specs.World.{State}
 use Rattle.mgs_model.specs.World as model
 use Rattle.mgs_model.specs.declared.entry.Decision.TheVariants.{Granted}
 use Rattle.mgs_model.specs.declared.message.Message.{Message}
 use Rattle.mgs_model.specs.declared.message.Message.TheVariants.{NoBuffer}
-use Rattle.mgs_model.specs.declared.session.Alteration.{Alteration}
 use Rattle.mgs_model.specs.declared.session.Command.{Command}
-use Rattle.mgs_model.specs.declared.session.Command.TheVariants.{Alter, Move}
-use Rattle.mgs_model.specs.declared.session.Motion.{Motion}
-use Rattle.mgs_model.specs.declared.session.Motion.TheVariants.{StartReplace}
+use Rattle.mgs_model.specs.declared.session.Command.TheVariants.{Replace, Seek}
+use Rattle.mgs_model.specs.declared.session.Replacement.{Replacement}
+use Rattle.mgs_model.specs.declared.session.Seeking.{Seeking}
+use Rattle.mgs_model.specs.declared.session.Seeking.TheVariants.{StartReplace}
 use Rattle.mgs_buffers.specs.MarkedBuffer.{MarkedBuffer}
 use Rattle.mgs_windows.specs.declared.WindowMarks.{WindowMarks}
 use Rattle.mgs_session.specs.Seeking.{is_search_in}
@@ -40,24 +40,24 @@ pub record Does (d : Directory) (ks ls : List MarkedBuffer) (x y : Session) (see
 
 -- it begins to replace a pattern
 abbrev pub DoesStart : Directory → List MarkedBuffer → List MarkedBuffer → Session → Session → List ℕ → List ℕ → Type 0
-DoesStart d ks ls x y pattern put = Does d ks ls x y (state_set (replacing_state pattern put)) (Run (Move StartReplace) None put)
+DoesStart d ks ls x y pattern put = Does d ks ls x y (state_set (replacing_state pattern put)) (Run (Seek StartReplace) None put)
 
 -- the world is as it was
 abbrev pub IsSameWorld : Directory → List MarkedBuffer → List MarkedBuffer → List Session → List Session → Type 0
 IsSameWorld d ks ls xs ys = (next : Option ℕ) → world_of d ls ys next ≡ world_of d ks xs next
 
 -- WHERE IT ACTS: it reads the text, or writes it too
-abbrev pub mask_of : Bool → ℕ
-mask_of writes = cond writes 3 1
+abbrev pub text_mask : Bool → ℕ
+text_mask writes = cond writes 3 1
 
-abbrev pub command_of : Bool → Motion → Alteration → Command
-command_of false m k = Move m
-command_of true m k = Alter k
+abbrev pub command_of : Bool → Seeking → Replacement → Command
+command_of false c k = Seek c
+command_of true c k = Replace k
 
 pub record IsTarget (d : Directory) (ks : List MarkedBuffer) (h : Session) (writes : Bool) (x : WindowMarks) : Type 0 where
   pub sel : window_marks_of h ≡ Some x
   pub marks : AreMarks ks x
-  pub granted : rights_decision d ks h.user x.name (mask_of writes) ≡ Granted
+  pub granted : rights_decision d ks h.user x.name (text_mask writes) ≡ Granted
 
 -- its search is there
 pub record IsSought (d : Directory) (ks : List MarkedBuffer) (h : Session) (writes : Bool) (x : WindowMarks) : Type 0 where
@@ -66,11 +66,11 @@ pub record IsSought (d : Directory) (ks : List MarkedBuffer) (h : Session) (writ
 
 -- every act fails by which it reads, or writes
 abbrev pub Fails : Directory → List MarkedBuffer → Session → Bool → Message → Type 0
-Fails d ks h writes message = (m : Motion) (k : Alteration) (xs : List Session) (next : Option ℕ) (state : State) (search : Option model.Search) (n : Option ℕ) (typed : List ℕ)
-    → (let y : model.Session = record (session_of ks h) { search = search; state = state } in outcome (view (world_of d ks xs next) y) (Run (command_of writes m k) n typed) true ≡ fails state message)
+Fails d ks h writes message = (c : Seeking) (k : Replacement) (xs : List Session) (next : Option ℕ) (state : State) (search : Option model.Search) (n : Option ℕ) (typed : List ℕ)
+    → (let y : model.Session = record (session_of ks h) { search = search; state = state } in outcome (view (world_of d ks xs next) y) (Run (command_of writes c k) n typed) true ≡ fails state message)
 
 -- every act by which its search goes on, or replaces
 abbrev pub SearchFails : Directory → List MarkedBuffer → Session → Bool → Message → Type 0
-SearchFails d ks h writes message = (m : Motion) (last : Bool) (xs : List Session) (next : Option ℕ) (typed : List ℕ)
-    → ((text : List ℕ) (a : Around) → Path (Result Finish Message) (motion m text (record a { sought_here = false })) (Err NoBuffer))
-    → outcome (view (world_of d ks xs next) (session_of ks h)) (Run (command_of writes m (replacement last)) None typed) true ≡ fails (state_of h.state) message
+SearchFails d ks h writes message = (c : Seeking) (last : Bool) (xs : List Session) (next : Option ℕ) (typed : List ℕ)
+    → ((text : List ℕ) (a : AroundSearch) → Path (Result SearchFinish Message) (seek c text (record a { sought_here = false })) (Err NoBuffer))
+    → outcome (view (world_of d ks xs next) (session_of ks h)) (Run (command_of writes c (replacement last)) None typed) true ≡ fails (state_of h.state) message

@@ -1,26 +1,27 @@
 -- A replacement: as it is planned, and what is done.
-use Rattle.std.specs.Prelude.{◌≡◌, ℕ, ◌+◌, ◌-◌, ◌<◌, ◌≤◌, ◌^◌, min, Bool, true, false, cond, List, [], length, Option, Some, None, Result, Ok, IfSome, slice_get, slice_set}
+use Rattle.std.specs.Prelude.{◌≡◌, ℕ, ◌+◌, ◌-◌, ◌<◌, ◌≤◌, ◌^◌, min, Bool, true, false, cond, List, [], length, Option, Some, None, IfSome, slice_get, slice_set}
 use Rattle.std.specs.List.{position_or_len}
 use Rattle.mgs_model.specs.Access.{Directory}
-use Rattle.mgs_model.specs.Acts.{edit_of, fails, finished, is_full, outcome}
+use Rattle.mgs_model.specs.Acts.{edit_of, fails, is_full, outcome, search_finished}
 use Rattle.mgs_laws.specs.Apart.{touched_by}
 use Rattle.mgs_model.specs.Apply.{act, outcome_in}
 use Rattle.mgs_model.specs.Events.{with_state}
 use Rattle.mgs_laws.specs.Refusals.{may_be_refused}
-use Rattle.mgs_model.specs.Outcome.{Run}
+use Rattle.mgs_model.specs.Outcome.{Effect, Run}
 use Rattle.mgs_model.specs.Plans as plans
-use Rattle.mgs_model.specs.Plans.{alteration}
+use Rattle.mgs_model.specs.Seeking.{met}
 use Rattle.mgs_model.specs.View.{view}
 use Rattle.mgs_model.specs.declared.entry.Decision.TheVariants.{Granted}
 use Rattle.mgs_model.specs.declared.message.Message.{Message}
 use Rattle.mgs_model.specs.declared.message.Message.TheVariants.{BufferFull}
-use Rattle.mgs_model.specs.declared.session.Command.TheVariants.{Alter, Move}
-use Rattle.mgs_model.specs.declared.session.Motion.TheVariants.{SkipMatch, StartReplace}
+use Rattle.mgs_model.specs.declared.session.Command.TheVariants as commands
+use Rattle.mgs_model.specs.declared.session.Seeking.TheVariants.{SkipMatch, StartReplace}
 use Rattle.mgs_model.specs.declared.touched.Touched.{Touched}
 use Rattle.mgs_model.specs.declared.touched.Touched.TheVariants.{In, Nowhere}
 use Rattle.mgs_buffers.specs.MarkedBuffer.{IsMark, MarkedBuffer, marked_at}
-use Rattle.mgs_search.specs.Planned.{replacement_read}
-use Rattle.mgs_search.specs.declared.replacing.Replacement.{Replacement}
+use Rattle.mgs_edit.specs.Reading.{top_read}
+use Rattle.mgs_search.specs.Planned.{IsReplacement}
+use Rattle.mgs_search.specs.declared.replacing.MatchPlan.{MatchPlan}
 use Rattle.mgs_session.specs.Replacing.{Replacing}
 use Rattle.mgs_session.specs.Seeking.{search_edited, session_edited}
 use Rattle.mgs_session.specs.declared.Session.{Session}
@@ -35,7 +36,7 @@ use Rattle.mgs_plan.specs.Inserting.{rights_decision}
 use Rattle.mgs_plan.specs.Tells.{touched_in}
 use Rattle.mgs_world.specs.Worlds.{aim_input, aim_old, state_of, session_id, session_of, world_of}
 use Rattle.mgs_seek.specs.Acting.{Does, IsSought, as_is}
-use Rattle.mgs_seek.specs.Replacing.{finish_met, point_met, remaining_at, replacement, replacing_state, search_counted, session_met, taken}
+use Rattle.mgs_seek.specs.Replacing.{point_met, remaining_at, replacement, replacing_state, search_counted, session_met, taken}
 use Rattle.mgs_seek.specs.declared.replacing.Planned.{Planned}
 
 -- WHAT IS TAKEN OUT, AND PUT IN, where there is a match or none
@@ -65,18 +66,20 @@ put_of replaces o = put_by replaces (put_in o)
 abbrev pub change_planned : Planned → Option Search → plans.Change
 change_planned p o = taken p.edit.from p.edit.to (put_of p.plan.replaces o)
 
+abbrev pub edit_planned_in : Planned → Option Search → Effect
+edit_planned_in p o = edit_of p.window_marks.name p.edit.from p.edit.to (put_of p.plan.replaces o)
+
 -- what is done for a session is the act of its query-replace that skips a match
 abbrev pub SkipDone : Directory → List MarkedBuffer → List MarkedBuffer → Session → Session → Type 0
-SkipDone d ks ls x y = (s : Search) (r : Replacing) → x.state.search ≡ Some s → s.aim ≡ Replace r → Does d ks ls x y as_is (Run (Move SkipMatch) None r.put)
+SkipDone d ks ls x y = (s : Search) (r : Replacing) → x.state.search ≡ Some s → s.aim ≡ Replace r → Does d ks ls x y as_is (Run (commands.Seek SkipMatch) None r.put)
 
--- whether a change finds the buffer of a name full
-abbrev pub is_full_in : List MarkedBuffer → List ℕ → plans.Change → Bool
-is_full_in ks name c = is_full (length (marked_at name ks).buffer.text) (marked_at name ks).buffer.serial c
+-- whether an edit finds the buffer of a name full
+abbrev pub is_full_in : List MarkedBuffer → List ℕ → ℕ → ℕ → List ℕ → Bool
+is_full_in ks name a b put = is_full (length (marked_at name ks).buffer.text) (marked_at name ks).buffer.serial a b put
 
 -- PLANNED at an anchor, by what the model plans there
-abbrev pub IsPlan : List ℕ → ℕ → Replacing → Bool → Replacement → Type 0
-IsPlan text a r last plan = (rest : plans.Around)
-    → Path (Result plans.Change Message) (Ok (replacement_read a (length r.pattern) r.put plan)) (alteration (replacement last) text (record rest { anchor = a; sought_here = true; old = r.pattern; typed = r.put }))
+abbrev pub IsPlan : List ℕ → ℕ → Replacing → Bool → MatchPlan → Type 0
+IsPlan text a r last plan = IsReplacement (replacement last) r.pattern r.put text a plan
 
 abbrev pub anchor_at : WindowMarks → List MarkedBuffer → ℕ → ℕ
 anchor_at x ks anchor = min anchor (length (marked_at x.name ks).buffer.text)
@@ -84,16 +87,16 @@ anchor_at x ks anchor = min anchor (length (marked_at x.name ks).buffer.text)
 pub record PlannedAt (ks : List MarkedBuffer) (x : WindowMarks) (anchor : ℕ) (r : Replacing) (last : Bool) (p : Planned) : Type 0 where
   pub edit : p.edit ≡ edit_planned (length (marked_at x.name ks).buffer.text) (anchor_at x ks anchor) r p.plan.replaces
   pub plan : IsPlan (marked_at x.name ks).buffer.text (anchor_at x ks anchor) r last p.plan
-  pub room : is_full_in ks x.name (taken p.edit.from p.edit.to (put_by p.plan.replaces r.put)) ≡ false
+  pub room : is_full_in ks x.name p.edit.from p.edit.to (put_by p.plan.replaces r.put) ≡ false
   pub few : p.edit.added ≤ 120
   pub count : r.count < 2 ^ 64
 
 -- the buffer is full
 pub record FullAt (ks : List MarkedBuffer) (x : WindowMarks) (anchor : ℕ) (r : Replacing) (last : Bool) (message : Message) : Type 0 where
   pub told : message ≡ BufferFull
-  pub done : Replacement
+  pub done : MatchPlan
   pub plan : IsPlan (marked_at x.name ks).buffer.text (anchor_at x ks anchor) r last done
-  pub full : (let a = anchor_at x ks anchor in is_full_in ks x.name (taken a (to_by done.replaces a r.pattern) (put_by done.replaces r.put)) ≡ true)
+  pub full : (let a = anchor_at x ks anchor in is_full_in ks x.name a (to_by done.replaces a r.pattern) (put_by done.replaces r.put) ≡ true)
 
 -- how many characters the text has then
 abbrev pub size_then : Planned → ℕ → ℕ
@@ -112,7 +115,7 @@ pub record CanPerform (d : Directory) (ks : List MarkedBuffer) (h : Session) (p 
   pub size : p.edit.size ≡ length (marked_at p.window_marks.name ks).buffer.text
   pub added : length (put_of p.plan.replaces h.state.search) ≡ p.edit.added
   pub few : p.edit.added ≤ 120
-  pub room : is_full_in ks p.window_marks.name (change_planned p h.state.search) ≡ false
+  pub room : is_full_in ks p.window_marks.name p.edit.from p.edit.to (put_of p.plan.replaces h.state.search) ≡ false
   pub next : IfSome p.plan.next (λ m. m + length (old_of h.state.search) ≤ size_then p (length (marked_at p.window_marks.name ks).buffer.text))
 
 -- where the point is without a next match
@@ -135,7 +138,7 @@ pub record IsPlanned (d : Directory) (ks : List MarkedBuffer) (h : Session) (las
   pub r : Replacing
   pub held : (let t : Search = record s { aim = Replace r } in h.state.search ≡ Some t)
   pub count : r.count < 2 ^ 64
-  pub known : (xs : List Session) (next : Option ℕ) → outcome (view (world_of d ks xs next) (session_of ks h)) (Run (Alter (replacement last)) None r.put) true ≡ finished (state_of h.state) (finish_met (length r.pattern) p.plan.next (left_at p) (one_met p.plan.replaces)) (edit_of p.window_marks.name (change_planned p h.state.search))
+  pub known : (xs : List Session) (next : Option ℕ) → outcome (view (world_of d ks xs next) (session_of ks h)) (Run (commands.Replace (replacement last)) None r.put) true ≡ search_finished (state_of h.state) (met (length r.pattern) (one_met p.plan.replaces) (top_read (left_at p)) p.plan.next) (edit_planned_in p h.state.search)
   pub less : 0 < length r.pattern → (let size = length (marked_at p.window_marks.name ks).buffer.text in IsLess p size (min s.anchor size))
 
 -- the next match lies within the text
@@ -146,12 +149,12 @@ NextFits ks o p = IfSome p.plan.next (λ m. m + length (old_of o) ≤ length (ma
 abbrev pub IsStarted : Directory → List MarkedBuffer → List MarkedBuffer → List Session → List Session → ℕ → List ℕ → List ℕ → Type 0
 IsStarted d ks ls xs ys at pattern put =
     (id : ℕ) (next : Option ℕ) → at ≡ position_or_len (session_id id) xs
-    → world_of d ls ys next ≡ act (with_state id (replacing_state pattern put) (world_of d ks xs next)) id (Run (Move StartReplace) None put) true
+    → world_of d ls ys next ≡ act (with_state id (replacing_state pattern put) (world_of d ks xs next)) id (Run (commands.Seek StartReplace) None put) true
 
 abbrev pub IsSkipped : Directory → List MarkedBuffer → List MarkedBuffer → List Session → List Session → ℕ → Type 0
 IsSkipped d ks ls xs ys at =
     (id : ℕ) (next : Option ℕ) (s : Search) (r : Replacing) → at ≡ position_or_len (session_id id) xs → search_held at xs ≡ Some s → s.aim ≡ Replace r
-    → world_of d ls ys next ≡ act (world_of d ks xs next) id (Run (Move SkipMatch) None r.put) true
+    → world_of d ls ys next ≡ act (world_of d ks xs next) id (Run (commands.Seek SkipMatch) None r.put) true
 
 -- what is typed is what its query-replace puts
 abbrev pub IsTyped : Option Search → List ℕ → Type 0
@@ -159,7 +162,7 @@ IsTyped o typed = (s : Search) → o ≡ Some s → (r : Replacing) × (s.aim �
 
 abbrev pub ReplacementFails : Directory → List MarkedBuffer → Session → Bool → Message → Type 0
 ReplacementFails d ks h last message = (xs : List Session) (next : Option ℕ) (typed : List ℕ) → IsTyped h.state.search typed
-    → outcome (view (world_of d ks xs next) (session_of ks h)) (Run (Alter (replacement last)) None typed) true ≡ fails (state_of h.state) message
+    → outcome (view (world_of d ks xs next) (session_of ks h)) (Run (commands.Replace (replacement last)) None typed) true ≡ fails (state_of h.state) message
 
 -- WHAT IS DONE: in its session, which was taken this search
 abbrev pub counted_if : Bool → Search → Search
@@ -190,7 +193,7 @@ pub record IsDone (at : ℕ) (p : Planned) (h : Session) (ks ls : List MarkedBuf
   pub left : Session
   pub done : (s : Search) → h.state.search ≡ Some s → IsLeft p (search_after p.window_marks.name (edit_of_plan p h) s) (edited_by p.window_marks.name (change_planned p h.state.search) ks) ls (session_after p.window_marks.name (edit_of_plan p h) h) left
   pub sessions : ys ≡ slice_set (followed p.window_marks.name (edit_of_plan p h) xs) at left
-  pub tells : touched ≡ touched_by (edit_of p.window_marks.name (change_planned p h.state.search))
+  pub tells : touched ≡ touched_by (edit_planned_in p h.state.search)
 
 -- and the same of the session at an index
 abbrev pub IsDoneAt : ℕ → Planned → List MarkedBuffer → List MarkedBuffer → List Session → List Session → Touched → Type 0
@@ -200,23 +203,23 @@ IsDoneAt at p ks ls xs ys touched = (h : Session) → slice_get xs at ≡ Some h
 abbrev pub IsReplaced : Directory → List MarkedBuffer → List MarkedBuffer → List Session → List Session → ℕ → Bool → Type 0
 IsReplaced d ks ls xs ys at last =
     (id : ℕ) (next : Option ℕ) (s : Search) (r : Replacing) → at ≡ position_or_len (session_id id) xs → search_held at xs ≡ Some s → s.aim ≡ Replace r
-    → world_of d ls ys next ≡ act (world_of d ks xs next) id (Run (Alter (replacement last)) None r.put) true
+    → world_of d ls ys next ≡ act (world_of d ks xs next) id (Run (commands.Replace (replacement last)) None r.put) true
 
 abbrev pub IsUnsought : Directory → List MarkedBuffer → List MarkedBuffer → List Session → List Session → ℕ → Bool → Type 0
 IsUnsought d ks ls xs ys at last =
     (id : ℕ) (next : Option ℕ) (typed : List ℕ) → at ≡ position_or_len (session_id id) xs → search_held at xs ≡ None
-    → world_of d ls ys next ≡ act (world_of d ks xs next) id (Run (Alter (replacement last)) None typed) true
+    → world_of d ls ys next ≡ act (world_of d ks xs next) id (Run (commands.Replace (replacement last)) None typed) true
 
 -- what it touches, and that it may be refused
 abbrev pub IsToldBy : Directory → List MarkedBuffer → List Session → ℕ → Bool → Touched → Type 0
 IsToldBy d ks xs at last touched =
     (id : ℕ) (next : Option ℕ) (s : Search) (r : Replacing) → at ≡ position_or_len (session_id id) xs → search_held at xs ≡ Some s → s.aim ≡ Replace r
-    → touched ≡ touched_in (outcome_in (world_of d ks xs next) id (Run (Alter (replacement last)) None r.put) true)
+    → touched ≡ touched_in (outcome_in (world_of d ks xs next) id (Run (commands.Replace (replacement last)) None r.put) true)
 
 abbrev pub IsRefusable : Directory → List MarkedBuffer → List Session → ℕ → Bool → Type 0
 IsRefusable d ks xs at last =
     (id : ℕ) (next : Option ℕ) (s : Search) (r : Replacing) → at ≡ position_or_len (session_id id) xs → search_held at xs ≡ Some s → s.aim ≡ Replace r
-    → may_be_refused (outcome_in (world_of d ks xs next) id (Run (Alter (replacement last)) None r.put) true) ≡ true
+    → may_be_refused (outcome_in (world_of d ks xs next) id (Run (commands.Replace (replacement last)) None r.put) true) ≡ true
 
 -- what is left of the text behind it becomes less
 abbrev pub IsFurther : List MarkedBuffer → List MarkedBuffer → List Session → List Session → ℕ → Type 0

@@ -1,17 +1,17 @@
 -- A query-replace: the record with which it begins, one that is taken out of its session, and what a match leaves.
 use Rattle.std.specs.Prelude.{ℕ, ◌+◌, ◌-◌, min, Bool, true, false, List, Option, Some, None}
-use Rattle.mgs_model.specs.Text.{is_edit}
 use Rattle.mgs_model.specs.Acts.{counted, without_all}
-use Rattle.mgs_model.specs.Outcome.{Anchor_at, At, Keep, Keep_search, PointPlan, SearchPlan}
+use Rattle.mgs_model.specs.Outcome.{At, PointPlan}
 use Rattle.mgs_model.specs.Plans as plans
 use Rattle.mgs_model.specs.Plans.{stays}
 use Rattle.mgs_model.specs.World.{State}
 use Rattle.mgs_model.specs.declared.message.Message.TheVariants.{Replaced}
-use Rattle.mgs_model.specs.declared.session.Alteration.{Alteration}
-use Rattle.mgs_model.specs.declared.session.Alteration.TheVariants.{ReplaceMatch, ReplaceLast}
 use Rattle.mgs_model.specs.declared.session.Kind.TheVariants.{Other}
 use Rattle.mgs_model.specs.declared.session.Mode.TheVariants.{Replacing}
+use Rattle.mgs_model.specs.declared.session.Replacement.{Replacement}
+use Rattle.mgs_model.specs.declared.session.Replacement.TheVariants.{ReplaceMatch, ReplaceLast}
 use Rattle.mgs_buffers.specs.MarkedBuffer.{MarkedBuffer}
+use Rattle.mgs_edit.specs.Reading.{top_read}
 use Rattle.mgs_session.specs.Seeking.{searching}
 use Rattle.mgs_session.specs.Sessions.{acted, playing_as, resting, told}
 use Rattle.mgs_session.specs.declared.Session.{Session}
@@ -26,7 +26,7 @@ abbrev pub replacing_state : List ℕ → List ℕ → State → State
 replacing_state old put state = record state { mode = Replacing; input = put; old = old; count = 0 }
 
 -- one more is replaced, and whether the next match is looked for
-abbrev pub replacement : Bool → Alteration
+abbrev pub replacement : Bool → Replacement
 replacement true = ReplaceLast
 replacement false = ReplaceMatch
 
@@ -56,12 +56,9 @@ aim_counted (Replace r) = Replace (record r { count = counted r.count 1 })
 abbrev pub search_counted : Search → Search
 search_counted s = record s { aim = aim_counted s.aim }
 
--- what is taken out, and put in
+-- what is taken out and put in, as the buffers and the positions of searches go by it
 abbrev pub taken : ℕ → ℕ → List ℕ → plans.Change
 taken a b put = record { a = a; b = b; put = put; finish = stays }
-
-abbrev pub is_change : plans.Change → Bool
-is_change c = is_edit c.a c.b c.put
 
 -- A MATCH, or none
 
@@ -76,20 +73,4 @@ session_met (Some m) s h = acted Other (searching (record s { anchor = m }) (res
 -- the point is behind the next match, or where it is left without one
 abbrev pub point_met : ℕ → Option ℕ → Option ℕ → PointPlan
 point_met len (Some m) left = At (m + len)
-point_met len None (Some p) = At p
-point_met len None None = Keep
-
--- in the model's words
-abbrev pub search_met : Option ℕ → SearchPlan
-search_met None = Keep_search
-search_met (Some m) = Anchor_at m
-
-abbrev pub mode_met : Option ℕ → plans.ModePlan
-mode_met None = plans.Over
-mode_met (Some m) = plans.Goes_on
-
-abbrev pub leaves : PointPlan → SearchPlan → plans.ModePlan → ℕ → plans.Finish
-leaves to sought mode n = record stays { point = to; sought = sought; mode = mode; replaced = n }
-
-abbrev pub finish_met : ℕ → Option ℕ → Option ℕ → ℕ → plans.Finish
-finish_met len next left n = leaves (point_met len next left) (search_met next) (mode_met next) n
+point_met len None left = top_read left

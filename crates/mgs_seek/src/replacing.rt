@@ -12,8 +12,8 @@ ghost use Rattle.mgs_session.specs.declared.search.Search.{Search};
 ghost use Rattle.mgs_plan.specs.Actions.{edited_by, mark_gone};
 ghost use Rattle.mgs_plan.specs.Beginning.{search_held};
 ghost use Rattle.mgs_plan.specs.Following.{CanFollow, edit_told};
-ghost use Rattle.mgs_seek.specs.Replacing.{if_replaces, is_change, point_met, replacing_of, search_counted, session_met, session_over, taken};
-ghost use Rattle.mgs_seek.specs.Planning.{CanPerform, FullAt, IsDoneAt, IsFurther, IsLeft, IsRefusable, IsReplaced, IsSkipped, IsStarted, IsToldBy, IsUnsought, MayWrite, NextFits, IsPlan, IsPlanned, PlannedAt, ReplacementFails, SkipDone, change_planned, counted_if, edit_planned, is_full_in, put_of, touched_edit};
+ghost use Rattle.mgs_seek.specs.Replacing.{if_replaces, point_met, replacing_of, search_counted, session_met, session_over, taken};
+ghost use Rattle.mgs_seek.specs.Planning.{CanPerform, FullAt, IsDoneAt, IsFurther, IsLeft, IsRefusable, IsReplaced, IsSkipped, IsStarted, IsToldBy, IsUnsought, MayWrite, NextFits, IsPlan, IsPlanned, PlannedAt, ReplacementFails, SkipDone, counted_if, edit_planned, is_full_in, put_of, touched_edit};
 ghost use Rattle.mgs_seek.specs.Acting.{DoesStart, IsSameWorld};
 ghost use Rattle.mgs_world.specs.Only.{OnlyThis, nothing_held};
 ghost use Rattle.mgs_world.specs.Sound.{IsSessionSound, IsSound};
@@ -25,7 +25,7 @@ use mgs_marks::Marked;
 use mgs_model::{Kind, Message, Name, Short, TEXT_LIMIT, Touched};
 use mgs_plan::follow;
 use mgs_policy::Directory;
-use mgs_search::{Replacement, begin_replacing, replace_last, replace_match, skip_match};
+use mgs_search::{MatchPlan, begin_replacing, replace_last, replace_match, skip_match};
 use mgs_session::{
     Aim, Edited, Replacing, Search, SearchString, Session, fail, rest, set_echo, set_kind,
     take_search,
@@ -156,11 +156,11 @@ fn meet<T: Marked + Drop>(
 pub struct Planned {
     pub window_marks: WindowMarks,
     pub edit: Edited,
-    pub plan: Replacement,
+    pub plan: MatchPlan,
 }
 
 /// Plans a replacement at an anchor; the last one looks for no next match.
-fn plan<T: Text>(text: &T, anchor: usize, replacing: &Replacing, last: bool) -> Replacement
+fn plan<T: Text>(text: &T, anchor: usize, replacing: &Replacing, last: bool) -> MatchPlan
     requires anchor { anchor ≤ length (T.text text.now) }
     requires short { length (T.text text.now) < 2 ^ 32 }
     ensures { IsPlan (T.text text.now) anchor replacing.now last result }
@@ -198,7 +198,7 @@ fn is_full<T: Marked + Drop>(buffers: &Buffers<T>, name: &Name, edit: &Edited) -
     requires order { edit.now.from ≤ edit.now.to }
     requires within { edit.now.to ≤ length (marked_at name.now buffers.now).buffer.text }
     requires added { edit.now.added ≤ 120 }
-    ensures { (put : List ℕ) → length put ≡ edit.now.added → result ≡ is_full_in buffers.now name.now (taken edit.now.from edit.now.to put) }
+    ensures { (put : List ℕ) → length put ≡ edit.now.added → result ≡ is_full_in buffers.now name.now edit.now.from edit.now.to put }
 {
     let size = buffers.text_len(name);
     let serial = buffers.serial(name);
@@ -275,7 +275,7 @@ fn edit<T: Marked + Drop>(
     requires granted { MayWrite directory.now buffers.old user.now name.now }
     requires order { from ≤ to }
     requires within { to ≤ length (marked_at name.now buffers.old).buffer.text }
-    requires room { is_full_in buffers.old name.now (taken from to put.now) ≡ false }
+    requires room { is_full_in buffers.old name.now from to put.now ≡ false }
     ensures ok { OnOk result (buffers.new ≡ edited_by name.now (taken from to put.now) buffers.old) }
     ensures err { OnErr result (buffers.new ≡ buffers.old) }
     ensures may { OnErr result (is_edit from to put.now ≡ true) }
@@ -376,7 +376,7 @@ fn perform<T: Marked + Drop>(
     requires can { (h : Session) → slice_get sessions.old at ≡ Some h → CanPerform directory.now buffers.old h planned.now }
     ensures done { IfOk result (IsDoneAt at planned.now buffers.old buffers.new sessions.old sessions.new) }
     ensures err { OnErr result ((buffers.new ≡ buffers.old) × (sessions.new ≡ sessions.old)) }
-    ensures may { OnErr result ((h : Session) → slice_get sessions.old at ≡ Some h → is_change (change_planned planned.now h.state.search) ≡ true) }
+    ensures may { OnErr result ((h : Session) → slice_get sessions.old at ≡ Some h → is_edit planned.now.edit.from planned.now.edit.to (put_of planned.now.plan.replaces h.state.search) ≡ true) }
 {
     let name = &planned.window_marks.name;
     // For the limit of a text.

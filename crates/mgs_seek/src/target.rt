@@ -3,7 +3,7 @@ ghost use Rattle.std.specs.Prelude.{◌≡◌, IfErr, IfOk};
 ghost use Rattle.mgs_model.specs.declared.session.Kind.TheVariants.{Other};
 ghost use Rattle.mgs_session.specs.Seeking.{is_search_in, searching};
 ghost use Rattle.mgs_session.specs.Sessions.{acted, resting};
-ghost use Rattle.mgs_seek.specs.Acting.{Fails, IsSought, IsTarget, SearchFails, mask_of};
+ghost use Rattle.mgs_seek.specs.Acting.{Fails, IsSought, IsTarget, SearchFails, text_mask};
 ghost use Rattle.mgs_world.specs.Sound.{IsSessionSound};
 
 use mgs_buffers::Buffers;
@@ -16,7 +16,7 @@ use mgs_windows::WindowMarks;
 
 /// The rights that are wanted: to read the text, or to write it too.
 pub(crate) fn mask(writes: bool) -> Mask
-    ensures { result ≡ mask_of writes }
+    ensures { result ≡ text_mask writes }
 {
     if writes {
         Mask::from_bits(Right::ReadData.bit() + Right::WriteData.bit())

@@ -1,7 +1,4 @@
 // Commands on the case of letters, as plans over small texts and as what they put in.
-ghost use Rattle.std.specs.Prelude.{◌≡◌, true};
-ghost use Rattle.mgs_edit.specs.Reading.{is_alteration_planned};
-
 use crate::plans::{altered, at};
 use mgs_edit::{Around, Case, Goes, Put, alteration, put_chars};
 use mgs_model::{Alteration, Message, Short};
@@ -17,9 +14,7 @@ fn cased(
     place: usize,
     argument: Option<usize>,
     command: Alteration,
-) -> Result<(Put, Goes), Message>
-    requires { is_alteration_planned command ≡ true }
-{
+) -> Result<(Put, Goes), Message> {
     match altered(rt, text, place, argument, command) {
         Ok((_, _, put, point)) => Ok((put, point)),
         Err(message) => Err(message),

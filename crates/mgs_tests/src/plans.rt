@@ -1,6 +1,5 @@
 // Plans of commands over small texts.
-ghost use Rattle.std.specs.Prelude.{◌≡◌, None, true};
-ghost use Rattle.mgs_edit.specs.Reading.{is_alteration_planned};
+ghost use Rattle.std.specs.Prelude.{◌≡◌, None};
 
 use mgs_edit::{
     Around, Goes, Joins, Piece, Put, alteration, insertion, motion, reading_insertion, scroll,
@@ -45,9 +44,7 @@ pub(crate) fn altered(
     place: usize,
     argument: Option<usize>,
     command: Alteration,
-) -> Result<(usize, usize, Put, Goes), Message>
-    requires { is_alteration_planned command ≡ true }
-{
+) -> Result<(usize, usize, Put, Goes), Message> {
     assert!(rt; place <= text.len());
     match alteration(text, &at(place, argument), command) {
         Ok(change) => Ok((change.from, change.to, change.put, change.finish.point)),
@@ -92,9 +89,7 @@ fn lines_are_killed(rt: HostRuntime) -> Result<(), Fail> {
 }
 
 // The piece that goes into the kill buffer from place 1 of a text, after a command of that kind.
-fn piece(rt: &impl Abort, text: &PlainText, kind: Kind, command: Alteration) -> Option<Piece>
-    requires { is_alteration_planned command ≡ true }
-{
+fn piece(rt: &impl Abort, text: &PlainText, kind: Kind, command: Alteration) -> Option<Piece> {
     assert!(rt; 1 <= text.len());
     match alteration(text, &after(kind, 1, None), command) {
         Ok(change) => change.finish.kill,

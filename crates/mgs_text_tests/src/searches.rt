@@ -4,7 +4,7 @@ ghost use Rattle.std.specs.Prelude.{◌≤◌, length};
 use mgs_gap::GapText;
 use mgs_model::{Direction, Message, SearchPlaces, SearchStep, Short};
 use mgs_search::{
-    IncrementalSearch, Replacement, begin_replacing, find_backward, find_forward, find_past,
+    IncrementalSearch, MatchPlan, begin_replacing, find_backward, find_forward, find_past,
     matches_at, replace_last, replace_match, search_for, skip_match,
 };
 use mgs_text::{PlainText, Text};
@@ -215,17 +215,12 @@ fn begins(text: &impl Text) -> bool {
 }
 
 // Whether a match at an anchor is replaced or not, and passed over.
-fn replaces(
-    text: &impl Text,
-    anchor: usize,
-    replacement: Replacement,
-    skipped: Option<usize>,
-) -> bool {
+fn replaces(text: &impl Text, anchor: usize, plan: MatchPlan, skipped: Option<usize>) -> bool {
     let ab = ['A', 'B'];
     text.len() == 8
         && anchor <= 8
-        && replace_match(text, anchor, &ab, &['x', 'y', 'z']) == replacement
-        && replace_last(text, anchor, &ab).replaces == replacement.replaces
+        && replace_match(text, anchor, &ab, &['x', 'y', 'z']) == plan
+        && replace_last(text, anchor, &ab).replaces == plan.replaces
         && skip_match(text, anchor, &ab) == skipped
 }
 
@@ -234,14 +229,11 @@ fn replaces_matches(rt: HostRuntime) -> Result<(), Fail> {
     let text = PlainText::of(rt.alloc(), &THRICE)?;
     assert!(rt; begins(&text));
     for &(anchor, here, next, skipped) in &REPLACED {
-        let replacement = Replacement {
+        let plan = MatchPlan {
             replaces: here,
             next,
         };
-        assert!(rt;
-            replaces(&text, anchor, replacement, skipped),
-            "at {anchor}"
-        );
+        assert!(rt; replaces(&text, anchor, plan, skipped), "at {anchor}");
     }
     Ok(())
 }

@@ -6,7 +6,7 @@ use Rattle.std.specs.Option.{option_and_then, option_map}
 use Rattle.mgs_model.specs.World as model
 use Rattle.mgs_model.specs.World.{Buffer, Buffer_of}
 use Rattle.mgs_model.specs.Names.{same_name}
-use Rattle.mgs_model.specs.Outcome.{Keep, Mark_at}
+use Rattle.mgs_model.specs.Outcome.{Keep_position, Mark_at}
 use Rattle.mgs_model.specs.Apply.{change_at, change_first, window_adjusted}
 use Rattle.mgs_marks.specs.Marks.{or_zero}
 use Rattle.mgs_buffers.specs.MarkedBuffer.{MarkedBuffer, HasBuffer, IsMark, mark_at, marked_named, marked_placed}
@@ -162,7 +162,7 @@ mark_once id x =
     let s : same_name x.name x.name ≡ true = is_same x.name x.name refl in
     rw (s, one_use id id refl) refl
 
-shown_marked : (p id : ℕ) (ks : List MarkedBuffer) (height : ℕ) (x : WindowMarks) → IsMark x.name id ks → window_marks_uses x.name id (Some (mark_set id x)) ≤ 1 → window_shown (change_first (marked_named x.name) (marked_placed id p) ks) height (Some (mark_set id x)) NoRows ≡ window_adjusted None Keep (Mark_at p) Keep None (window_shown ks height (Some (mark_set id x)) NoRows)
+shown_marked : (p id : ℕ) (ks : List MarkedBuffer) (height : ℕ) (x : WindowMarks) → IsMark x.name id ks → window_marks_uses x.name id (Some (mark_set id x)) ≤ 1 → window_shown (change_first (marked_named x.name) (marked_placed id p) ks) height (Some (mark_set id x)) NoRows ≡ window_adjusted None Keep_position (Mark_at p) Keep_position None (window_shown ks height (Some (mark_set id x)) NoRows)
 shown_marked p id ks height x mark once =
     let u = mark_once id x in
     let a : one_if (nat_eq x.point id) ≡ 0 = omega (arith, u, once) in
@@ -177,7 +177,7 @@ session_mark_placed : (p id : ℕ) (ks : List MarkedBuffer) (y : Session) (x : W
 session_mark_placed p id ks y x sel mark once =
     let n = x.name in
     let ls = change_first (marked_named n) (marked_placed id p) ks in
-    let f = window_adjusted None Keep (Mark_at p) Keep None in
+    let f = window_adjusted None Keep_position (Mark_at p) Keep_position None in
     let got = selected_window (slice_get y.windows.windows y.windows.selected) (mark_set id x) sel in
     let w = got.0 in
     let used_is : window_uses n id w ≡ window_marks_uses n id (Some (mark_set id x)) = ap (window_marks_uses n id) got.2 in
@@ -191,11 +191,11 @@ session_mark_placed p id ks y x sel mark once =
     (ap (λ (bs : List Buffer). search_of bs y.state.search) (buffers_placed n id p ks))
 
 -- what the mark was does not matter
-windows_marked : (p id k : ℕ) (ks : List MarkedBuffer) (ws : List Window) → change_at k (window_adjusted None Keep (Mark_at p) Keep None) (map (window_of ks) (change_at k (marked id) ws)) ≡ change_at k (window_adjusted None Keep (Mark_at p) Keep None) (map (window_of ks) ws)
+windows_marked : (p id k : ℕ) (ks : List MarkedBuffer) (ws : List Window) → change_at k (window_adjusted None Keep_position (Mark_at p) Keep_position None) (map (window_of ks) (change_at k (marked id) ws)) ≡ change_at k (window_adjusted None Keep_position (Mark_at p) Keep_position None) (map (window_of ks) ws)
 windows_marked p id k ks [] = refl
 windows_marked p id zero ks (w ∷ ws) = ap (λ v. v ∷ map (window_of ks) ws) (one w.height w.shows w.rows)
   where
-    one : (height : ℕ) (o : Option WindowMarks) (rows : RowPane) → window_adjusted None Keep (Mark_at p) Keep None (window_shown ks height (option_map (mark_set id) o) rows) ≡ window_adjusted None Keep (Mark_at p) Keep None (window_shown ks height o rows)
+    one : (height : ℕ) (o : Option WindowMarks) (rows : RowPane) → window_adjusted None Keep_position (Mark_at p) Keep_position None (window_shown ks height (option_map (mark_set id) o) rows) ≡ window_adjusted None Keep_position (Mark_at p) Keep_position None (window_shown ks height o rows)
     one height None rows = refl
     one height (Some x) rows = refl
 windows_marked p id (suc k) ks (w ∷ ws) = ap (λ vs. window_of ks w ∷ vs) (windows_marked p id k ks ws)

@@ -7,7 +7,7 @@ use Rattle.mgs_model.specs.Names.{same_name}
 use Rattle.mgs_model.specs.Text.{shift}
 use Rattle.mgs_model.specs.World.{World, Buffer, Shows, Buffer_of, is_named, has_id}
 use Rattle.mgs_model.specs.World as model
-use Rattle.mgs_model.specs.Outcome.{At, Keep, Keep_mark}
+use Rattle.mgs_model.specs.Outcome.{At, Keep_position, Keep_mark}
 use Rattle.mgs_model.specs.Apply.{change_first, change_at, buffer_edited, window_moved, place_moved, window_adjusted}
 use Rattle.mgs_model.proofs.Firsts.{map-change_first}
 use Rattle.mgs_model.proofs.Moved.{edited_name}
@@ -178,7 +178,7 @@ window_marks_once x =
     let s : same_name x.name x.name ≡ true = is_same x.name x.name refl in
     rw (s, one_use x.point x.point refl) (omega arith)
 
-window_marks_placed : (p : ℕ) (ks : List MarkedBuffer) (height : ℕ) (x : WindowMarks) → IsSome (mark_in (marked_at x.name ks).marks x.point) → window_marks_uses x.name x.point (Some x) ≤ 1 → window_shown (change_first (marked_named x.name) (marked_placed x.point p) ks) height (Some x) NoRows ≡ window_adjusted None (At p) Keep_mark Keep None (window_shown ks height (Some x) NoRows)
+window_marks_placed : (p : ℕ) (ks : List MarkedBuffer) (height : ℕ) (x : WindowMarks) → IsSome (mark_in (marked_at x.name ks).marks x.point) → window_marks_uses x.name x.point (Some x) ≤ 1 → window_shown (change_first (marked_named x.name) (marked_placed x.point p) ks) height (Some x) NoRows ≡ window_adjusted None (At p) Keep_mark Keep_position None (window_shown ks height (Some x) NoRows)
 window_marks_placed p ks height x mark once =
     let u = window_marks_once x in
     let m : option_uses x.point x.mark ≡ 0 = omega (arith, u, once) in
@@ -227,14 +227,14 @@ sessions_placed id p f ks xs sid h x found sel u places once =
 
 -- the point
 abbrev pub point_to : ℕ → model.Window → model.Window
-point_to p x = window_adjusted None (At p) Keep_mark Keep None x
+point_to p x = window_adjusted None (At p) Keep_mark Keep_position None x
 
 pub point_places : (p : ℕ) (ks : List MarkedBuffer) (x : WindowMarks) → IsSome (mark_in (marked_at x.name ks).marks x.point) → PlacesBy x.point p (point_to p) ks x
 point_places p ks x mark once height = window_marks_placed p ks height x mark once
 
 -- the top
 abbrev pub top_to : ℕ → model.Window → model.Window
-top_to p x = window_adjusted None Keep Keep_mark (At p) None x
+top_to p x = window_adjusted None Keep_position Keep_mark (At p) None x
 
 pub top_uses : (x : WindowMarks) → window_marks_uses x.name x.top (Some x) ≡ 1 + (one_if (nat_eq x.point x.top) + option_uses x.top x.mark)
 top_uses x =

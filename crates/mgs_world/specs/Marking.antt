@@ -1,7 +1,7 @@
 -- The mark of the window that is selected.
 use Rattle.std.specs.Prelude.{◌≡◌, ℕ, List, Option, Some, None}
 use Rattle.mgs_model.specs.World as model
-use Rattle.mgs_model.specs.Outcome.{Keep, Mark_at}
+use Rattle.mgs_model.specs.Outcome.{Keep_position, Mark_at}
 use Rattle.mgs_model.specs.Apply.{change_at, window_adjusted}
 use Rattle.mgs_buffers.specs.MarkedBuffer.{MarkedBuffer, MarkAdded, MarkDropped}
 use Rattle.mgs_windows.specs.Panes.{marked}
@@ -23,4 +23,4 @@ session_marked id x = record x { windows = record x.windows { windows = change_a
 
 -- the mark of the selected window is at p
 abbrev pub mark_at_place : ℕ → model.Session → model.Session
-mark_at_place p x = record x { windows = change_at x.selected (window_adjusted None Keep (Mark_at p) Keep None) x.windows }
+mark_at_place p x = record x { windows = change_at x.selected (window_adjusted None Keep_position (Mark_at p) Keep_position None) x.windows }

@@ -4,7 +4,7 @@ use Rattle.std.specs.Option.{option_map}
 use Rattle.mgs_model.specs.Access.{Directory}
 use Rattle.mgs_model.specs.World.{Buffer, may}
 use Rattle.mgs_model.specs.declared.right.Right.TheVariants.{ReadAttributes}
-use Rattle.mgs_buffers.specs.MarkedBuffer.{MarkedBuffer, mark_at}
+use Rattle.mgs_buffers.specs.MarkedBuffer.{MarkAdded, MarkedBuffer, mark_at}
 use Rattle.mgs_windows.specs.declared.WindowMarks.{WindowMarks}
 use Rattle.mgs_world.specs.Worlds.{buffers_of, size_named}
 use Rattle.mgs_world.specs.Sound.{in_use, window_marks_uses}
@@ -26,6 +26,10 @@ pub record WindowMarksAdded (name : List ℕ) (p : ℕ) (m : Option ℕ) (t : �
   pub point : mark_at name new x.point ≡ p
   pub mark : option_map (mark_at name new) x.mark ≡ m
   pub top : mark_at name new x.top ≡ t
+
+-- a window that has no mark gets one at p, and its point and top stay
+abbrev pub MarkAddedBeside : WindowMarks → ℕ → WindowMarks → List MarkedBuffer → List MarkedBuffer → Type 0
+MarkAddedBeside x p y old new = (id : ℕ) × MarkAdded x.name p id old new × (y ≡ record x { mark = Some id })
 
 -- what a window showed is given up with its marks
 pub record WindowMarksDropped (o : Option WindowMarks) (old new : List MarkedBuffer) : Type 0 where

@@ -1,7 +1,7 @@
 // A session comes and goes: the marks of its windows.
 ghost use Rattle.std.specs.Prelude.{◌≡◌, ◌+◌, ◌≤◌, ℕ, List, length, Some, None, IfOk, OnErr, IfSome};
 ghost use Rattle.mgs_buffers.specs.MarkedBuffer.{HasBuffer, IsMark, MarkAdded, MarkDropped, marked_at};
-ghost use Rattle.mgs_world.specs.WindowMarks.{MarksStay, WindowMarksAdded, WindowMarksDropped};
+ghost use Rattle.mgs_world.specs.WindowMarks.{MarkAddedBeside, MarksStay, WindowMarksAdded, WindowMarksDropped};
 ghost use Rattle.mgs_world.specs.Worlds.{buffers_of};
 ghost use Rattle.mgs_world.specs.Sound.{IsSessionSound, IsShownSound, in_use, place_uses, session_uses, sum_of, window_uses};
 
@@ -66,7 +66,7 @@ fn add_mark_beside<T: Marked + Drop>(
     requires sound { IsShownSound buffers.old (Some window_marks) }
     requires unmarked { window_marks.mark ≡ None }
     requires within { mark ≤ length (marked_at window_marks.name buffers.old).buffer.text }
-    ensures ok { IfOk result (λ x. (id : ℕ) × (MarkAdded window_marks.name mark id buffers.old buffers.new) × (x ≡ record window_marks { mark = Some id })) }
+    ensures ok { IfOk result (λ x. MarkAddedBeside window_marks mark x buffers.old buffers.new) }
     ensures err { OnErr result (WindowMarksDropped (Some window_marks) buffers.old buffers.new) }
 {
     match buffers.add_mark(&window_marks.name, mark) {

@@ -40,4 +40,4 @@ returns-in-GoToWhich-clause-value g c =
     ∙ c.plan_text.ensures.value xs next stored)
 
 pub returns-in-SearchWhat-clause-value : goal.returns-in-SearchWhat-clause-value
-returns-in-SearchWhat-clause-value g c = of_question c.args.directory.now c.args.buffers.now c.args.session.now c.args.argument c.args.typed.now c.plan_search.result c.in-SearchWhat.is c.plan_search.ensures.value
+returns-in-SearchWhat-clause-value g c = of_question c.args.directory.now c.args.buffers.now c.args.session.now c.args.argument c.args.typed.now c.plan_search.result c.in-SearchWhat.is (c.plan_search.ensures.value c.args.argument)

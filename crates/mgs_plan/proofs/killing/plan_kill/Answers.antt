@@ -1,4 +1,4 @@
-use Rattle.std.proofs.Common.{◌≡◌, ℕ, ◌∙◌, List, Option, ap, subst}
+use Rattle.std.proofs.Common.{ℕ, ◌∙◌, List, Option, ap, subst}
 use Rattle.mgs_plan.specs.Deciding.{IsGranted}
 use Rattle.mgs_plan.specs.Killing.{IsKillRefused, name_meant}
 use Rattle.mgs_plan.proofs.Kills.{kill_planned, kill_refused}

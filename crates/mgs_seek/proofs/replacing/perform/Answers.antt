@@ -2,7 +2,6 @@ use Rattle.std.proofs.Common.{ℕ, List, length, get_or, sym, ap, ◌∙◌, ari
 use Rattle.mgs_model.specs.Acts.{is_full}
 use Rattle.mgs_model.specs.Text.{is_edit}
 use Rattle.mgs_buffers.specs.MarkedBuffer.{marked_at}
-use Rattle.mgs_seek.specs.Replacing.{taken}
 use Rattle.std.specs.Prelude.{slice_get}
 use Rattle.std.proofs.lemmas.Option.{get_or_from_slice_get, slice_get-get_or}
 use Rattle.mgs_session.specs.declared.Session.{Session}
@@ -18,7 +17,7 @@ pub edit-requires-clause-room : goal.edit-requires-clause-room
 edit-requires-clause-room g c =
     let p = c.args.planned.now in
     let b = marked_at p.window_marks.name c.args.buffers.now in
-    ap (λ (put : List ℕ). is_full (length b.buffer.text) b.buffer.serial (taken p.edit.from p.edit.to put)) c.put_of-put.ensures
+    ap (λ (put : List ℕ). is_full (length b.buffer.text) b.buffer.serial p.edit.from p.edit.to put) c.put_of-put.ensures
     ∙ (c.requires.can _ (slice_get-get_or c.args.sessions.now c.args.at c.index-sessions-at.result c.requires.within)).room
 
 pub returns-in-Err-clause-may : goal.returns-in-Err-clause-may

@@ -1,10 +1,11 @@
 use Rattle.std.proofs.Common.{◌≤◌, ℕ, length, subst, None, refl}
-use Rattle.mgs_model.specs.declared.session.Motion.TheVariants.{StartReplace}
+use Rattle.mgs_model.specs.declared.session.Seeking.TheVariants.{StartReplace}
 use Rattle.mgs_seek.specs.Replacing.{replacing_state}
 use Rattle.mgs_buffers.specs.MarkedBuffer.{mark_at, marked_at}
 use Rattle.mgs_seek.proofs.Meets.{only_met}
-use Rattle.mgs_seek.proofs.Skips.{within_read}
-use Rattle.mgs_seek.proofs.Starts.{replace_begins, start_fails, start_read, start_refused}
+use Rattle.mgs_seek.proofs.Skips.{as_read, within_read}
+use Rattle.mgs_search.specs.Planned.{IsBegun}
+use Rattle.mgs_seek.proofs.Starts.{replace_begins, start_fails, start_refused}
 use Rattle.mgs_seek.proofs.replacing.start_in.Goals as goal
 
 pub returns-in-Err-clause-does : goal.returns-in-Err-clause-does
@@ -17,7 +18,7 @@ returns-in-Err-begin_replacing-clause-does g c =
     let x = c.in-Ok.window_marks in
     rw c.fail-in-Err-begin_replacing.ensures
     (start_refused c.args.directory.now ks c.args.session.now c.args.pattern c.args.put c.requires.fresh x c.in-Ok.ensures.ok c.begin_replacing.result
-    (start_read c.begin_replacing.result _ c.args.pattern _ (marked_at x.name ks).buffer.text _ (mark_at x.name ks x.point) c.as_slice.ensures.value c.text.ensures.text c.pos-place.ensures.value c.begin_replacing.ensures.plan) c.in-Err-begin_replacing.message c.in-Err-begin_replacing.is)
+    (as_read (λ q t p. IsBegun q t p c.begin_replacing.result) _ c.args.pattern _ (marked_at x.name ks).buffer.text _ (mark_at x.name ks x.point) c.as_slice.ensures.value c.text.ensures.text c.pos-place.ensures.value c.begin_replacing.ensures.plan) c.in-Err-begin_replacing.message c.in-Err-begin_replacing.is)
 
 pub returns-in-Ok-begin_replacing-clause-only : goal.returns-in-Ok-begin_replacing-clause-only
 returns-in-Ok-begin_replacing-clause-only g c =
@@ -33,5 +34,5 @@ returns-in-Ok-begin_replacing-clause-does g c =
     let next = c.in-Ok-begin_replacing.next in
     rw (c.meet.ensures.buffers, c.meet.ensures.session, c.replacing-search.ensures, c.new.ensures, c.pos-place.ensures.value)
     (replace_begins c.args.directory.now ks c.args.session.now c.args.pattern c.args.put c.requires.fresh x c.in-Ok.ensures.ok c.begin_replacing.result
-    (start_read c.begin_replacing.result _ c.args.pattern _ text _ (mark_at x.name ks x.point) c.as_slice.ensures.value c.text.ensures.text c.pos-place.ensures.value c.begin_replacing.ensures.plan)
+    (as_read (λ q t p. IsBegun q t p c.begin_replacing.result) _ c.args.pattern _ text _ (mark_at x.name ks x.point) c.as_slice.ensures.value c.text.ensures.text c.pos-place.ensures.value c.begin_replacing.ensures.plan)
     c.requires.sound small next c.in-Ok-begin_replacing.is (within_read next _ c.args.pattern _ text c.as_slice.ensures.value c.text.ensures.text c.in-Ok-begin_replacing.ensures.within))

@@ -3,13 +3,13 @@ use Rattle.std.specs.Prelude.{Result, Ok, Err, IfOk, IfSome}
 use Rattle.mgs_model.specs.World.{Buffer}
 use Rattle.mgs_buffers.specs.MarkedBuffer.{MarkedBuffer, HasBuffer, MarkAdded, marked_at}
 use Rattle.mgs_windows.specs.declared.WindowMarks.{WindowMarks}
-use Rattle.mgs_world.specs.WindowMarks.{WindowMarksAdded}
+use Rattle.mgs_world.specs.WindowMarks.{MarkAddedBeside, WindowMarksAdded}
 use Rattle.mgs_world.proofs.WindowMarks.{buffer_same, window_mark_added}
 use Rattle.mgs_world.proofs.window_marks.add_window_marks.Goals as goal
 
 -- the mark comes beside point and top
 beside : {E : Type 0} (r : Result WindowMarks E) (n : List ℕ) (p q t : ℕ) (m : Option ℕ) (x : WindowMarks) (a c d : List MarkedBuffer) → m ≡ Some q → HasBuffer n c → WindowMarksAdded n p None t x a c → x.mark ≡ None
-    → IfOk r (λ y. (id : ℕ) × MarkAdded x.name q id c d × (y ≡ record x { mark = Some id })) → IfOk r (λ y. WindowMarksAdded n p m t y a d)
+    → IfOk r (λ y. MarkAddedBeside x q y c d) → IfOk r (λ y. WindowMarksAdded n p m t y a d)
 beside (Err e) n p q t m x a c d is kept h unmarked got = got
 beside (Ok y) n p q t m x a c d is kept h unmarked got =
     let added : MarkAdded n q got.0 c d = subst (λ (k : List ℕ). MarkAdded k q got.0 c d) h.named got.1 in
