@@ -7,6 +7,7 @@ use Rattle.mgs_model.specs.Apply.{change_at, change_first, comer, place_mark, pl
 use Rattle.mgs_buffers.specs.MarkedBuffer.{MarkedBuffer}
 use Rattle.mgs_windows.specs.Panes.{WindowList, is_place_in, places_after, shows_at}
 use Rattle.mgs_windows.specs.declared.WindowMarks.{WindowMarks}
+use Rattle.mgs_world.specs.WindowMarks.{WindowMarksAdded}
 use Rattle.mgs_world.specs.Worlds.{place_of}
 use Rattle.mgs_arrange.specs.Arranged.{left_by, run_ended}
 
@@ -25,6 +26,10 @@ standing_point ks o = place_point (option_map (place_of ks) o)
 
 abbrev pub standing_mark : List MarkedBuffer → Option WindowMarks → Option ℕ
 standing_mark ks o = place_mark (option_map (place_of ks) o)
+
+-- a window that comes to the buffer gets marks there, and its top is at the text's start
+abbrev pub StandingAdded : List ℕ → Option WindowMarks → WindowMarks → List MarkedBuffer → List MarkedBuffer → Type 0
+StandingAdded name stood x ks ls = WindowMarksAdded name (standing_point ks stood) (standing_mark ks stood) 0 x ks ls
 
 -- a window comes to a buffer where one of these places is
 abbrev pub coming : List ℕ → List Place → Window → Window

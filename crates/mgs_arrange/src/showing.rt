@@ -4,11 +4,11 @@ ghost use Rattle.mgs_buffers.specs.MarkedBuffer.{HasBuffer, MarkedBuffer};
 ghost use Rattle.mgs_windows.specs.Panes.{is_place_in};
 ghost use Rattle.mgs_world.specs.Acted.{IsLeftAt, IsUnchanged};
 ghost use Rattle.mgs_world.specs.Sound.{IsSessionSound, IsShownSound, IsSound};
-ghost use Rattle.mgs_world.specs.WindowMarks.{WindowMarksAdded, WindowMarksDropped};
+ghost use Rattle.mgs_world.specs.WindowMarks.{WindowMarksDropped};
 ghost use Rattle.mgs_world.specs.Worlds.{session_of};
 ghost use Rattle.mgs_arrange.specs.Arranged.{run_ended};
 ghost use Rattle.mgs_arrange.specs.Arranging.{IsResized, Rearranged};
-ghost use Rattle.mgs_arrange.specs.Showing.{is_shown, shown_in, standing, standing_mark, standing_point, window_shows};
+ghost use Rattle.mgs_arrange.specs.Showing.{StandingAdded, is_shown, shown_in, standing, window_shows};
 
 use mgs_buffers::Buffers;
 use mgs_marks::Marked;
@@ -60,7 +60,7 @@ fn add_standing<T: Marked + Drop>(
     requires kept { HasBuffer name.now buffers.old }
     requires sound { IsShownSound buffers.old stood }
     requires named { IfSome stood (λ x. x.name ≡ name.now) }
-    ensures ok { IfOk result (λ x. WindowMarksAdded name.now (standing_point buffers.old stood) (standing_mark buffers.old stood) 0 x buffers.old buffers.new) }
+    ensures ok { IfOk result (λ x. StandingAdded name.now stood x buffers.old buffers.new) }
     ensures err { OnErr result (WindowMarksDropped None buffers.old buffers.new) }
 {
     let Some(window_marks) = stood else {

@@ -1,7 +1,6 @@
 // A window becomes two.
 ghost use Rattle.std.specs.Prelude.{◌≡◌, ℕ, List, Option, None, IfOk, OnOk, OnErr};
 ghost use Rattle.mgs_model.specs.declared.session.Arrangement.TheVariants.{SplitWindow};
-ghost use Rattle.mgs_model.specs.World as model;
 ghost use Rattle.mgs_buffers.specs.MarkedBuffer.{MarkedBuffer};
 ghost use Rattle.mgs_world.specs.Sound.{IsSessionSound, IsShownSound};
 ghost use Rattle.mgs_world.specs.Worlds.{session_of};

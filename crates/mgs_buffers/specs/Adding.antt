@@ -3,7 +3,8 @@ use Rattle.std.specs.Prelude.{◌≡◌, ℕ, nat_le, nat_lt, not, Bool, ◌&&�
 use Rattle.mgs_model.specs.Names.{is_group_or_none, is_name, is_user_name}
 use Rattle.mgs_model.specs.Access.{owners_of}
 use Rattle.mgs_model.specs.declared.owners.Owners.{Owners}
-use Rattle.mgs_buffers.specs.MarkedBuffer.{MarkedBuffer, has_buffer}
+use Rattle.mgs_model.specs.declared.entry.Entry.{Entry}
+use Rattle.mgs_buffers.specs.MarkedBuffer.{MarkedBuffer, has_buffer, marked_new}
 use Rattle.mgs_buffers.specs.declared.fault.AddFault.{AddFault}
 use Rattle.mgs_buffers.specs.declared.fault.AddFault.TheVariants.{Name, Twice, Full, Long, Short}
 
@@ -19,6 +20,10 @@ add_fault name owner group size ks =
     else if nat_le 256 (length ks) then Some Full
     else if nat_lt 1048576 size then Some Long
     else None
+
+-- the buffer that is added: no edit of it is recorded, and it has no marks
+abbrev pub marked_added : List ℕ → List ℕ → Option (List ℕ) → List Entry → List ℕ → Bool → MarkedBuffer
+marked_added name owner group entries text file = marked_new name (owners_of owner group) entries text file
 
 -- each fault exactly where it is due, and out of memory only where none is
 abbrev pub IsAddDue : AddFault → Option AddFault → Type 0

@@ -1,6 +1,6 @@
 -- What a buffer holds, as the contracts see it.
 use Rattle.std.specs.Prelude.{◌≡◌, ℕ, List, Option, map}
-use Rattle.mgs_buffers.specs.MarkedBuffer.{MarkedBuffer}
+use Rattle.mgs_buffers.specs.MarkedBuffer.{MarkedBuffer, with_marks}
 use Rattle.mgs_buffers.specs.declared.buffer.Buffer.{Buffer}
 
 module _ {T : Type 0} (text : T → List ℕ) (marks : T → List (Option ℕ)) where
@@ -17,3 +17,7 @@ module _ {T : Type 0} (text : T → List ℕ) (marks : T → List (Option ℕ)) 
   -- what is kept of one buffer has changed so, under whatever name
   abbrev pub Changed : (MarkedBuffer → MarkedBuffer) → Buffer T → Buffer T → Type 0
   Changed change old new = (name : List ℕ) → marked_of name new ≡ change (marked_of name old)
+
+  -- nothing but the marks in its text
+  abbrev pub ChangedMarks : Buffer T → Buffer T → Type 0
+  ChangedMarks old new = Changed (with_marks (marks new.text)) old new

@@ -4,8 +4,8 @@ ghost use Rattle.mgs_model.specs.Access.{decider, decision, decision_by};
 ghost use Rattle.mgs_model.specs.Apply.{first_entries};
 ghost use Rattle.mgs_model.specs.World.{may};
 ghost use Rattle.mgs_marks.specs.Marks.{mark_in};
-ghost use Rattle.mgs_buffers.specs.MarkedBuffer.{marked_new, marked_edited, marked_placed, with_marks};
-ghost use Rattle.mgs_buffers.specs.Contents.{Changed, marked_of};
+ghost use Rattle.mgs_buffers.specs.MarkedBuffer.{marked_new, marked_edited, marked_placed};
+ghost use Rattle.mgs_buffers.specs.Contents.{Changed, ChangedMarks, marked_of};
 ghost use Rattle.mgs_buffers.specs.Judging.{StaysRight};
 ghost use Rattle.mgs_buffers.specs.Permitting.{PermitAnswers};
 ghost use Rattle.mgs_buffers.specs.Placing.{CanStand, marked_placed_if};
@@ -194,7 +194,7 @@ impl<T: Marked + Drop> Buffer<T> {
     /// A new mark in the text, at a position. `Short`: memory was refused, and all is as it was.
     pub fn add_mark(&mut self, p: usize) -> Result<MarkId, Short>
         requires { p ≤ length (T.text self.old.text) }
-        ensures shape { (name : List ℕ) → marked_of T.text T.marks name self.new ≡ with_marks (T.marks self.new.text) (marked_of T.text T.marks name self.old) }
+        ensures shape { ChangedMarks T.text T.marks self.old self.new }
         ensures free { IfOk result (λ id. mark_in (T.marks self.old.text) id ≡ None) }
         ensures added { IfOk result (λ id. mark_in (T.marks self.new.text) id ≡ Some p) }
         ensures others { IfOk result (λ id. (k : ℕ) → k ≢ id → mark_in (T.marks self.new.text) k ≡ mark_in (T.marks self.old.text) k) }
@@ -206,7 +206,7 @@ impl<T: Marked + Drop> Buffer<T> {
     /// Gives a mark of the text up.
     pub fn drop_mark(&mut self, id: MarkId)
         requires { IsSome (mark_in (T.marks self.old.text) id) }
-        ensures shape { (name : List ℕ) → marked_of T.text T.marks name self.new ≡ with_marks (T.marks self.new.text) (marked_of T.text T.marks name self.old) }
+        ensures shape { ChangedMarks T.text T.marks self.old self.new }
         ensures gone { mark_in (T.marks self.new.text) id ≡ None }
         ensures others { (k : ℕ) → k ≢ id → mark_in (T.marks self.new.text) k ≡ mark_in (T.marks self.old.text) k }
     {

@@ -6,19 +6,19 @@ ghost use Rattle.mgs_undo.specs.Numbered.{item_of};
 ghost use Rattle.std.specs.Map.{lookup};
 ghost use Rattle.mgs_model.specs.Names.{IsName, same_name};
 ghost use Rattle.std.specs.List.{position_or_len};
-ghost use Rattle.mgs_model.specs.Access.{owners_of};
 ghost use Rattle.mgs_model.specs.Apply.{change_first};
 ghost use Rattle.mgs_model.specs.Completion.{completion};
 ghost use Rattle.mgs_mini.specs.Narrowing.{granted_names};
 ghost use Rattle.mgs_model.specs.World.{may};
-ghost use Rattle.mgs_buffers.specs.Adding.{add_fault, AddAnswers, NamesToAdd};
+ghost use Rattle.mgs_buffers.specs.Adding.{add_fault, AddAnswers, NamesToAdd, marked_added};
 ghost use Rattle.mgs_buffers.specs.Completed.{IsWithinName};
 ghost use Rattle.mgs_buffers.specs.Contents.{marked_of};
 ghost use Rattle.mgs_buffers.specs.Judging.{AreJudged, IsRuled, rules_kept};
 ghost use Rattle.mgs_buffers.specs.Permitting.{PermitAnswers, mask_decision, right_decision};
 ghost use Rattle.mgs_buffers.specs.Placing.{CanStand, placed_if};
 ghost use Rattle.mgs_buffers.specs.Told.{attributes_read, attributes_found};
-ghost use Rattle.mgs_buffers.specs.MarkedBuffer.{AreUnmarked, AreWithinLimit, marked_named, marked_at, has_buffer, HasBuffer, IsMark, mark_at, marked_created, marked_new, marked_placed, MarkAdded, MarkDropped};
+ghost use Rattle.mgs_buffers.specs.MarkedBuffer.{AreUnmarked, AreWithinLimit, HasBuffer, IsMark, MarkAdded, MarkDropped};
+ghost use Rattle.mgs_buffers.specs.MarkedBuffer.{has_buffer, mark_at, marked_at, marked_created, marked_named, marked_new, marked_placed};
 
 use crate::buffer::{Buffer, new_buffer, owners_list};
 use crate::completing::completion;
@@ -42,6 +42,7 @@ use std::marker::Model;
 /// A call that takes a name is about the buffer of that name, and the caller sees that there is one.
 #[derive(Drop)]
 pub struct Buffers<T: Marked + Drop> {
+    /// Each buffer by its name, in order of creation.
     pub(crate) all: IndexMap<Name, Buffer<T>>,
     alloc: Global,
 }
@@ -133,7 +134,7 @@ impl<T: Marked + Drop> Buffers<T> {
         has_file: bool,
     ) -> Result<(), AddFault>
         ensures answer { AddAnswers result (add_fault name.now owner.now (option_copied group.entry) (length text.now) self.old) }
-        ensures ok { OnOk result (self.new ≡ self.old ++ marked_new name.now (owners_of owner.now (option_copied group.entry)) list text.now has_file ∷ []) }
+        ensures ok { OnOk result (self.new ≡ self.old ++ marked_added name.now owner.now (option_copied group.entry) list text.now has_file ∷ []) }
         ensures err { OnErr result (self.new ≡ self.old) }
         ensures unmarked { AreUnmarked self.old → AreUnmarked self.new }
     {

@@ -18,16 +18,16 @@ use mgs_marks::Marked;
 use mgs_model::{Decision, Mask, Name, Right, Short};
 use mgs_policy::Directory;
 
-// What changes of a buffer without its text, and without memory.
+/// What changes of a buffer without its text, and without memory.
 #[derive(Drop)]
 pub(crate) enum Update {
-    // Its modified flag is not set any more.
+    /// Its modified flag is not set any more.
     Unmodify,
-    // Another user owns it.
+    /// Another user owns it.
     SetOwners(Name),
-    // Another group owns it, or none does.
+    /// Another group owns it, or none does.
     Regroup(Option<Name>),
-    // Another access list takes the place of its own.
+    /// Another access list takes the place of its own.
     SetList(mgs_acl::List),
 }
 

@@ -17,11 +17,13 @@ use mgs_text::Text;
 /// What is told of a buffer to those to whom READ_ATTRIBUTES is granted.
 #[derive(Clone, Copy)]
 pub struct Attributes {
+    /// Its name, which no other buffer has.
     pub name: Name,
     /// Whether the buffer was edited since it was made or last written to its file.
     pub modified: bool,
     /// The number of characters of its text.
     pub size: usize,
+    /// Its owner, and its owning group where it has one.
     pub owners: Owners,
 }
 

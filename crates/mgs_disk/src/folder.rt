@@ -13,7 +13,9 @@ const TRIES: usize = 16;
 /// A new file, and its path.
 #[derive(Drop)]
 pub(crate) struct NewFile {
+    /// Where it lies.
     pub path: PathBuf,
+    /// The file, open for writing.
     pub file: File,
 }
 

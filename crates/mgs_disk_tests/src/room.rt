@@ -14,9 +14,13 @@ use std::{env, fs, io};
 /// A folder, and a store of the buffer `notes`.
 #[derive(Drop)]
 pub(crate) struct Room<'a> {
+    /// The system itself.
     pub rt: &'a HostRuntime,
+    /// The same, with calls that fail.
     pub faulty: &'a Faulty<'a, HostRuntime>,
+    /// The folder.
     pub folder: PathBuf,
+    /// The store, which works by `faulty`.
     pub store: FileStore<'a, Faulty<'a, HostRuntime>>,
 }
 

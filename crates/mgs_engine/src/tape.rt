@@ -41,16 +41,20 @@ pub enum Answer {
 /// The bytes that were taken of a session.
 #[derive(Drop)]
 pub(crate) struct Piece {
+    /// The session.
     pub(crate) id: SessionId,
+    /// Its bytes, in the order in which they were taken.
     pub(crate) bytes: Vec<u8>,
 }
 
 /// What calls answered, in their order, and the bytes that were taken of each session.
 #[derive(Drop)]
 pub struct Tape {
+    /// Where the pieces get their memory.
     pub(crate) alloc: Global,
+    /// One for each call.
     pub(crate) answers: Vec<Answer>,
-    // One for each session of which bytes were taken.
+    /// One for each session of which bytes were taken.
     pub(crate) pieces: Vec<Piece>,
 }
 

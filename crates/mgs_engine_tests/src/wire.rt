@@ -142,8 +142,11 @@ impl Read for Pieces<'_> {
 /// Takes so many bytes, and then none, or fails so.
 #[derive(Drop)]
 pub(crate) struct Narrow {
+    /// The bytes that it took.
     pub(crate) taken: Vec<u8>,
+    /// How many more it takes.
     pub(crate) room: usize,
+    /// How it fails then; without one it takes none.
     pub(crate) fault: Option<ErrorKind>,
 }
 

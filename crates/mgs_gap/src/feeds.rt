@@ -8,11 +8,12 @@ use core::mem::replace_with;
 use mgs_model::Short;
 use std::alloc::Global;
 
-// The line feeds of the part before the gap by their places, and those of the part after it, the last one first, by how
-// far they are from the text's end. So an edit at the gap moves none of them.
+/// The line feeds of a text that lies in two parts, told so that an edit at the gap moves none of them.
 #[derive(Drop)]
 pub(crate) struct Feeds {
+    /// Those before the gap, by their places.
     pub(crate) before: Vec<usize>,
+    /// Those after it, the last one first, by how far they are from the text's end.
     pub(crate) after: Vec<usize>,
 }
 

@@ -7,18 +7,23 @@ ghost use Rattle.mgs_gap.specs.RawPlaces.{text_place, raw_place, IsRaw, moved};
 
 use mgs_model::Short;
 
-// Where the gap lies.
+/// Where the gap lies.
 #[derive(Clone, Copy)]
 pub(crate) struct Gap {
+    /// How many characters stand before it.
     pub(crate) start: usize,
+    /// How many characters have room in it.
     pub(crate) width: usize,
 }
 
-// `count` characters come in place of those from `from` up to `to`.
+/// Characters come in place of others.
 #[derive(Clone, Copy)]
 pub(crate) struct Splice {
+    /// Where in the text the first of those that go stands.
     pub(crate) from: usize,
+    /// Where in the text the first one behind them stands.
     pub(crate) to: usize,
+    /// How many come.
     pub(crate) count: usize,
 }
 

@@ -1,11 +1,12 @@
 // Mode lines, messages and prompts written into a row.
-ghost use Rattle.std.specs.Prelude.{◌≡◌, ◌+◌, ◌<◌, ◌≤◌, ◌^◌, ◌++◌, length, codes};
+ghost use Rattle.std.specs.Prelude.{◌≡◌, ◌+◌, ◌<◌, ◌≤◌, ◌^◌, ◌++◌, length, codes, true};
 ghost use Rattle.mgs_model.specs.Rows.{heading_text, place_text, cause_text, unread_text};
 ghost use Rattle.mgs_model.specs.Rights.{right_name};
 ghost use Rattle.mgs_model.specs.Messages.{denial_text, fault_name, message_text, position_text};
 ghost use Rattle.mgs_model.specs.Cells.{cells};
 ghost use Rattle.mgs_model.specs.Prompts.{prompt_text, prompt_line, search_text};
 ghost use Rattle.mgs_grid.specs.Cells.{over, Wrote};
+ghost use Rattle.mgs_grid.specs.Messages.{is_other_message};
 
 use crate::cells::{put_bytes, put_chars, put_decimal, put_text};
 use mgs_model::{CursorPosition, Decision, Direction, EntryFault, Message, Name, Question, Right};
@@ -158,6 +159,43 @@ fn put_position(row: &mut [char], column: usize, at: &CursorPosition) -> usize
     put_decimal(row, at_column, at.column)
 }
 
+/// Writes the echo text of a message about macros, windows, names of buffers, access lists or files, and tells the column after it.
+fn put_other_message(row: &mut [char], message: &Message) -> usize
+    requires other { is_other_message message.now ≡ true }
+    ensures wrote { Wrote row.old 0 (message_text message.now) row.new result }
+    ensures few { result ≤ 160 }
+{
+    match *message {
+        Message::InMacro => put_bytes(row, 0, b"In macro"),
+        Message::NotInMacro => put_bytes(row, 0, b"Not in macro"),
+        Message::NoMacro => put_bytes(row, 0, b"No macro"),
+        Message::TooMany => put_bytes(row, 0, b"Too many"),
+        Message::MacroTooLong => put_bytes(row, 0, b"Macro too long"),
+        Message::OnlyOneWindow => put_bytes(row, 0, b"Only one window"),
+        Message::WindowTooSmall => put_bytes(row, 0, b"Window too small"),
+        Message::TooManyWindows => put_bytes(row, 0, b"Too many windows"),
+        Message::ImpossibleChange => put_bytes(row, 0, b"Impossible change"),
+        Message::NoSuchBuffer => put_bytes(row, 0, b"No such buffer"),
+        Message::BadName => put_bytes(row, 0, b"Bad name"),
+        Message::TooManyBuffers => put_bytes(row, 0, b"Too many buffers"),
+        Message::NoMatch => put_bytes(row, 0, b"No match"),
+        Message::NoSuchCommand => put_bytes(row, 0, b"No such command"),
+        Message::NotANumber => put_bytes(row, 0, b"Not a number"),
+        Message::BadEntry(fault) => put_fault(row, fault),
+        Message::NoSuchEntry => put_bytes(row, 0, b"No such entry"),
+        Message::ListFull => put_bytes(row, 0, b"List full"),
+        Message::NoSuchUser => put_bytes(row, 0, b"No such user"),
+        Message::NoSuchGroup => put_bytes(row, 0, b"No such group"),
+        Message::NoFile => put_bytes(row, 0, b"No file"),
+        Message::SaveFailed => put_bytes(row, 0, b"Save failed"),
+        Message::Wrote(name) => {
+            let at = put_bytes(row, 0, b"Wrote ");
+            put_name(row, at, &name)
+        }
+        _ => unreachable!(),
+    }
+}
+
 /// Writes an echo text from column 0 on, and tells the column after it, at most 160.
 pub(crate) fn put_message(row: &mut [char], message: &Message) -> usize
     ensures wrote { Wrote row.old 0 (message_text message.now) row.new result }
@@ -188,39 +226,14 @@ pub(crate) fn put_message(row: &mut [char], message: &Message) -> usize
         }
         Message::NoArgument => put_bytes(row, 0, b"No argument"),
         Message::BadColumn => put_bytes(row, 0, b"Bad column"),
-        Message::InMacro => put_bytes(row, 0, b"In macro"),
-        Message::NotInMacro => put_bytes(row, 0, b"Not in macro"),
-        Message::NoMacro => put_bytes(row, 0, b"No macro"),
-        Message::TooMany => put_bytes(row, 0, b"Too many"),
-        Message::OnlyOneWindow => put_bytes(row, 0, b"Only one window"),
-        Message::WindowTooSmall => put_bytes(row, 0, b"Window too small"),
-        Message::TooManyWindows => put_bytes(row, 0, b"Too many windows"),
-        Message::ImpossibleChange => put_bytes(row, 0, b"Impossible change"),
-        Message::NoSuchBuffer => put_bytes(row, 0, b"No such buffer"),
-        Message::BadName => put_bytes(row, 0, b"Bad name"),
-        Message::TooManyBuffers => put_bytes(row, 0, b"Too many buffers"),
-        Message::NoMatch => put_bytes(row, 0, b"No match"),
-        Message::NoSuchCommand => put_bytes(row, 0, b"No such command"),
-        Message::NotANumber => put_bytes(row, 0, b"Not a number"),
-        Message::BadEntry(fault) => put_fault(row, fault),
-        Message::NoSuchEntry => put_bytes(row, 0, b"No such entry"),
-        Message::ListFull => put_bytes(row, 0, b"List full"),
-        Message::NoSuchUser => put_bytes(row, 0, b"No such user"),
-        Message::NoSuchGroup => put_bytes(row, 0, b"No such group"),
         Message::NoFurtherUndo => put_bytes(row, 0, b"No further undo information"),
-        Message::NoFile => put_bytes(row, 0, b"No file"),
-        Message::SaveFailed => put_bytes(row, 0, b"Save failed"),
         Message::NoPattern => put_bytes(row, 0, b"No pattern"),
         Message::NotFound => put_bytes(row, 0, b"Not found"),
-        Message::MacroTooLong => put_bytes(row, 0, b"Macro too long"),
-        Message::Wrote(name) => {
-            let at = put_bytes(row, 0, b"Wrote ");
-            put_name(row, at, &name)
-        }
         Message::Replaced(count) => {
             let at = put_bytes(row, 0, b"Replaced ");
             put_decimal(row, at, count)
         }
+        _ => put_other_message(row, message),
     }
 }
 

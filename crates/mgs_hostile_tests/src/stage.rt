@@ -26,7 +26,9 @@ struct Seat {
 /// A server, and the terminals of its sessions in the order in which they sat down. Behind each event each terminal takes what waits for it.
 #[derive(Drop)]
 pub(crate) struct Stage<T: Marked + Drop> {
+    /// Where memory comes from.
     pub alloc: Global,
+    /// The server.
     pub engine: Engine<T, Shelf>,
     seats: Vec<Seat>,
 }

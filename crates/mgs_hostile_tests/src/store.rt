@@ -4,6 +4,7 @@ use mgs_store::{Store, StoreFault};
 /// Which saves a store takes.
 #[derive(Clone, Copy)]
 pub(crate) enum Takes {
+    /// None.
     Nothing,
     /// All but the one that so many come before.
     AllBut(usize),

@@ -21,10 +21,15 @@ pub enum Key {
 /// The bytes that came of a key that is not complete.
 #[derive(Clone, Copy, PartialEq, Eq)]
 pub enum Held {
+    /// None: the next byte begins a key.
     Nothing,
+    /// ESC, which waits for the byte of a key with Meta.
     Escape,
+    /// The first byte of a character past ASCII.
     One(u8),
+    /// The first two bytes of a character of three or four.
     Two(u8, u8),
+    /// The first three bytes of a character of four.
     Three(u8, u8, u8),
 }
 

@@ -6,10 +6,8 @@ ghost use Rattle.std.specs.Option.{option_map};
 ghost use Rattle.mgs_model.specs.Keys.{is_graphic};
 ghost use Rattle.mgs_model.specs.Searching.{lengthened};
 ghost use Rattle.mgs_model.specs.Sequences.{sequence_read};
-ghost use Rattle.mgs_model.specs.World.{State};
-ghost use Rattle.mgs_model.specs.View.{View};
 ghost use Rattle.mgs_model.specs.declared.session.Question.{Question};
-ghost use Rattle.mgs_model.specs.Turns.{prompt_turn, prompt_keys, prompt_key, completed, names_buffers, names_commands};
+ghost use Rattle.mgs_model.specs.Turns.{prompt_turn, prompt_keys, prompt_key, names_buffers, names_commands};
 ghost use Rattle.mgs_model.specs.declared.session.Question.TheVariants.{ReplaceWith};
 ghost use Rattle.mgs_mini.specs.Typing.{IsCompletion, IsFirst, IsPromptTurn, IsTurn, IsWaiting, is_within, keys_of, typed_state, typed_turn, last_dropped};
 ghost use Rattle.mgs_mini.specs.declared.Waiting.TheVariants.{NoKey};
@@ -31,6 +29,7 @@ const DELETE: u8 = 0x7F;
 /// The keys that are half read in a prompt.
 #[derive(Clone, Copy, PartialEq, Eq)]
 pub enum Waiting {
+    /// Nothing: the next byte begins a key.
     NoKey,
     /// ESC (0x1B) came.
     Escape,
@@ -38,9 +37,11 @@ pub enum Waiting {
     Arrow,
     /// M-[ and ESC (0x1B) came.
     ArrowEscape,
-    /// The first bytes of a character past ASCII came.
+    /// The first byte of a character past ASCII came.
     One(u8),
+    /// Its first two bytes came.
     Two(u8, u8),
+    /// Its first three bytes came.
     Three(u8, u8, u8),
 }
 

@@ -266,36 +266,8 @@ fn put_row_changes(
 }
 
 // Each row, and where their bytes leave the cursor. Those that are not of the set stay the same.
-fn put_rows_changes(
-    out: &mut Vec<u8>,
-    at: (usize, usize),
-    cols: usize,
-    old: &[Line],
-    new: &[Line],
-    rows: &RowSet,
-) -> (usize, usize)
-    requires count { length old.now ≡ length new.now }
-    requires rows { length new.now ≤ ROWS_MAX }
-    requires cols { cols ≤ COLS_MAX }
-    requires each_old { All (IsRow cols) old.now }
-    requires each_new { All (IsRow cols) new.now }
-    requires same { AreSameApart rows.now old.now new.now }
-    requires room { vec_len out.old + length new.now * (16 + 4 * cols) ≤ vec_capacity out.old }
-    ensures items { out.new.items ≡ out.old.items ++ bytes_of (rows_changes cols at 0 old.now new.now) }
-    ensures capacity { vec_capacity out.new ≡ vec_capacity out.old }
-    ensures len { vec_len out.new ≤ vec_len out.old + length new.now * (16 + 4 * cols) }
-    ensures cursor { result ≡ moved cols at (rows_changes cols at 0 old.now new.now) }
-{
-    let mut cursor = at;
-    for (i, line) in new.iter().enumerate() {
-        cursor = put_row_changes(out, cursor, i, &old[i], line, rows.has(i));
-    }
-    cursor
-}
-
-// Each row, where a set has any, and where their bytes leave the cursor. Those that are not of the set stay the same.
 #[tactic(auto, using(crate::proofs::Changing::none_items, crate::proofs::Changing::none_moved))]
-fn put_some_changes(
+fn put_rows_changes(
     out: &mut Vec<u8>,
     at: (usize, usize),
     cols: usize,
@@ -318,7 +290,11 @@ fn put_some_changes(
     if rows.is_none() {
         return at;
     }
-    put_rows_changes(out, at, cols, old, new, rows)
+    let mut cursor = at;
+    for (i, line) in new.iter().enumerate() {
+        cursor = put_row_changes(out, cursor, i, &old[i], line, rows.has(i));
+    }
+    cursor
 }
 
 // Each row that changes, and the cursor. The rows that are not of the set stay the same. Of a row that changes, the columns
@@ -332,7 +308,7 @@ fn put_changes(out: &mut Vec<u8>, old: &Grid, new: &Grid, rows: &RowSet)
     ensures capacity { vec_capacity out.new ≡ vec_capacity out.old }
     ensures len { vec_len out.new ≤ vec_len out.old + bound_of new.now.rows new.now.cols }
 {
-    let cursor = put_some_changes(
+    let cursor = put_rows_changes(
         out,
         old.cursor(),
         new.cols(),

@@ -1,9 +1,11 @@
 -- One walk over a list of entries decides on all wanted rights together: what is decided by the entries from one on, after that entry.
-use Rattle.std.proofs.Common.{◌≡◌, ℕ, ◌+◌, ◌<◌, ◌≤◌, refl, sym, ap, ◌∙◌, Bool, true, false, cond, eqb, w32, List, [], ◌∷◌, Option, Some, None, arith}
-use Rattle.std.specs.Prelude.{find, filter, not, ◌&&◌, nat_lt, min, slice_get, ◌-◌, ◌/◌, ◌%◌, ◌^◌}
+use Rattle.std.proofs.Common.{◌≡◌, ℕ, ◌+◌, ◌<◌, ◌≤◌, refl, sym, ap, ap₂, ◌∙◌, Bool, true, false, cond, eqb, w32, List, [], ◌∷◌, Option, Some, None, arith}
+use Rattle.std.specs.Prelude.{find, filter, filter_map, not, ◌&&◌, nat_lt, min, slice_get, ◌-◌, ◌/◌, ◌%◌, ◌^◌}
+use Rattle.std.specs.List.{best_of, cons_option}
 use Rattle.std.specs.Int.{bit_at}
 use Rattle.std.specs.Int.Bits.{bit_and}
 use Rattle.std.proofs.lemmas.Nat.Bits.{bit_at_and, bit_at_not, bit_at-lt}
+use Rattle.std.proofs.lemmas.Bool.{cond_above, cond_below}
 use Rattle.std.proofs.lemmas.Bool.Decides.{nat_tests}
 use Rattle.std.proofs.lemmas.List.{drop_more, drop_all}
 use Rattle.mgs_model.specs.Rights.{bit_of, has_right, all_rights, rights_in}
@@ -13,9 +15,8 @@ use Rattle.mgs_model.specs.declared.entry.Entry.{Entry}
 use Rattle.mgs_model.specs.declared.entry.EntryType.{EntryType}
 use Rattle.mgs_model.specs.declared.entry.EntryType.TheVariants.{Allow, Deny}
 use Rattle.mgs_model.specs.declared.entry.Decision.{Decision}
-use Rattle.mgs_model.specs.declared.entry.Decision.TheVariants.{Granted, DeniedBy, NotGranted}
-use Rattle.mgs_model.specs.Access.{Directory, Decider, Nobody, Allows, Denies, matches, concerns, decider, decider_of, decider_from, decision_by, decision}
-use Rattle.mgs_model.proofs.Deciding.{with_denier, with_denial, with_gap, denial, gap, decision_by-walks}
+use Rattle.mgs_model.specs.declared.entry.Decision.TheVariants.{Granted, DeniedBy}
+use Rattle.mgs_model.specs.Access.{Directory, Decider, Nobody, Allows, Denies, matches, concerns, decided, decider, decider_of, decider_from, decision_by, decision, denial_of, is_nobody}
 use Rattle.mgs_model.specs.declared.owners.Owners.{Owners}
 use Rattle.mgs_acl.proofs.Masks.{place, bit_of-place}
 use Rattle.mgs_policy.specs.Walk.{wanted}
@@ -24,131 +25,119 @@ use Rattle.mgs_policy.specs.Walk.{wanted}
 abbrev first : (Right → Bool) → Decider → (Right → Decider) → Right → Decider
 first p d rest right = cond (p right) d (rest right)
 
+-- what a decision is made of: the denials of wanted rights, and the first right that nobody decides
+abbrev denials : (Right → Decider) → List Right → List (ℕ × Right)
+denials deciders rights = filter_map (λ right. denial_of (deciders right) right) rights
+
+abbrev undecided : (Right → Decider) → List Right → Option Right
+undecided deciders rights = find (λ right. is_nobody (deciders right)) rights
+
 -- RIGHTS THAT ARE ALLOWED NEED NO MORE
 
-denial-allowed : (p : Right → Bool) (n : ℕ) (rest : Right → Decider) (rights : List Right) (d : Decision) → denial (first p (Allows n) rest) rights d ≡ denial rest (filter (λ right. not (p right)) rights) d
-denial-allowed p n rest [] d = refl
-denial-allowed p n rest (right ∷ rights) d =
-    elim (p right) as (λ b. denial (first p (Allows n) rest) rights (with_denial (cond b (Allows n) (rest right)) right d) ≡ denial rest (cond (not b) (right ∷ filter (λ x. not (p x)) rights) (filter (λ x. not (p x)) rights)) d) [
-      | true ↦ denial-allowed p n rest rights d
-      | false ↦ denial-allowed p n rest rights (with_denial (rest right) right d)
+denials-allowed : (p : Right → Bool) (n : ℕ) (rest : Right → Decider) (rights : List Right) → denials (first p (Allows n) rest) rights ≡ denials rest (filter (λ right. not (p right)) rights)
+denials-allowed p n rest [] = refl
+denials-allowed p n rest (right ∷ rights) =
+    elim (p right) as (λ b. cons_option (denial_of (cond b (Allows n) (rest right)) right) (denials (first p (Allows n) rest) rights) ≡ denials rest (cond (not b) (right ∷ filter (λ x. not (p x)) rights) (filter (λ x. not (p x)) rights))) [
+      | true ↦ denials-allowed p n rest rights
+      | false ↦ ap (cons_option (denial_of (rest right) right)) (denials-allowed p n rest rights)
     ]
 
-gap-allowed : (p : Right → Bool) (n : ℕ) (rest : Right → Decider) (rights : List Right) (d : Decision) → gap (first p (Allows n) rest) rights d ≡ gap rest (filter (λ right. not (p right)) rights) d
-gap-allowed p n rest [] d = refl
-gap-allowed p n rest (right ∷ rights) d =
-    elim (p right) as (λ b. gap (first p (Allows n) rest) rights (with_gap (cond b (Allows n) (rest right)) right d) ≡ gap rest (cond (not b) (right ∷ filter (λ x. not (p x)) rights) (filter (λ x. not (p x)) rights)) d) [
-      | true ↦ gap-allowed p n rest rights d
-      | false ↦ gap-allowed p n rest rights (with_gap (rest right) right d)
+undecided-allowed : (p : Right → Bool) (n : ℕ) (rest : Right → Decider) (rights : List Right) → undecided (first p (Allows n) rest) rights ≡ undecided rest (filter (λ right. not (p right)) rights)
+undecided-allowed p n rest [] = refl
+undecided-allowed p n rest (right ∷ rights) =
+    elim (p right) as (λ b. cond (is_nobody (cond b (Allows n) (rest right))) (Some right) (undecided (first p (Allows n) rest) rights) ≡ undecided rest (cond (not b) (right ∷ filter (λ x. not (p x)) rights) (filter (λ x. not (p x)) rights))) [
+      | true ↦ undecided-allowed p n rest rights
+      | false ↦ ap (cond (is_nobody (rest right)) (Some right)) (undecided-allowed p n rest rights)
     ]
 
 decision_by-allowed : (p : Right → Bool) (n : ℕ) (rest : Right → Decider) (rights : List Right) → decision_by (first p (Allows n) rest) rights ≡ decision_by rest (filter (λ right. not (p right)) rights)
-decision_by-allowed p n rest rights =
-    decision_by-walks (first p (Allows n) rest) rights
-    ∙ gap-allowed p n rest rights (denial (first p (Allows n) rest) rights Granted)
-    ∙ ap (gap rest (filter (λ right. not (p right)) rights)) (denial-allowed p n rest rights Granted)
-    ∙ sym (decision_by-walks rest (filter (λ right. not (p right)) rights))
+decision_by-allowed p n rest rights = ap₂ decided (denials-allowed p n rest rights) (undecided-allowed p n rest rights)
 
 -- AN ENTRY THAT HAS NO WANTED RIGHT DECIDES NOTHING
 
-some_not_none : (right : Right) → Some right ≡ None → ⊥
-some_not_none right e = cc
-
-denial-unmet : (p : Right → Bool) (x : Decider) (rest : Right → Decider) (rights : List Right) (d : Decision) → find p rights ≡ None → denial (first p x rest) rights d ≡ denial rest rights d
-denial-unmet p x rest [] d h = refl
-denial-unmet p x rest (right ∷ rights) d h =
-    let go : (b : Bool) → cond b (Some right) (find p rights) ≡ None → denial (first p x rest) rights (with_denial (cond b x (rest right)) right d) ≡ denial rest rights (with_denial (rest right) right d) =
-    λ b. elim b as (λ b. cond b (Some right) (find p rights) ≡ None → denial (first p x rest) rights (with_denial (cond b x (rest right)) right d) ≡ denial rest rights (with_denial (rest right) right d)) [
-      | true ↦ λ e. absurd (some_not_none right e)
-      | false ↦ λ e. denial-unmet p x rest rights (with_denial (rest right) right d) e
+denials-unmet : (p : Right → Bool) (x : Decider) (rest : Right → Decider) (rights : List Right) → find p rights ≡ None → denials (first p x rest) rights ≡ denials rest rights
+denials-unmet p x rest [] = λ none. refl
+denials-unmet p x rest (right ∷ rights) =
+    elim (p right) as (λ b. cond b (Some right) (find p rights) ≡ None → cons_option (denial_of (cond b x (rest right)) right) (denials (first p x rest) rights) ≡ denials rest (right ∷ rights)) [
+      | true ↦ λ none. cc
+      | false ↦ λ none. ap (cons_option (denial_of (rest right) right)) (denials-unmet p x rest rights none)
     ]
-    in go (p right) h
 
-gap-unmet : (p : Right → Bool) (x : Decider) (rest : Right → Decider) (rights : List Right) (d : Decision) → find p rights ≡ None → gap (first p x rest) rights d ≡ gap rest rights d
-gap-unmet p x rest [] d h = refl
-gap-unmet p x rest (right ∷ rights) d h =
-    let go : (b : Bool) → cond b (Some right) (find p rights) ≡ None → gap (first p x rest) rights (with_gap (cond b x (rest right)) right d) ≡ gap rest rights (with_gap (rest right) right d) =
-    λ b. elim b as (λ b. cond b (Some right) (find p rights) ≡ None → gap (first p x rest) rights (with_gap (cond b x (rest right)) right d) ≡ gap rest rights (with_gap (rest right) right d)) [
-      | true ↦ λ e. absurd (some_not_none right e)
-      | false ↦ λ e. gap-unmet p x rest rights (with_gap (rest right) right d) e
+undecided-unmet : (p : Right → Bool) (x : Decider) (rest : Right → Decider) (rights : List Right) → find p rights ≡ None → undecided (first p x rest) rights ≡ undecided rest rights
+undecided-unmet p x rest [] = λ none. refl
+undecided-unmet p x rest (right ∷ rights) =
+    elim (p right) as (λ b. cond b (Some right) (find p rights) ≡ None → cond (is_nobody (cond b x (rest right))) (Some right) (undecided (first p x rest) rights) ≡ undecided rest (right ∷ rights)) [
+      | true ↦ λ none. cc
+      | false ↦ λ none. ap (cond (is_nobody (rest right)) (Some right)) (undecided-unmet p x rest rights none)
     ]
-    in go (p right) h
 
 decision_by-unmet : (p : Right → Bool) (x : Decider) (rest : Right → Decider) (rights : List Right) → find p rights ≡ None → decision_by (first p x rest) rights ≡ decision_by rest rights
-decision_by-unmet p x rest rights h =
-    decision_by-walks (first p x rest) rights
-    ∙ gap-unmet p x rest rights (denial (first p x rest) rights Granted) h
-    ∙ ap (gap rest rights) (denial-unmet p x rest rights Granted h)
-    ∙ sym (decision_by-walks rest rights)
+decision_by-unmet p x rest rights none = ap₂ decided (denials-unmet p x rest rights none) (undecided-unmet p x rest rights none)
 
 -- A DENIAL BY THE FIRST ENTRY IS THE LEAST
 
 -- what denies does so after the n-th entry
 abbrev IsAfter : ℕ → Decider → Type 0
-IsAfter n Nobody = Unit {0}
-IsAfter n (Allows m) = Unit {0}
 IsAfter n (Denies m) = n < m
+IsAfter n _ = Unit {0}
 
--- the same of what is decided so far
-abbrev DecidedAfter : ℕ → Decision → Type 0
-DecidedAfter n Granted = Unit {0}
-DecidedAfter n (DeniedBy m right) = n < m
-DecidedAfter n (NotGranted right) = ⊥
+abbrev least : ℕ × Right → List (ℕ × Right) → ℕ × Right
+least x others = best_of (λ x y. nat_lt x.0 y.0) x others
 
-with_denier-first : (n : ℕ) (right : Right) (d : Decision) → DecidedAfter n d → with_denier d n right ≡ DeniedBy n right
-with_denier-first n right Granted h = refl
-with_denier-first n right (DeniedBy m earlier) h = grind (arith, nat_tests)
-with_denier-first n right (NotGranted earlier) h = absurd h
+module _ (p : Right → Bool) (n : ℕ) (rest : Right → Decider) (after : (right : Right) → IsAfter n (rest right)) (denied : Right) where
+  least-kept : (rights : List Right) → least (n, denied) (denials (first p (Denies n) rest) rights) ≡ (n, denied)
+  least-kept [] = refl
+  least-kept (right ∷ rights) =
+      let others : List (ℕ × Right) = denials (first p (Denies n) rest) rights in
+      let stays : least (n, denied) others ≡ (n, denied) = least-kept rights in
+      let kept : (m : ℕ) → n ≤ m → least (n, denied) ((m, right) ∷ others) ≡ (n, denied) =
+      λ m le. ap (λ x. least x others) (sym (cond_above m n (m, right) (n, denied) (n, denied) le refl)) ∙ stays in
+      let by : (k : Decider) → IsAfter n k → least (n, denied) (cons_option (denial_of k right) others) ≡ (n, denied) =
+      λ k. elim k as (λ k. IsAfter n k → least (n, denied) (cons_option (denial_of k right) others) ≡ (n, denied)) [
+        | Nobody ↦ λ h. stays
+        | Allows m ↦ λ h. stays
+        | Denies m ↦ λ h. kept m (omega (arith, h))
+      ]
+      in elim (p right) as (λ b. least (n, denied) (cons_option (denial_of (cond b (Denies n) (rest right)) right) others) ≡ (n, denied)) [
+        | true ↦ kept n (omega arith)
+        | false ↦ by (rest right) (after right)
+      ]
 
-with_denier-after : (n m : ℕ) (right : Right) (d : Decision) → n < m → DecidedAfter n d → DecidedAfter n (with_denier d m right)
-with_denier-after n m right Granted h k = h
-with_denier-after n m right (DeniedBy j earlier) h k = elim (nat_lt m j) as (λ b. DecidedAfter n (cond b (DeniedBy m right) (DeniedBy j earlier))) [ true ↦ h | false ↦ k ]
-with_denier-after n m right (NotGranted earlier) h k = absurd k
+  least-met : (rights : List Right) (m : ℕ) (earlier : Right) → n < m → find p rights ≡ Some denied → least (m, earlier) (denials (first p (Denies n) rest) rights) ≡ (n, denied)
+  least-met [] m earlier lt = λ found. cc
+  least-met (right ∷ rights) m earlier lt =
+      let others : List (ℕ × Right) = denials (first p (Denies n) rest) rights in
+      let later : (j : ℕ) (other : Right) → n < j → find p rights ≡ Some denied → least (j, other) others ≡ (n, denied) = least-met rights in
+      let by : (k : Decider) → IsAfter n k → find p rights ≡ Some denied → least (m, earlier) (cons_option (denial_of k right) others) ≡ (n, denied) =
+      λ k. elim k as (λ k. IsAfter n k → find p rights ≡ Some denied → least (m, earlier) (cons_option (denial_of k right) others) ≡ (n, denied)) [
+        | Nobody ↦ λ h. later m earlier lt
+        | Allows j ↦ λ h. later m earlier lt
+        | Denies j ↦ λ h found. elim (nat_lt j m) as (λ b. least (cond b (j, right) (m, earlier)) others ≡ (n, denied)) [ true ↦ later j right h found | false ↦ later m earlier lt found ]
+      ]
+      in elim (p right) as (λ b. cond b (Some right) (find p rights) ≡ Some denied → least (m, earlier) (cons_option (denial_of (cond b (Denies n) (rest right)) right) others) ≡ (n, denied)) [
+        | true ↦ λ found.
+            let same : right ≡ denied = cc in
+            ap (λ r. least (cond (nat_lt n m) (n, r) (m, earlier)) others) same ∙ ap (λ x. least x others) (sym (cond_below n m (n, denied) (m, earlier) lt)) ∙ least-kept rights
+        | false ↦ by (rest right) (after right)
+      ]
 
-with_denial-after : (n : ℕ) (x : Decider) (right : Right) (d : Decision) → IsAfter n x → DecidedAfter n d → DecidedAfter n (with_denial x right d)
-with_denial-after n Nobody right d h k = k
-with_denial-after n (Allows m) right d h k = k
-with_denial-after n (Denies m) right d h k = with_denier-after n m right d h k
-
-not_less : (n m : ℕ) (a b : Decision) → n ≤ m → cond (nat_lt m n) a b ≡ b
-not_less n m a b h = grind (arith, nat_tests)
-
-with_denial-kept : (n : ℕ) (b : Bool) (x : Decider) (right denied : Right) → IsAfter n x → with_denial (cond b (Denies n) x) right (DeniedBy n denied) ≡ DeniedBy n denied
-with_denial-kept n true x right denied h = not_less n n (DeniedBy n right) (DeniedBy n denied) (omega arith)
-with_denial-kept n false Nobody right denied h = refl
-with_denial-kept n false (Allows m) right denied h = refl
-with_denial-kept n false (Denies m) right denied h = not_less n m (DeniedBy m right) (DeniedBy n denied) (omega arith)
-
-denial-kept : (p : Right → Bool) (n : ℕ) (rest : Right → Decider) (rights : List Right) (denied : Right) → ((right : Right) → IsAfter n (rest right)) → denial (first p (Denies n) rest) rights (DeniedBy n denied) ≡ DeniedBy n denied
-denial-kept p n rest [] denied h = refl
-denial-kept p n rest (right ∷ rights) denied h =
-    ap (denial (first p (Denies n) rest) rights) (with_denial-kept n (p right) (rest right) right denied (h right)) ∙ denial-kept p n rest rights denied h
-
-with_gap-kept : (x : Decider) (right : Right) (n : ℕ) (denied : Right) → with_gap x right (DeniedBy n denied) ≡ DeniedBy n denied
-with_gap-kept Nobody right n denied = refl
-with_gap-kept (Allows m) right n denied = refl
-with_gap-kept (Denies m) right n denied = refl
-
-gap-kept : (deciders : Right → Decider) (rights : List Right) (n : ℕ) (denied : Right) → gap deciders rights (DeniedBy n denied) ≡ DeniedBy n denied
-gap-kept deciders [] n denied = refl
-gap-kept deciders (right ∷ rights) n denied = ap (gap deciders rights) (with_gap-kept (deciders right) right n denied) ∙ gap-kept deciders rights n denied
-
-denial-met : (p : Right → Bool) (n : ℕ) (rest : Right → Decider) (rights : List Right) (d : Decision) (denied : Right) → ((right : Right) → IsAfter n (rest right)) → DecidedAfter n d → find p rights ≡ Some denied → denial (first p (Denies n) rest) rights d ≡ DeniedBy n denied
-denial-met p n rest [] d denied h k e = absurd (some_not_none denied (sym e))
-denial-met p n rest (right ∷ rights) d denied h k e =
-    let go : (b : Bool) → cond b (Some right) (find p rights) ≡ Some denied → denial (first p (Denies n) rest) rights (with_denial (cond b (Denies n) (rest right)) right d) ≡ DeniedBy n denied =
-    λ b. elim b as (λ b. cond b (Some right) (find p rights) ≡ Some denied → denial (first p (Denies n) rest) rights (with_denial (cond b (Denies n) (rest right)) right d) ≡ DeniedBy n denied) [
-      | true ↦ λ found.
-          let same : right ≡ denied = cc in
-          ap (denial (first p (Denies n) rest) rights) (with_denier-first n right d k ∙ ap (DeniedBy n) same) ∙ denial-kept p n rest rights denied h
-      | false ↦ λ found. denial-met p n rest rights (with_denial (rest right) right d) denied h (with_denial-after n (rest right) right d (h right) k) found
-    ]
-    in go (p right) e
-
-decision_by-met : (p : Right → Bool) (n : ℕ) (rest : Right → Decider) (rights : List Right) (denied : Right) → ((right : Right) → IsAfter n (rest right)) → find p rights ≡ Some denied → decision_by (first p (Denies n) rest) rights ≡ DeniedBy n denied
-decision_by-met p n rest rights denied h e =
-    decision_by-walks (first p (Denies n) rest) rights
-    ∙ ap (gap (first p (Denies n) rest) rights) (denial-met p n rest rights Granted denied h tt e) ∙ gap-kept (first p (Denies n) rest) rights n denied
+  decision_by-met : (rights : List Right) (o : Option Right) → find p rights ≡ Some denied → decided (denials (first p (Denies n) rest) rights) o ≡ DeniedBy n denied
+  decision_by-met [] o = λ found. cc
+  decision_by-met (right ∷ rights) o =
+      let others : List (ℕ × Right) = denials (first p (Denies n) rest) rights in
+      let later : find p rights ≡ Some denied → decided others o ≡ DeniedBy n denied = decision_by-met rights o in
+      let by : (k : Decider) → IsAfter n k → find p rights ≡ Some denied → decided (cons_option (denial_of k right) others) o ≡ DeniedBy n denied =
+      λ k. elim k as (λ k. IsAfter n k → find p rights ≡ Some denied → decided (cons_option (denial_of k right) others) o ≡ DeniedBy n denied) [
+        | Nobody ↦ λ h. later
+        | Allows j ↦ λ h. later
+        | Denies j ↦ λ h found. ap (λ x. DeniedBy x.0 x.1) (least-met rights j right h found)
+      ]
+      in elim (p right) as (λ b. cond b (Some right) (find p rights) ≡ Some denied → decided (cons_option (denial_of (cond b (Denies n) (rest right)) right) others) o ≡ DeniedBy n denied) [
+        | true ↦ λ found.
+            let same : right ≡ denied = cc in
+            ap (λ r. decided ((n, r) ∷ others) o) same ∙ ap (λ x. DeniedBy x.0 x.1) (least-kept rights)
+        | false ↦ by (rest right) (after right)
+      ]
 
 -- ONE ENTRY OF A LIST
 
@@ -209,30 +198,22 @@ unfolding decided_from
 decided-denied n directory owners user e es rights denied h is found =
     decided-matched n directory owners user e es rights h
     ∙ ap (λ type. decision_by (first (has_right e.mask) (decider_of type n) (λ right. decider_from (n + 1) directory owners user right es)) rights) is
-    ∙ decision_by-met (has_right e.mask) n (λ right. decider_from (n + 1) directory owners user right es) rights denied (λ right. after_from n (n + 1) directory owners user right es (omega arith)) found
+    ∙ decision_by-met (has_right e.mask) n (λ right. decider_from (n + 1) directory owners user right es) (λ right. after_from n (n + 1) directory owners user right es (omega arith)) denied rights _ found
 
 -- AT THE END OF THE LIST
 
--- what no entry decides is granted where nothing is wanted, and else the first right is not
-abbrev pub at_end : Option Right → Decision
-at_end None = Granted
-at_end (Some right) = NotGranted right
+-- no entry denies, and the first right is not decided
+denials-nobody : (rights : List Right) → denials (λ r. Nobody) rights ≡ []
+denials-nobody [] = refl
+denials-nobody (right ∷ rights) = denials-nobody rights
 
-gap-nobody : (rights : List Right) (right : Right) → gap (λ r. Nobody) rights (NotGranted right) ≡ NotGranted right
-gap-nobody [] right = refl
-gap-nobody (r ∷ rights) right = gap-nobody rights right
+undecided-nobody : (rights : List Right) → undecided (λ r. Nobody) rights ≡ slice_get rights 0
+undecided-nobody [] = refl
+undecided-nobody (right ∷ rights) = refl
 
-denial-nobody : (rights : List Right) (d : Decision) → denial (λ r. Nobody) rights d ≡ d
-denial-nobody [] d = refl
-denial-nobody (r ∷ rights) d = denial-nobody rights d
-
-undecided : (rights : List Right) → gap (λ r. Nobody) rights Granted ≡ at_end (slice_get rights 0)
-undecided [] = refl
-undecided (right ∷ rights) = gap-nobody rights right
-
-pub decided-end : (n : ℕ) (directory : Directory) (owners : Owners) (user : List ℕ) (rights : List Right) → decided_from n directory owners user [] rights ≡ at_end (slice_get rights 0)
+pub decided-end : (n : ℕ) (directory : Directory) (owners : Owners) (user : List ℕ) (rights : List Right) → decided_from n directory owners user [] rights ≡ decided [] (slice_get rights 0)
 unfolding decided_from
-decided-end n directory owners user rights = decision_by-walks (λ r. Nobody) rights ∙ ap (gap (λ r. Nobody) rights) (denial-nobody rights Granted) ∙ undecided rights
+decided-end n directory owners user rights = ap₂ decided (denials-nobody rights) (undecided-nobody rights)
 
 -- the first that passes is the first of all that pass
 find-first : {X : Type 0} (p : X → Bool) (xs : List X) → find p xs ≡ slice_get (filter p xs) 0

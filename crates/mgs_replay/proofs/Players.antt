@@ -4,7 +4,6 @@ use Rattle.std.specs.Prelude.{find, All, IsSome, is_some, not, OnOk}
 use Rattle.std.specs.Option.{option_map}
 use Rattle.std.proofs.lemmas.List.{append-nil}
 use Rattle.mgs_model.specs.World.{World, Session}
-use Rattle.mgs_model.specs.Draw.{screen}
 use Rattle.mgs_model.specs.Events.{Close, step}
 use Rattle.mgs_model.specs.declared.errors.Keyed.{Keyed}
 use Rattle.mgs_model.specs.declared.errors.Keyed.TheVariants as keyed

@@ -1,18 +1,20 @@
 -- The terminals of the labels beside the engine that serves them.
-use Rattle.std.specs.Prelude.{◌≡◌, ℕ, nat_eq, true, false, List, [], ◌∷◌, ◌++◌, map, length, Option, Some, None, IsSome, Result, Ok, Err, All}
+use Rattle.std.specs.Prelude.{◌≡◌, ℕ, nat_eq, true, false, List, [], ◌∷◌, ◌++◌, map, length, Option, Some, None, IsSome, Result, Ok, Err, IfOk, All}
 use Rattle.std.specs.Option.{option_map}
 use Rattle.mgs_model.specs.World.{World, Session, find_session}
 use Rattle.mgs_model.specs.Draw.{screen}
 use Rattle.mgs_model.specs.Events.{is_open}
-use Rattle.mgs_term.specs.Screen.{Screen}
+use Rattle.mgs_term.specs.Screen.{Screen, blank_screen}
 use Rattle.mgs_term.specs.Terminal.{Terminal, resting}
 use Rattle.mgs_term.specs.Drawing.{Draws, Anything}
 use Rattle.mgs_paint.specs.Painting.{shown}
+use Rattle.mgs_world.specs.Worlds.{sizes}
 use Rattle.mgs_engine.specs.Does.{taken_by}
 use Rattle.mgs_engine.specs.Serving.{Serving, NoneWaits, pending_of}
 use Rattle.mgs_replay.specs.declared.client.Labelled.{Labelled}
 use Rattle.mgs_replay.specs.declared.client.Client.{Client}
 use Rattle.mgs_replay.specs.declared.client.Client.TheVariants as clients
+use Rattle.mgs_model.specs.declared.errors.OpenFault.{OpenFault}
 use Rattle.mgs_model.specs.declared.errors.Keyed.{Keyed}
 use Rattle.mgs_model.specs.declared.errors.Keyed.TheVariants as keyed
 use Rattle.mgs_replay.specs.declared.client.Cause.TheVariants as causes
@@ -35,6 +37,14 @@ label_of x = label x.label (standing_in x.client)
 
 abbrev pub labels_in : List Labelled → List Label
 labels_in xs = map label_of xs
+
+-- the client of a session that was just opened: its terminal took no byte yet
+abbrev pub client_opened : List ℕ → ℕ → ℕ → ℕ → Labelled
+client_opened name id rows cols = record { label = name; client = clients.Open id (resting (blank_screen rows cols)) }
+
+-- a session that was opened comes behind all others, with the size of its screen
+abbrev pub SizeAdded : ℕ → ℕ → Result ℕ OpenFault → World → World → Type 0
+SizeAdded rows cols answer old new = IfOk answer (λ id. sizes new ≡ sizes old ++ record { id = id; rows = rows; cols = cols } ∷ [])
 
 -- between two events a terminal shows the screen of its session, which is open
 abbrev pub ClientShows : World → Client → Type 0

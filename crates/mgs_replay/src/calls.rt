@@ -1,16 +1,15 @@
 // The calls of a player: each is made by `drive`, on a tape of its own.
-ghost use Rattle.std.specs.Prelude.{◌≡◌, ◌++◌, ◌∷◌, ℕ, [], Result, Option, IfOk, OnOk, drop, slice_get, is_some};
+ghost use Rattle.std.specs.Prelude.{◌≡◌, ◌∷◌, ℕ, [], Result, Option, IfOk, OnOk, drop, slice_get, is_some};
 ghost use Rattle.mgs_model.specs.Events.{Close, step};
 ghost use Rattle.mgs_model.specs.declared.errors.Keyed.{Keyed};
 ghost use Rattle.mgs_model.specs.declared.errors.OpenFault.{OpenFault};
-ghost use Rattle.mgs_world.specs.Worlds.{sizes};
 ghost use Rattle.mgs_wire.specs.Calls as wire;
 ghost use Rattle.mgs_engine.specs.declared.ending.Cause.{Cause};
 ghost use Rattle.mgs_engine.specs.declared.tape.Answer.TheVariants as kinds;
 ghost use Rattle.mgs_engine.specs.Does.{Does};
 ghost use Rattle.mgs_engine.specs.Serving.{pending_of};
 ghost use Rattle.mgs_engine.specs.Tapes.{bytes_on};
-ghost use Rattle.mgs_replay.specs.Served.{all_taken_by};
+ghost use Rattle.mgs_replay.specs.Served.{SizeAdded, all_taken_by};
 
 use mgs_engine::{Answer, Call, Engine, Tape, drive};
 use mgs_marks::Marked;
@@ -57,7 +56,7 @@ pub(crate) fn open<T: Marked + Drop>(
     cols: usize,
 ) -> Result<Result<SessionId, OpenFault>, Short>
     ensures does { IfOk result (λ a. Does server.old (wire.Open user.now rows cols a) server.new) }
-    ensures sizes { IfOk result (λ a. IfOk a (λ id. sizes server.new.world ≡ sizes server.old.world ++ record { id = id; rows = rows; cols = cols } ∷ [])) }
+    ensures sizes { IfOk result (λ a. SizeAdded rows cols a server.old.world server.new.world) }
 {
     let mut tape = Tape::new(alloc);
     match drive(server, &[Call::Open(user, rows, cols)], &mut tape) {

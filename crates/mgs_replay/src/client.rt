@@ -25,6 +25,8 @@ pub(crate) enum Client {
 /// A label, and its client.
 #[derive(Drop)]
 pub(crate) struct Labelled {
+    /// The label, which no other client has.
     pub(crate) label: Name,
+    /// How far its session is.
     pub(crate) client: Client,
 }

@@ -24,8 +24,11 @@ use std::io::Write;
 /// Why a line ended a replay.
 #[derive(Clone, Copy, PartialEq, Eq)]
 enum TurnFault {
+    /// It is no line of a script, or says what cannot be.
     Refused,
+    /// Writing failed.
     Write,
+    /// Out of memory.
     Short,
 }
 

@@ -2,8 +2,6 @@
 ghost use Rattle.std.specs.Prelude.{◌≡◌, ◌++◌, ◌∷◌, ℕ, List, [], Some, OnOk, true};
 ghost use Rattle.mgs_model.specs.World.{World};
 ghost use Rattle.mgs_model.specs.Picture.{IsSize};
-ghost use Rattle.mgs_term.specs.Screen.{blank_screen};
-ghost use Rattle.mgs_term.specs.Terminal.{resting};
 ghost use Rattle.mgs_replay.specs.declared.client.Client.TheVariants as client_states;
 ghost use Rattle.mgs_script.specs.Lines.{line_view, Open, Keys, Close, said_in, needs_memory};
 ghost use Rattle.mgs_replay.specs.Prints.{refusal_text};
@@ -11,7 +9,7 @@ ghost use Rattle.mgs_replay.specs.Clients.{client_of, shown_text};
 ghost use Rattle.mgs_replay.specs.Players.{label as called, Has, playing, standing_of, had_session};
 ghost use Rattle.mgs_replay.specs.Replayed.{closed};
 ghost use Rattle.mgs_replay.specs.Turns.{TypesOne, Types, IsDue};
-ghost use Rattle.mgs_replay.specs.Served.{labels_in, session_in, player_of, clients_keyed, IsReady, IsWaiting, NotBad, Prints, Runs, RunsOn, RunsSaid, TypesLabel, short_or};
+ghost use Rattle.mgs_replay.specs.Served.{client_opened, labels_in, session_in, player_of, clients_keyed, IsReady, IsWaiting, NotBad, Prints, Runs, RunsOn, RunsSaid, TypesLabel, short_or};
 
 use crate::calls::{Server, byte, close, open, tell_all};
 use crate::client::{Cause, Client};
@@ -85,7 +83,7 @@ fn client_session<T: Marked + Drop>(
     cols: usize,
 ) -> Result<(), LineFault>
     requires size { IsSize rows cols }
-    requires waiting { IsWaiting server.old (clients.old ++ record { label = label; client = client_states.Open id (resting (blank_screen rows cols)) } ∷ []) }
+    requires waiting { IsWaiting server.old (clients.old ++ client_opened label id rows cols ∷ []) }
     ensures ready { OnOk result (IsReady server.new clients.new) }
     ensures world { OnOk result (server.new.world ≡ server.old.world) }
     ensures labels { OnOk result (labels_in clients.new ≡ labels_in clients.old ++ called label (Has id) ∷ []) }

@@ -27,7 +27,9 @@ pub enum ReplayFault {
 /// Why a script was not read.
 #[derive(Clone, Copy, PartialEq, Eq)]
 enum ScriptFault {
+    /// Reading failed, or the script is too long.
     Read,
+    /// Out of memory.
     Short,
 }
 

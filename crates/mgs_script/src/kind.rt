@@ -2,18 +2,28 @@
 ghost use Rattle.std.specs.Prelude.{◌≡◌};
 ghost use Rattle.mgs_script.specs.Lines.{kind_named};
 
-// The first word of a script's line.
+/// The first word of a script's line.
 #[derive(Clone, Copy)]
 pub(crate) enum LineKind {
+    /// `user`: a user of the directory.
     User,
+    /// `group`: a group of the directory, and its members.
     Group,
+    /// `buffer`: a buffer, and its owner.
     Buffer,
+    /// `owngroup`: the owning group of a buffer.
     OwnGroup,
+    /// `entry`: one more entry of a buffer's access list.
     Entry,
+    /// `text`: what a buffer begins with.
     Text,
+    /// `open`: a session opens.
     Open,
+    /// `keys`: what a session types.
     Keys,
+    /// `show`: the screen of a session is printed.
     Show,
+    /// `close`: a session closes.
     Close,
 }
 

@@ -95,7 +95,7 @@ pub data Move : Type 0 where
   Goes : (key : ℕ) → Move
 
 module _ {E : Type 0} (does : E → Call → E → Type 0) (live : ℕ → E → Bool) (pending : ℕ → E → List ℕ) (tickets : List (List ℕ × List ℕ)) where
-  -- what is read is from whatever its stream has, and what is written to whatever its stream holds
+  -- what its stream has to be read, and what it took, may be anything before and after
   abbrev pub IsStep : Connection → E → Step → Connection → E → Type 0
   IsStep conn old (Reads answer) next new = (left rest : Option (List ℕ)) × PumpsIn does live tickets answer left rest conn old next new × Finishes live answer conn old next new
   IsStep conn old (Writes answer) next new = (held holds : Option (List ℕ)) × PumpsOut does pending answer held holds conn old next new
@@ -107,7 +107,7 @@ module _ {E : Type 0} (does : E → Call → E → Type 0) (live : ℕ → E →
   AreSteps conn old [] next new = (next ≡ conn) × (new ≡ old)
   AreSteps conn old (s ∷ ss) next new = (between : Connection) × (mid : E) × IsStep conn old s between mid × AreSteps between mid ss next new
 
-  -- nothing but reads and writings leads from one to the other
+  -- some steps, one after another, lead from a connection and what is served to what they are then
   pub record Stepped (conn : Connection) (old : E) (next : Connection) (new : E) : Type 0 where
     pub steps : List Step
     pub made : AreSteps conn old steps next new
@@ -122,7 +122,7 @@ module _ {E : Type 0} (does : E → Call → E → Type 0) (live : ℕ → E →
   AreMoves old [] new = new ≡ old
   AreMoves old (m ∷ ms) new = (mid : ServerState E) × IsMove old m mid × AreMoves mid ms new
 
-  -- nothing but such moves leads from one to the other
+  -- some moves, one after another, lead from the one state to the other
   pub record Moved (old new : ServerState E) : Type 0 where
     pub moves : List Move
     pub made : AreMoves old moves new

@@ -106,14 +106,20 @@ fn is_found_at(rt: &HostRuntime, office: &mut Office, port: u16) -> Result<bool,
     Ok(is_there && is_in && is_silent_elsewhere(rt, port))
 }
 
-// What is tried in an office of its own.
+/// What is tried in an office of its own.
 #[derive(Clone, Copy)]
 enum Case {
+    /// One connection more than there may be, where the others are silent.
     Crowd,
+    /// A login line that does not end.
     Login,
+    /// A session that a key ends.
     Quit,
+    /// A turn without work.
     Idle,
+    /// Two who share a text, and a third who is not let in.
     Together,
+    /// A port that was asked for.
     Port(u16),
 }
 

@@ -28,33 +28,45 @@ use std::alloc::Global;
 /// The fill column of a session that has set none.
 pub const FILL_COLUMN: usize = 72;
 
-/// What a session holds beside its windows and its kill buffer: its echo text, the keys and the argument that are half
-/// read, the kind of its last command, the column up to which it fills lines (1 to 9,999), the prompt that it answers, what it
-/// searched for last, its macro, what is still to be done in an event, and the search that goes on, which comes before a prompt.
-/// While there is a prompt, the keyboard holds the argument of the command that the prompt is for, and no keys; while an incremental
-/// search goes on, the bytes of a character that is not complete, which are those of a key when the search's buffer is killed.
+/// What a session holds beside its windows and its kill buffer.
 #[derive(Drop)]
 pub struct State {
+    /// The echo text.
     pub echo: Message,
+    /// The keys and the argument that are half read. While there is a prompt, the argument of the command that the prompt is for, and
+    /// no keys; while an incremental search goes on, the bytes of a character that is not complete, which are those of a key when the
+    /// search's buffer is killed.
     pub keyboard: Keyboard,
+    /// The kind of the last command.
     pub kind: Kind,
+    /// The column up to which lines are filled, 1 to 9,999.
     pub fill: usize,
+    /// The prompt that is answered.
     pub prompt: Option<Prompt>,
+    /// What was searched for last.
     pub pattern: SearchString,
+    /// The macro, and whether it is recorded.
     pub recorder: Recorder,
+    /// What is still to be done in an event.
     pub player: Player,
+    /// The search that goes on, which comes before a prompt.
     pub search: Option<Search>,
 }
 
 /// The state of a session. A position is a mark in the text of a buffer.
 #[derive(Drop)]
 pub struct Session {
+    /// The number by which it is known.
     pub id: SessionId,
+    /// Whose it is.
     pub user: Name,
     /// The columns of the screen; its rows are those of the windows.
     pub cols: usize,
+    /// Its windows.
     pub windows: Windows,
+    /// What it killed or copied.
     pub kill: KillBuffer,
+    /// All else.
     pub state: State,
 }
 

@@ -23,6 +23,7 @@ pub enum Pending {
     Replacement,
     /// The same, in a play of which no act was done so far.
     FirstReplacement,
+    /// The event is done.
     Nothing,
 }
 

@@ -11,9 +11,13 @@ use std::marker::Model;
 /// An edit of a text of `size` characters: `added` characters come in the place of those from `from` up to `to`.
 #[derive(Clone, Copy)]
 pub struct Edited {
+    /// How many characters the text had.
     pub size: usize,
+    /// Where what was taken out begins.
     pub from: usize,
+    /// Where it ends.
     pub to: usize,
+    /// How many characters came in.
     pub added: usize,
 }
 
@@ -92,13 +96,16 @@ pub enum Aim {
     Replace(Replacing),
 }
 
-/// A search that goes on: the buffer that it is in, its origin and its anchor there, and what it is for. A position past the text's end
-/// stands for the end.
+/// A search that goes on. A position past the text's end stands for the end.
 #[derive(Drop)]
 pub struct Search {
+    /// The buffer that it is in.
     pub name: Name,
+    /// Where it began.
     pub origin: usize,
+    /// Where it looks from: where the last match begins, and at first the origin.
     pub anchor: usize,
+    /// What it is for.
     pub aim: Aim,
 }
 

@@ -4,7 +4,8 @@ use Rattle.std.specs.Char.{is_ascii_digit, len_utf8}
 use Rattle.mgs_model.specs.Cells.{own_columns}
 use Rattle.mgs_term.specs.Screen.{Screen, blank_screen}
 use Rattle.mgs_term.specs.Sequences.{number, spelling, Accepts, has_room, after}
-use Rattle.mgs_term.specs.Terminal.{Terminal}
+use Rattle.mgs_term.specs.Terminal.{Terminal, Continues}
+use Rattle.mgs_term.specs.declared.operation.Operation.{Operation}
 use Rattle.mgs_term.specs.declared.operation.Operation.TheVariants.{Goto, Clear, Erase, Reverse, Plain, Unwrap, Print}
 use Rattle.mgs_term.specs.declared.place.Place.{Place}
 use Rattle.mgs_term.specs.declared.place.Place.TheVariants.{Ground, Escape, Bracket, Number, Row, Column, Question, Seven, Inside, Refused}
@@ -170,6 +171,10 @@ IsSpelled p b (Perform o) = spelling o ≡ begun_at p ++ b ∷ []
 -- what is known of it from outside
 abbrev pub terminal_of : Automaton → Terminal
 terminal_of t = record { screen = t.screen; begun = begun_at t.place; refused = is_out_of_profile t.place }
+
+-- the last byte of a sequence does what the sequence does, and nothing has begun then
+abbrev pub PerformsLast : Automaton → ℕ → Automaton → Type 0
+PerformsLast old byte new = (o : Operation) → Continues (terminal_of old) byte [] o → new ≡ record { screen = after o old.screen; place = Ground }
 
 abbrev pub new_automaton : ℕ → ℕ → Automaton
 new_automaton rows cols = record { screen = blank_screen rows cols; place = Ground }

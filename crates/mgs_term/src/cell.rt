@@ -2,7 +2,9 @@
 /// two columns stands `RIGHT_HALF`.
 #[derive(Clone, Copy, PartialEq, Eq)]
 pub struct Cell {
+    /// What stands in the cell: a space where nothing does.
     pub character: char,
+    /// Whether light and dark are exchanged.
     pub reversed: bool,
 }
 

@@ -1,12 +1,12 @@
-ghost use Rattle.std.specs.Prelude.{◌≡◌, ℕ, ◌+◌, ◌-◌, ◌*◌, ◌<◌, ◌≤◌, ◌++◌, ◌↔◌, length, take, drop, replicate, true, false, IsOk, IfOk, OnOk, OnErr, List, []};
+ghost use Rattle.std.specs.Prelude.{◌≡◌, ℕ, ◌+◌, ◌-◌, ◌*◌, ◌<◌, ◌≤◌, ◌++◌, ◌↔◌, length, take, drop, replicate, true, false, IsOk, IfOk, OnOk, OnErr, List};
 ghost use Rattle.mgs_model.specs.Picture.{IsSize};
 ghost use Rattle.mgs_model.specs.Cells.{own_cells};
 ghost use Rattle.mgs_term.specs.declared.operation.Operation.TheVariants.{Print};
 ghost use Rattle.mgs_term.specs.Screen.{Screen, IsScreen, blank_cell, own_shown, parted, written};
 ghost use Rattle.mgs_term.specs.Sequences.{Accepts, has_room, after};
-ghost use Rattle.mgs_term.specs.Terminal.{Continues, IsInner, Takes, TakesAll, RefusesSome, resting, going_on};
-ghost use Rattle.mgs_term.specs.Drawing.{Draws, Anything};
-ghost use Rattle.mgs_term.specs.Automaton.{Automaton, IsPlace, stepped, new_automaton, terminal_of};
+ghost use Rattle.mgs_term.specs.Terminal.{Continues, IsInner, TakesAll, RefusesSome, going_on};
+ghost use Rattle.mgs_term.specs.Drawing.{TakesDrawn};
+ghost use Rattle.mgs_term.specs.Automaton.{Automaton, IsPlace, PerformsLast, stepped, new_automaton, terminal_of};
 ghost use Rattle.mgs_term.specs.declared.place.Place.TheVariants.{Ground, Refused};
 ghost use Rattle.mgs_term.specs.declared.operation.Operation.{Operation};
 
@@ -166,7 +166,7 @@ impl Machine {
     pub(crate) fn feed(&mut self, byte: u8) -> Result<(), OutOfProfile>
         ensures stepped { self.new ≡ stepped self.old byte }
         ensures taken { IsOk result ↔ (o : Operation) × (rest : List ℕ) × Continues (terminal_of self.old) byte rest o }
-        ensures last { (o : Operation) → Continues (terminal_of self.old) byte [] o → self.new ≡ record { screen = after o self.old.screen; place = Ground } }
+        ensures last { PerformsLast self.old byte self.new }
         ensures inner { IsOk result → IsInner (terminal_of self.old) byte → terminal_of self.new ≡ going_on (terminal_of self.old) byte }
         ensures refused { OnErr result (self.new ≡ record { screen = self.old.screen; place = Refused }) }
     {
@@ -192,7 +192,7 @@ impl Machine {
 
     /// Takes bytes up to the first that is refused.
     pub(crate) fn feed_all(&mut self, bytes: &[u8]) -> Result<(), OutOfProfile>
-        ensures drawn { (s t : Screen) → terminal_of self.old ≡ resting s → Draws Anything bytes.now s t → IsOk result × (terminal_of self.new ≡ resting t) }
+        ensures drawn { TakesDrawn (terminal_of self.old) bytes.now result (terminal_of self.new) }
         ensures ok { OnOk result (TakesAll (terminal_of self.old) bytes.now (terminal_of self.new)) }
         ensures err { OnErr result (RefusesSome (terminal_of self.old) bytes.now (terminal_of self.new)) }
     {

@@ -2,7 +2,7 @@ ghost use Rattle.std.specs.Prelude.{◌≡◌, ℕ, ◌+◌, ◌-◌, ◌*◌, �
 ghost use Rattle.mgs_model.specs.Picture.{IsSize};
 ghost use Rattle.mgs_term.specs.Automaton.{span, lead, least, is_of_size, some_shown, reached, first_read, bytes_read, next_step, begun_at, IsPlace, IsNext, IsSpelled};
 ghost use Rattle.mgs_term.specs.declared.place.Place.{Place};
-ghost use Rattle.mgs_term.specs.declared.place.Place.TheVariants.{Ground, Bracket, Number, Column, Inside};
+ghost use Rattle.mgs_term.specs.declared.place.Place.TheVariants.{Ground, Bracket, Number, Row, Column, Inside};
 
 use crate::operation::Operation;
 use mgs_model::own_columns;
@@ -61,17 +61,7 @@ pub(crate) fn next_of(rows: usize, cols: usize, wrapping: bool, place: Place, by
     ensures spelled { IsSpelled place byte result }
 {
     match place {
-        Place::Ground => {
-            if byte == ESCAPE {
-                Next::Wait(Place::Escape)
-            } else if wrapping {
-                Next::Stuck
-            } else if (b' '..=b'~').contains(&byte) {
-                Next::Perform(Operation::Print(byte as char))
-            } else {
-                first_read(byte)
-            }
-        }
+        Place::Ground => next_ground(rows, cols, wrapping, byte),
         Place::Inside(size, read, value) => next_inside(
             rows, cols, wrapping, size, read, value, byte,
         ),
@@ -84,13 +74,7 @@ pub(crate) fn next_of(rows: usize, cols: usize, wrapping: bool, place: Place, by
         }
         Place::Bracket => next_bracket(rows, cols, wrapping, byte),
         Place::Number(number) => next_number(rows, cols, wrapping, number, byte),
-        Place::Row(row) => {
-            if (b'1'..=b'9').contains(&byte) && digit_of(byte) <= cols {
-                Next::Wait(Place::Column(row, digit_of(byte)))
-            } else {
-                Next::Stuck
-            }
-        }
+        Place::Row(row) => next_row(rows, cols, wrapping, row, byte),
         Place::Column(row, column) => next_column(rows, cols, wrapping, row, column, byte),
         Place::Question => {
             if byte == b'7' {
@@ -217,6 +201,23 @@ fn first_read(byte: u8) -> Next
     }
 }
 
+/// The first byte of a sequence.
+fn next_ground(rows: usize, cols: usize, wrapping: bool, byte: u8) -> Next
+    ensures next { result ≡ next_step rows cols wrapping Ground byte }
+    ensures fits { IsNext rows cols wrapping result }
+    ensures spelled { IsSpelled Ground byte result }
+{
+    if byte == ESCAPE {
+        Next::Wait(Place::Escape)
+    } else if wrapping {
+        Next::Stuck
+    } else if (b' '..=b'~').contains(&byte) {
+        Next::Perform(Operation::Print(byte as char))
+    } else {
+        first_read(byte)
+    }
+}
+
 /// A further byte of a character past ASCII.
 fn next_inside(
     rows: usize,
@@ -273,6 +274,20 @@ fn next_number(rows: usize, cols: usize, wrapping: bool, number: usize, byte: u8
         Next::Wait(Place::Row(number))
     } else if byte.is_ascii_digit() && number * 10 + digit_of(byte) <= rows {
         Next::Wait(Place::Number(number * 10 + digit_of(byte)))
+    } else {
+        Next::Stuck
+    }
+}
+
+fn next_row(rows: usize, cols: usize, wrapping: bool, row: usize, byte: u8) -> Next
+    requires size { IsSize rows cols }
+    requires row { IsPlace rows cols wrapping (Row row) }
+    ensures next { result ≡ next_step rows cols wrapping (Row row) byte }
+    ensures fits { IsNext rows cols wrapping result }
+    ensures spelled { IsSpelled (Row row) byte result }
+{
+    if (b'1'..=b'9').contains(&byte) && digit_of(byte) <= cols {
+        Next::Wait(Place::Column(row, digit_of(byte)))
     } else {
         Next::Stuck
     }

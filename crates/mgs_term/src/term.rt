@@ -1,8 +1,8 @@
 ghost use Rattle.std.specs.Prelude.{◌≡◌, ℕ, ◌+◌, ◌*◌, ◌↔◌, IsOk, IfOk, OnOk, OnErr, List, [], length};
 ghost use Rattle.mgs_model.specs.Picture.{IsSize};
-ghost use Rattle.mgs_term.specs.Screen.{Screen, IsScreen, blank_screen};
+ghost use Rattle.mgs_term.specs.Screen.{IsScreen, blank_screen};
 ghost use Rattle.mgs_term.specs.Sequences.{after};
-ghost use Rattle.mgs_term.specs.Drawing.{Draws, Anything};
+ghost use Rattle.mgs_term.specs.Drawing.{TakesDrawn};
 ghost use Rattle.mgs_term.specs.Terminal.{Terminal, Continues, IsInner, TakesAll, RefusesSome, resting, refusing, going_on};
 ghost use Rattle.mgs_term.specs.Automaton.{terminal_of};
 ghost use Rattle.mgs_term.specs.declared.operation.Operation.{Operation};
@@ -72,7 +72,7 @@ impl Term {
         ensures ok { OnOk result (TakesAll self.old bytes.now self.new) }
         ensures err { OnErr result (RefusesSome self.old bytes.now self.new) }
         // Bytes that draw, between two sequences, are all taken, and leave the screen to which they lead.
-        ensures drawn { (s t : Screen) → self.old ≡ resting s → Draws Anything bytes.now s t → IsOk result × (self.new ≡ resting t) }
+        ensures drawn { TakesDrawn self.old bytes.now result self.new }
     {
         self.machine.feed_all(bytes)
     }

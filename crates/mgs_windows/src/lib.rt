@@ -20,28 +20,44 @@ use std::marker::Model;
 /// A buffer in a window: the marks of the window's point, mark and top in the buffer's text.
 #[derive(Clone, Copy)]
 pub struct WindowMarks {
+    /// The buffer.
     pub name: Name,
+    /// The mark of the point.
     pub point: MarkId,
+    /// The mark of the window's mark, where that is set.
     pub mark: Option<MarkId>,
+    /// The mark of the top: where the text begins that is shown.
     pub top: MarkId,
 }
 
-/// What a window without a text shows: nothing, the list of all buffers, or the access list of the buffer of this name. A
-/// list begins at a row.
+/// What a window without a text shows.
 #[derive(Clone, Copy, Default)]
 pub enum RowPane {
+    /// Nothing.
     #[default]
     NoRows,
-    Buffers { row: usize },
-    Entries { name: Name, row: usize },
+    /// The list of all buffers.
+    Buffers {
+        /// The row that it begins at.
+        row: usize,
+    },
+    /// The access list of a buffer.
+    Entries {
+        /// The buffer.
+        name: Name,
+        /// The row that it begins at.
+        row: usize,
+    },
 }
 
-/// A window: how many rows its pane has, and the buffer whose text it shows. Where it shows no text, it shows the rows; where
-/// it does, these count for nothing.
+/// A window: a pane and its mode line.
 #[derive(Clone, Copy, Default)]
 pub struct Window {
+    /// How many rows the pane has.
     pub height: usize,
+    /// The buffer whose text it shows.
     pub shows: Option<WindowMarks>,
+    /// What it shows where it shows no text; where it does, this counts for nothing.
     pub rows: RowPane,
 }
 

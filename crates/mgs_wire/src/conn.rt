@@ -15,16 +15,16 @@ use mgs_model::{SessionId, Short, Tickets};
 use std::alloc::Global;
 use std::marker::Model;
 
-// How far a connection is.
+/// How far a connection is.
 #[derive(Clone, Copy)]
 pub(crate) enum Stage {
-    // Its login line is read.
+    /// Its login line is read.
     Login,
-    // Its bytes are a session's.
+    /// Its bytes are a session's.
     Session(SessionId),
-    // Its login was refused, and the line that tells of it is written.
+    /// Its login was refused, and the line that tells of it is written.
     Refused,
-    // Nothing more is read or written. The session is the one that it had.
+    /// Nothing more is read or written. The session is the one that it had.
     Over(Option<SessionId>),
 }
 

@@ -27,14 +27,14 @@ pub(crate) fn drop_front(line: &mut Vec<u8>, n: usize)
     line.truncate(rest);
 }
 
-// What a login line came to.
+/// What a login line came to.
 #[derive(Clone, Copy)]
 pub(crate) enum LineRead<'a> {
-    // It goes on.
+    /// It goes on.
     Part,
-    // It is whole, and these bytes stand after its line feed.
+    /// It is whole, and these bytes stand after its line feed.
     Whole(&'a [u8]),
-    // It is too long.
+    /// It is too long.
     TooLong,
 }
 

@@ -19,11 +19,14 @@ struct Login<'a> {
     cols: usize,
 }
 
-// The session that a login opens.
+/// The session that a login opens.
 #[derive(Clone, Copy)]
 pub(crate) struct Opening<'a> {
+    /// The name of its user.
     pub(crate) user: &'a str,
+    /// The rows of its screen, as the line says them.
     pub(crate) rows: usize,
+    /// The columns of its screen, as the line says them.
     pub(crate) cols: usize,
 }
 
