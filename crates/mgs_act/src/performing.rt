@@ -1,5 +1,5 @@
 // An action is done: in the buffers, and to the session that acts.
-ghost use Rattle.std.specs.Prelude.{◌≡◌, ◌+◌, ◌-◌, ◌^◌, ◌++◌, ◌<◌, ◌≤◌, ℕ, List, [], length, Option, Some, None, IfOk, OnOk, OnErr, true};
+ghost use Rattle.std.specs.Prelude.{◌≡◌, ◌+◌, ◌-◌, ◌^◌, ◌<◌, ◌≤◌, ℕ, List, [], length, take, Option, Some, None, IfOk, OnOk, OnErr, true};
 ghost use Rattle.mgs_model.specs.Apply.{change_first, kill_after};
 ghost use Rattle.mgs_laws.specs.Refusals.{kill_takes_memory};
 ghost use Rattle.mgs_buffers.specs.Changing.{writes};
@@ -25,62 +25,53 @@ use mgs_marks::Marked;
 use mgs_model::{Kind, MarkId, Mask, Message, Name, Right, Short, Touched};
 use mgs_plan::{Action, edit_of, follow};
 use mgs_policy::Directory;
-use mgs_session::{Session, fail, finish, set_kill};
+use mgs_session::{KillBuffer, Session, fail, finish, set_kill};
 use mgs_text::Text;
 use mgs_windows::WindowMarks;
 use mgs_world::{give_up_mark, reserve_mark, set_mark};
 use std::alloc::Global;
 
-/// One text behind another. `Short`: memory was refused.
-fn joined(alloc: Global, front: &[char], behind: &[char]) -> Result<Vec<char>, Short>
-    ensures { IfOk result (λ v. v.items ≡ front.now ++ behind.now) }
-{
-    let mut chars = Vec::new(alloc);
-    match chars.extend_from_slice(front) {
-        Ok(()) => {}
-        Err(_) => return Err(Short),
-    }
-    match chars.extend_from_slice(behind) {
-        Ok(()) => Ok(chars),
-        Err(_) => Err(Short),
-    }
-}
-
-/// The kill buffer that a piece makes. `Short`: memory was refused.
+/// A piece of a text is killed: one that joins behind is in the kill buffer then, and for any other the kill buffer that it makes is
+/// handed back, for later. `Short`: memory was refused, and the kill buffer is as it was.
 fn killed<T: Text>(
-    alloc: Global,
     text: &T,
-    kill: &[char],
+    kill: &mut KillBuffer,
     piece: &Piece,
-) -> Result<Vec<char>, Short>
+) -> Result<Option<Vec<char>>, Short>
     requires { PieceWithin (length (T.text text.now)) (Some piece.now) }
-    ensures { IfOk result (λ v. (old : List ℕ) → v.items ≡ kill_after (kill_read (T.text text.now) kill.now (Some piece.now)) old) }
+    ensures ok { IfOk result (λ made. kill_set made kill.new ≡ kill_after (kill_read (T.text text.now) kill.old (Some piece.now)) kill.old) }
+    ensures held { OnOk result (take (length kill.old) kill.new ≡ kill.old) }
+    ensures err { OnErr result (kill.new ≡ kill.old) }
 {
-    let chars = text.copy(piece.from, piece.to)?;
+    let mut chars = text.copy(piece.from, piece.to)?;
     match piece.joins {
-        Joins::New => Ok(chars),
-        Joins::Behind => joined(alloc, kill, &chars),
-        Joins::InFront => joined(alloc, &chars, kill),
+        Joins::New => Ok(Some(chars)),
+        Joins::Behind => match kill.extend(&chars) {
+            Ok(()) => Ok(None),
+            Err(short) => Err(short),
+        },
+        Joins::InFront => match chars.extend_from_slice(kill.as_slice()) {
+            Ok(()) => Ok(Some(chars)),
+            Err(_) => Err(Short),
+        },
     }
 }
 
 /// The same, where a piece is killed.
 fn killed_if<T: Text>(
-    alloc: Global,
     text: &T,
-    kill: &[char],
+    kill: &mut KillBuffer,
     piece: &Option<Piece>,
 ) -> Result<Option<Vec<char>>, Short>
     requires { PieceWithin (length (T.text text.now)) piece.now }
-    ensures ok { IfOk result (λ made. (old : List ℕ) → kill_set made old ≡ kill_after (kill_read (T.text text.now) kill.now piece.now) old) }
-    ensures may { OnErr result (kill_takes_memory (kill_read (T.text text.now) kill.now piece.now) ≡ true) }
+    ensures ok { IfOk result (λ made. kill_set made kill.new ≡ kill_after (kill_read (T.text text.now) kill.old piece.now) kill.old) }
+    ensures held { OnOk result (take (length kill.old) kill.new ≡ kill.old) }
+    ensures err { OnErr result (kill.new ≡ kill.old) }
+    ensures may { OnErr result (kill_takes_memory (kill_read (T.text text.now) kill.old piece.now) ≡ true) }
 {
     match piece {
         None => Ok(None),
-        Some(piece) => match killed(alloc, text, kill, piece) {
-            Ok(chars) => Ok(Some(chars)),
-            Err(short) => Err(short),
-        },
+        Some(piece) => killed(text, kill, piece),
     }
 }
 
@@ -330,25 +321,29 @@ fn change_text<T: Marked + Drop>(
     ensures may { OnErr result (MayBeShort window_marks.now buffers.old session.old.kill (Edits mask change.now)) }
 {
     let name = &window_marks.name;
-    let kill = killed_if(
-        alloc,
-        buffers.text(name),
-        session.kill.as_slice(),
-        &change.finish.kill,
-    )?;
-    let held = session.kill.as_slice();
-    let behind = edit_if(
+    let held = session.kill.as_slice().len();
+    let made = killed_if(buffers.text(name), &mut session.kill, &change.finish.kill)?;
+    // What the edit puts in is of the kill buffer as it was.
+    let kill = &session.kill.as_slice()[..held];
+    match edit_if(
         alloc,
         buffers,
         directory,
         &session.user,
         name,
-        held,
+        kill,
         mask,
         change,
-    )?;
-    leave(buffers, session, window_marks, &change.finish, behind, kill);
-    Ok(())
+    ) {
+        Ok(behind) => {
+            leave(buffers, session, window_marks, &change.finish, behind, made);
+            Ok(())
+        }
+        Err(short) => {
+            session.kill.truncate(held);
+            Err(short)
+        }
+    }
 }
 
 /// An undo is done. `Short`: memory was refused, and nothing was done.
@@ -377,7 +372,6 @@ fn take_back<T: Marked + Drop>(
 
 /// A motion is done. `Short`: memory was refused, and nothing was done.
 fn move_point<T: Marked + Drop>(
-    alloc: Global,
     buffers: &mut Buffers<T>,
     session: &mut Session,
     window_marks: &WindowMarks,
@@ -391,13 +385,9 @@ fn move_point<T: Marked + Drop>(
     ensures same { OnErr result (session.new ≡ session.old) }
     ensures may { OnErr result (MayBeShort window_marks.now buffers.old session.old.kill (Moves left.now)) }
 {
-    let kill = killed_if(
-        alloc,
-        buffers.text(&window_marks.name),
-        session.kill.as_slice(),
-        &left.kill,
-    )?;
-    leave(buffers, session, window_marks, left, 0, kill);
+    let text = buffers.text(&window_marks.name);
+    let made = killed_if(text, &mut session.kill, &left.kill)?;
+    leave(buffers, session, window_marks, left, 0, made);
     Ok(())
 }
 
@@ -438,7 +428,7 @@ fn carry_out<T: Marked + Drop>(
         Action::Undoes(undone) => {
             take_back(alloc, buffers, directory, session, window_marks, undone)
         }
-        Action::Moves(left) => move_point(alloc, buffers, session, window_marks, left),
+        Action::Moves(left) => move_point(buffers, session, window_marks, left),
         Action::Clears => {
             // It was granted when it was planned.
             let _done = buffers.unmodify_as(directory, &session.user, &window_marks.name);

@@ -31,6 +31,18 @@ fn a_refused_insertion_is_not_done(rt: HostRuntime) -> Result<(), Fail> {
     comes_out(&rt, rt.alloc(), text, &["ann"], steps)
 }
 
+// What joined the kill buffer before the edit is taken out again.
+#[test]
+fn a_refused_kill_leaves_the_kill_buffer(rt: HostRuntime) -> Result<(), Fail> {
+    let text = "notes ann | ALLOW OWNER@ rwatdcCo | 44ab cd";
+    let steps = "
+        1 M-d | Done  |  cd     | -**-notes-L1-C0 |
+        1 M-d | Short |  cd     | -**-notes-L1-C0 | No memory
+        1 C-y | Done  | 44ab cd | -**-notes-L1-C4 |
+    ";
+    comes_out(&rt, rt.alloc(), text, &["ann"], steps)
+}
+
 // What is half read is forgotten: the argument does not count for the next key. A split takes marks.
 #[test]
 fn a_refused_word_is_forgotten(rt: HostRuntime) -> Result<(), Fail> {

@@ -1,6 +1,7 @@
 // What a session has killed.
-ghost use Rattle.std.specs.Prelude.{◌≡◌, []};
+ghost use Rattle.std.specs.Prelude.{◌≡◌, ◌++◌, [], take, OnOk, OnErr};
 
+use mgs_model::Short;
 use std::alloc::Global;
 use std::marker::Model;
 
@@ -33,6 +34,24 @@ impl KillBuffer {
         ensures { result.now ≡ self.now }
     {
         self.text.as_slice()
+    }
+
+    /// Holds these too, behind the others. `Short`: memory was refused, and it is as it was.
+    pub fn extend(&mut self, piece: &[char]) -> Result<(), Short>
+        ensures ok { OnOk result (self.new ≡ self.old ++ piece.now) }
+        ensures err { OnErr result (self.new ≡ self.old) }
+    {
+        match self.text.extend_from_slice(piece) {
+            Ok(()) => Ok(()),
+            Err(_) => Err(Short),
+        }
+    }
+
+    /// Holds the first `len` characters alone.
+    pub fn truncate(&mut self, len: usize)
+        ensures { self.new ≡ take len self.old }
+    {
+        self.text.truncate(len);
     }
 
     /// Holds other characters.

@@ -1,4 +1,5 @@
 use Rattle.std.proofs.Common.{ℕ, ◌+◌, List, length, ◌∙◌, sym, ap, subst, arith}
+use Rattle.std.specs.Prelude.{take}
 use Rattle.mgs_buffers.specs.MarkedBuffer.{MarkedBuffer, marked_at}
 use Rattle.mgs_edit.specs.Reading.{GoesWithin, IsWithin, change_read, point_read, put_read, top_read}
 use Rattle.mgs_plan.specs.Actions.{edited_by, mark_gone}
@@ -6,48 +7,47 @@ use Rattle.mgs_plan.proofs.Leaving.{length_edited_by, marks_edited_by}
 use Rattle.mgs_world.proofs.Soundness.{mark_is_kept}
 use Rattle.mgs_act.proofs.performing.change_text.Goals as goal
 
-pub edit_if-requires-clause-writes : goal.edit_if-requires-clause-writes
-edit_if-requires-clause-writes g c = c.requires.granted.1
-
-pub edit_if-requires-clause-granted : goal.edit_if-requires-clause-granted
-edit_if-requires-clause-granted g c = c.requires.granted.0
-
 pub leave-requires-clause-marks : goal.leave-requires-clause-marks
 leave-requires-clause-marks g c =
+    let held = (λ i. take (length (c.as_slice-held.ensures i)) (c.as_slice.ensures i)) ∙ c.in_ok-made.ensures.held in
     let x = c.args.window_marks.now in
     let change = change_read (marked_at x.name c.args.buffers.now).buffer.text c.args.session.now.kill c.args.change.now in
-    rw (c.in_ok-behind.ensures.ok, c.as_slice-held.ensures) (marks_edited_by change c.args.buffers.now x c.requires.marks)
+    rw (c.in-Ok.ensures.ok, held) (marks_edited_by change c.args.buffers.now x c.requires.marks)
 
 pub leave-requires-clause-point : goal.leave-requires-clause-point
 leave-requires-clause-point g c =
+    let held = (λ i. take (length (c.as_slice-held.ensures i)) (c.as_slice.ensures i)) ∙ c.in_ok-made.ensures.held in
     let x = c.args.window_marks.now in
     let ks = c.args.buffers.now in
     let change = change_read (marked_at x.name ks).buffer.text c.args.session.now.kill c.args.change.now in
     let within = c.requires.can.within in
-    rw (c.in_ok-behind.ensures.ok, c.as_slice-held.ensures) (subst (λ n. GoesWithin n c.args.change.now.finish.point) (sym (length_edited_by x.name change ks (mark_is_kept x.name x.point ks c.requires.marks.point) within.order within.within)) within.finish.point)
+    rw (c.in-Ok.ensures.ok, held) (subst (λ n. GoesWithin n c.args.change.now.finish.point) (sym (length_edited_by x.name change ks (mark_is_kept x.name x.point ks c.requires.marks.point) within.order within.within)) within.finish.point)
 
 pub leave-requires-clause-top : goal.leave-requires-clause-top
 leave-requires-clause-top g c =
+    let held = (λ i. take (length (c.as_slice-held.ensures i)) (c.as_slice.ensures i)) ∙ c.in_ok-made.ensures.held in
     let x = c.args.window_marks.now in
     let ks = c.args.buffers.now in
     let change = change_read (marked_at x.name ks).buffer.text c.args.session.now.kill c.args.change.now in
     let within = c.requires.can.within in
-    rw (c.in_ok-behind.ensures.ok, c.as_slice-held.ensures) (subst (λ n. IsWithin n c.args.change.now.finish.top) (sym (length_edited_by x.name change ks (mark_is_kept x.name x.point ks c.requires.marks.point) within.order within.within)) within.finish.top)
+    rw (c.in-Ok.ensures.ok, held) (subst (λ n. IsWithin n c.args.change.now.finish.top) (sym (length_edited_by x.name change ks (mark_is_kept x.name x.point ks c.requires.marks.point) within.order within.within)) within.finish.top)
 
 pub leave-requires-clause-behind : goal.leave-requires-clause-behind
 leave-requires-clause-behind g c =
+    let held = (λ i. take (length (c.as_slice-held.ensures i)) (c.as_slice.ensures i)) ∙ c.in_ok-made.ensures.held in
     let x = c.args.window_marks.now in
     let ks = c.args.buffers.now in
     let change = change_read (marked_at x.name ks).buffer.text c.args.session.now.kill c.args.change.now in
     let within = c.requires.can.within in
-    rw (c.in_ok-behind.ensures.ok, c.as_slice-held.ensures) (omega (arith, c.in_ok-behind.ensures.end, ap (λ (kill : List ℕ). length (put_read (marked_at x.name ks).buffer.text kill c.args.change.now.put)) c.as_slice-held.ensures, length_edited_by x.name change ks (mark_is_kept x.name x.point ks c.requires.marks.point) within.order within.within, within.order, within.within))
+    rw (c.in-Ok.ensures.ok, held) (omega (arith, c.in-Ok.ensures.end, ap (λ (kill : List ℕ). length (put_read (marked_at x.name ks).buffer.text kill c.args.change.now.put)) held, length_edited_by x.name change ks (mark_is_kept x.name x.point ks c.requires.marks.point) within.order within.within, within.order, within.within))
 
-pub returns-clause-ok : goal.returns-clause-ok
-returns-clause-ok g c =
+pub returns-in-Ok-clause-ok : goal.returns-in-Ok-clause-ok
+returns-in-Ok-clause-ok g c =
+    let held = (λ i. take (length (c.as_slice-held.ensures i)) (c.as_slice.ensures i)) ∙ c.in_ok-made.ensures.held in
     let x = c.args.window_marks.now in
     let left = c.args.change.now.finish in
     let text = (marked_at x.name c.args.buffers.now).buffer.text in
     c.leave.ensures.marks
-    ∙ ap (λ (ks : List MarkedBuffer). mark_gone x.name x.top (top_read left.top) (mark_gone x.name x.point (point_read c.in_ok-behind.behind left.point) ks)) c.in_ok-behind.ensures.ok
-    ∙ ap (λ (behind : ℕ). mark_gone x.name x.top (top_read left.top) (mark_gone x.name x.point (point_read behind left.point) (edited_by x.name (change_read text c.as_slice-held.result.now c.args.change.now) c.args.buffers.now))) c.in_ok-behind.ensures.end
-    ∙ ap (λ (kill : List ℕ). mark_gone x.name x.top (top_read left.top) (mark_gone x.name x.point (point_read (c.args.change.now.from + length (put_read text kill c.args.change.now.put)) left.point) (edited_by x.name (change_read text kill c.args.change.now) c.args.buffers.now))) c.as_slice-held.ensures
+    ∙ ap (λ (ks : List MarkedBuffer). mark_gone x.name x.top (top_read left.top) (mark_gone x.name x.point (point_read c.in-Ok.behind left.point) ks)) c.in-Ok.ensures.ok
+    ∙ ap (λ (behind : ℕ). mark_gone x.name x.top (top_read left.top) (mark_gone x.name x.point (point_read behind left.point) (edited_by x.name (change_read text (take (length c.as_slice-held.result.now) c.as_slice.result.now) c.args.change.now) c.args.buffers.now))) c.in-Ok.ensures.end
+    ∙ ap (λ (kill : List ℕ). mark_gone x.name x.top (top_read left.top) (mark_gone x.name x.point (point_read (c.args.change.now.from + length (put_read text kill c.args.change.now.put)) left.point) (edited_by x.name (change_read text kill c.args.change.now) c.args.buffers.now))) held
