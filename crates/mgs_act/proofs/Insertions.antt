@@ -1,9 +1,7 @@
 -- What is done where a text is inserted into a window's buffer, and the mark set.
-use Rattle.std.proofs.Common.{◌≡◌, ℕ, ◌+◌, ◌<◌, ◌≤◌, ◌==◌, Bool, true, false, cond, List, [], length, map, Option, Some, None, refl, sym, ap, ◌∙◌, arith}
-use Rattle.std.specs.Prelude.{slice_get, slice_set, Result, Ok, Err, OnOk, OnErr}
+use Rattle.std.proofs.Common.{◌≡◌, ℕ, ◌+◌, ◌<◌, ◌≤◌, ◌==◌, Bool, true, false, cond, List, [], length, Option, Some, refl, sym, ap, ◌∙◌, arith}
+use Rattle.std.specs.Prelude.{slice_get, slice_set}
 use Rattle.std.specs.List.{position_or_len}
-use Rattle.std.specs.Option.{option_and_then}
-use Rattle.std.proofs.lemmas.Option.{get_or_from_slice_get}
 use Rattle.mgs_model.specs.Access.{Directory}
 use Rattle.mgs_model.specs.Apply.{apply}
 use Rattle.mgs_buffers.specs.MarkedBuffer.{HasBuffer, IsMark, MarkedBuffer, marked_at}
@@ -15,12 +13,10 @@ use Rattle.mgs_plan.specs.Actions.{AreMarks, edited_by, insertion_mask}
 use Rattle.mgs_plan.specs.Following.{edit_told, followed}
 use Rattle.mgs_plan.specs.Inserting.{IsInserted, buffers_inserted, insertion_of, leaving, put_outcome}
 use Rattle.mgs_world.specs.Sound.{IsSound}
-use Rattle.mgs_world.specs.WindowMarks.{WindowMarksDropped}
-use Rattle.mgs_world.specs.Worlds.{id_after, idle, state_at, state_of, state_or_first, session_id, session_of, world_of}
-use Rattle.mgs_world.proofs.SelectedMark.{given_up_sessions, given_up_sound, reserved_mark}
-use Rattle.mgs_world.proofs.Soundness.{mark_is_kept, sound_placed, sound_set}
-use Rattle.mgs_world.proofs.Worlds.{same_world}
-use Rattle.mgs_plan.proofs.Deeds.{acting_marks, fresh_state, set_back}
+use Rattle.mgs_world.specs.Worlds.{idle, state_at, state_or_first, session_id, world_of}
+use Rattle.mgs_world.proofs.SelectedMark.{reserved_mark}
+use Rattle.mgs_world.proofs.Soundness.{mark_is_kept, sound_placed}
+use Rattle.mgs_plan.proofs.Deeds.{fresh_state}
 use Rattle.mgs_plan.proofs.Leaving.{length_edited_by}
 use Rattle.mgs_act.proofs.Marked.{held_then, mark_there, marked_so, reserved_marks, text_left}
 
@@ -47,36 +43,18 @@ insertion_writes mask place size is = ap writes is ∙ by (place == size)
 
 -- THE WORLD
 
-module _ (ks ls : List MarkedBuffer) (xs : List Session) (at place : ℕ) (put : List ℕ) (x : WindowMarks) (h y : Session) (found : slice_get xs at ≡ Some h) where
-  sound_then : IsSound ks xs → window_marks_of h ≡ Some x → AreMarks ks x → IsInserted x place put ks ls h y → IsSound ls (slice_set xs at y)
-  sound_then sound sel marks m =
+module _ (ks ls : List MarkedBuffer) (xs : List Session) (at place : ℕ) (put : List ℕ) (x : WindowMarks) (h y : Session) (found : slice_get xs at ≡ Some h) (sound : IsSound ks xs) (sel : window_marks_of h ≡ Some x) (marks : AreMarks ks x) (m : IsInserted x place put ks ls h y) where
+  pub inserted_sound : IsSound ls (slice_set xs at y)
+  inserted_sound =
       let change = insertion_of place put in
       let kept = mark_is_kept x.name x.point ks marks.point in
       let marks_l = reserved_marks x m.id ks m.between kept m.reserved marks in
       let mark = mark_there x m.id change change.finish m.between (reserved_mark x.mark m.id ks m.between xs at h x refl sound kept found sel m.reserved) marks_l in
       rw (m.buffers, m.session) (sound_placed x.name m.id place _ _ mark (held_then ks m.between xs at m.id h x change change.finish change.finish sound kept m.reserved found sel marks_l))
 
-  inserted_so : (directory : Directory) (next : Option ℕ) (id : ℕ) → at ≡ position_or_len (session_id id) xs → at < length xs → IsSound ks xs → window_marks_of h ≡ Some x → AreMarks ks x → state_of h.state ≡ idle (state_of h.state) → IsInserted x place put ks ls h y
-      → place ≤ length (marked_at x.name ks).buffer.text
-      → world_of directory ls (followed x.name (edit_told (length (marked_at x.name ks).buffer.text) (insertion_of place put)) (slice_set xs at y)) next ≡ apply (world_of directory ks xs next) id (put_outcome (state_of h.state) x.name place put)
-  inserted_so directory next id there within sound sel marks fresh m room =
+  pub inserted_so : (directory : Directory) (next : Option ℕ) (id : ℕ) → at ≡ position_or_len (session_id id) xs → at < length xs → state_at at xs ≡ idle (state_at at xs) → place ≤ length (marked_at x.name ks).buffer.text
+      → world_of directory ls (followed x.name (edit_told (length (marked_at x.name ks).buffer.text) (insertion_of place put)) (slice_set xs at y)) next ≡ apply (world_of directory ks xs next) id (put_outcome (state_at at xs) x.name place put)
+  inserted_so directory next id there within fresh room =
       rw (m.buffers, m.session)
-      (marked_so directory ks m.between xs next id at m.id place h x (insertion_of place put) (place + length put) [] (leaving place) (omega arith) room sound (mark_is_kept x.name x.point ks marks.point) m.reserved there within found sel marks fresh refl refl)
-
-  module _ {T E : Type 0} where
-    pub inserted_sound : (r : Result T E) → option_and_then window_marks_of (slice_get xs at) ≡ Some x → OnOk r (IsInserted x place put ks ls h y) → OnErr r (WindowMarksDropped None ks ls) → OnErr r (y ≡ h) → IsSound ks xs → IsSound ls (slice_set xs at y)
-    inserted_sound (Ok o) sel ok err same sound = sound_then sound (sym (ap (option_and_then window_marks_of) found) ∙ sel) (acting_marks ks xs at x sound sel) ok
-    inserted_sound (Err e) sel ok err same sound = rw same (sound_set ls xs at h h (sym (get_or_from_slice_get xs at h h found)) (λ n i. refl) (given_up_sound ks ls xs err sound))
-
-    pub inserted_ok : (r : Result T E) → place ≤ length (marked_at x.name ks).buffer.text → OnOk r (IsInserted x place put ks ls h y) → IsSound ks xs → at < length xs → option_and_then window_marks_of (slice_get xs at) ≡ Some x → state_at at xs ≡ idle (state_at at xs)
-        → OnOk r ((directory : Directory) (id : ℕ) (next : Option ℕ) → at ≡ position_or_len (session_id id) xs → world_of directory ls (followed x.name (edit_told (length (marked_at x.name ks).buffer.text) (insertion_of place put)) (slice_set xs at y)) next ≡ apply (world_of directory ks xs next) id (put_outcome (state_at at xs) x.name place put))
-    inserted_ok (Ok o) room ok sound within sel fresh = λ directory id next there.
-        inserted_so directory next id there within sound (sym (ap (option_and_then window_marks_of) found) ∙ sel) (acting_marks ks xs at x sound sel) (fresh_state xs at h found fresh) ok room
-        ∙ ap (λ s. apply (world_of directory ks xs next) id (put_outcome (state_or_first s) x.name place put)) (sym found)
-    inserted_ok (Err e) room ok sound within sel fresh = ok
-
-    pub inserted_err : (r : Result T E) → OnErr r (WindowMarksDropped None ks ls) → OnErr r (y ≡ h) → IsSound ks xs → OnErr r ((directory : Directory) (next : Option ℕ) → world_of directory ls (slice_set xs at y) next ≡ world_of directory ks xs next)
-    inserted_err (Ok o) err same sound = err
-    inserted_err (Err e) err same sound = λ directory next.
-        same_world directory _ _ _ _ (id_after next) err.buffers
-        (rw same (ap (map (session_of ls)) (set_back xs at h found)) ∙ given_up_sessions ks ls xs err sound)
+      (marked_so directory ks m.between xs next id at m.id place h x (insertion_of place put) (place + length put) [] (leaving place) (omega arith) room sound (mark_is_kept x.name x.point ks marks.point) m.reserved there within found sel marks (fresh_state xs at h found fresh) refl refl)
+      ∙ ap (λ s. apply (world_of directory ks xs next) id (put_outcome (state_or_first s) x.name place put)) (sym found)

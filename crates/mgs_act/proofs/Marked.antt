@@ -26,6 +26,8 @@ use Rattle.mgs_plan.specs.declared.action.Action.{Action}
 use Rattle.mgs_plan.specs.declared.action.Action.TheVariants.{Fails, Edits, Undoes, Moves, Clears}
 use Rattle.mgs_plan.specs.Following.{edit_through, edit_told, followed}
 use Rattle.mgs_plan.specs.Actions.{AreMarks, CanBeDone, IsMarked, edited_by, kill_at, kill_or_none, mark_gone, mark_told, marked_after, marks_gone, outcome_through, removed_by, session_finished}
+use Rattle.mgs_act.specs.Performing.{IsCarriedOut, IsCarriedOutBy, acted_in, buffers_acted}
+use Rattle.mgs_world.specs.Acted.{IsUnchanged}
 use Rattle.mgs_world.specs.Marking.{IsReserved, mark_at_place, session_marked}
 use Rattle.mgs_world.specs.Sound.{IsSound}
 use Rattle.mgs_world.specs.WindowMarks.{WindowMarksDropped}
@@ -37,7 +39,7 @@ use Rattle.mgs_world.proofs.Owns.{search_at_rest}
 use Rattle.mgs_world.proofs.WindowMarks.{added_mark}
 use Rattle.mgs_world.proofs.Worlds.{buffers_placed, same_world}
 use Rattle.mgs_world.proofs.Unmodified.{marks_unmodified}
-use Rattle.mgs_plan.proofs.Deeds.{acting_marks, at_twice, edited_buffers, edited_sound, ended, finished_there, fresh_state, gone_buffers, gone_sound, no_quit, once_used, set_back, unmarked, set_twice}
+use Rattle.mgs_plan.proofs.Deeds.{acting_marks, after_ok, after_sound, at_twice, edited_buffers, edited_sound, ended, finished_there, fresh_state, gone_buffers, gone_sound, no_quit, once_used, set_back, unmarked, set_twice}
 use Rattle.mgs_plan.proofs.Followed.{get_followed, place_followed, sessions_went, set_followed, sound_kept, within_followed}
 use Rattle.mgs_plan.proofs.Leaving.{length_edited_by, mark_edited_by, mark_still, text_gone, used_once}
 
@@ -241,24 +243,45 @@ sound_then ks ls xs at p x h y (Moves f) sound is sel marks told m =
     rw (m.buffers, m.session) (sound_placed x.name m.id p _ _ mark (held_then ks m.between xs at m.id h x change left left sound kept m.reserved is sel marks_l))
 sound_then ks ls xs at p x h y Clears sound is sel marks told m = cc
 
-pub marked_sound : {T E : Type 0} (r : Result T E) (ks ls : List MarkedBuffer) (xs : List Session) (at p : ℕ) (x : WindowMarks) (h y : Session) (action : Action) → slice_get xs at ≡ Some h → window_marks_of h ≡ Some x → OnOk r (IsMarked x p action ks ls h y) → OnErr r (WindowMarksDropped None ks ls) → OnErr r (y ≡ h) → AreMarks ks x → mark_told action ≡ Some p → IsSound ks xs → IsSound ls (slice_set xs at y)
-marked_sound (Ok o) ks ls xs at p x h y action is sel ok err same marks told sound = sound_then ks ls xs at p x h y action sound is sel marks told ok
-marked_sound (Err e) ks ls xs at p x h y action is sel ok err same marks told sound =
-    rw same (sound_set ls xs at h h (sym (get_or_from_slice_get xs at h h is)) (λ n i. refl) (given_up_sound ks ls xs err sound))
+-- the marks of the window that a session has selected
+pub selected_marks : (ks : List MarkedBuffer) (xs : List Session) (at : ℕ) (h : Session) (x : WindowMarks) → IsSound ks xs → slice_get xs at ≡ Some h → window_marks_of h ≡ Some x → AreMarks ks x
+selected_marks ks xs at h x sound is sel = acting_marks ks xs at x sound (ap (option_and_then window_marks_of) is ∙ sel)
 
-pub marked_ok : {T E : Type 0} (r : Result T E) (ks ls : List MarkedBuffer) (xs : List Session) (at p : ℕ) (x : WindowMarks) (h y : Session) (action : Action) → slice_get xs at ≡ Some h → OnOk r (IsMarked x p action ks ls h y) → IsSound ks xs → at < length xs → option_and_then window_marks_of (slice_get xs at) ≡ Some x → state_at at xs ≡ idle (state_at at xs) → CanBeDone ks x (kill_at at xs) action → mark_told action ≡ Some p → OnOk r ((directory : Directory) (id : ℕ) (next : Option ℕ) → at ≡ position_or_len (session_id id) xs → world_of directory ls (followed x.name (edit_through x ks (kill_at at xs) action) (slice_set xs at y)) next ≡ apply (world_of directory ks xs next) id (outcome_through (state_at at xs) x ks (kill_at at xs) action))
-marked_ok (Ok o) ks ls xs at p x h y action is ok sound within sel fresh can told = λ directory id next place.
-    let sel_h : window_marks_of h ≡ Some x = sym (ap (option_and_then window_marks_of) is) ∙ sel in
-    ap (λ (o : Option Session). world_of directory ls (followed x.name (edit_through x ks (kill_or_none o) action) (slice_set xs at y)) next) is
-    ∙ acted_so directory ks ls xs next id at p x h y action sound place within is sel_h (acting_marks ks xs at x sound sel) (fresh_state xs at h is fresh) (subst (λ o. CanBeDone ks x (kill_or_none o) action) is can) told ok
-    ∙ ap (λ o. apply (world_of directory ks xs next) id (outcome_through (state_or_first o) x ks (kill_or_none o) action)) (sym is)
-marked_ok (Err e) ks ls xs at p x h y action is ok sound within sel fresh can told = ok
+-- with a mark or without one
+pub plain_so : {T E : Type 0} (r : Result T E) (o : Option ℕ) (x : WindowMarks) (action : Action) (ks ls : List MarkedBuffer) (h y : Session) → o ≡ None → OnOk r (ls ≡ buffers_acted x h.kill action ks) → OnOk r (y ≡ acted_in x ks action h) → OnOk r (IsCarriedOutBy o x action ks ls h y)
+plain_so (Ok done) o x action ks ls h y none ok acts = subst (λ m. IsCarriedOutBy m x action ks ls h y) (sym none) (ok, acts)
+plain_so (Err e) o x action ks ls h y none ok acts = tt
 
-pub marked_err : {T E : Type 0} (r : Result T E) (ks ls : List MarkedBuffer) (xs : List Session) (at : ℕ) (h y : Session) → slice_get xs at ≡ Some h → OnErr r (WindowMarksDropped None ks ls) → OnErr r (y ≡ h) → IsSound ks xs → OnErr r ((directory : Directory) (next : Option ℕ) → world_of directory ls (slice_set xs at y) next ≡ world_of directory ks xs next)
-marked_err (Ok o) ks ls xs at h y is err same sound = err
-marked_err (Err e) ks ls xs at h y is err same sound = λ directory next.
-    same_world directory _ _ _ _ (id_after next) err.buffers
-    (rw same (ap (map (session_of ls)) (set_back xs at h is)) ∙ given_up_sessions ks ls xs err sound)
+pub carried_sound : (ks ls : List MarkedBuffer) (xs : List Session) (at : ℕ) (x : WindowMarks) (h y : Session) (action : Action) → IsSound ks xs → slice_get xs at ≡ Some h → window_marks_of h ≡ Some x → AreMarks ks x → IsCarriedOut x action ks ls h y → IsSound ls (slice_set xs at y)
+carried_sound ks ls xs at x h y action sound is sel marks = by (mark_told action) refl
+  where
+    by : (o : Option ℕ) → mark_told action ≡ o → IsCarriedOutBy o x action ks ls h y → IsSound ls (slice_set xs at y)
+    by None told done =
+        let b = (marked_at x.name ks).buffer in
+        after_sound {T = ℕ} {E = ℕ} (Ok 0) ks ls xs at x b.text b.items h y action is done.0 done.1 tt tt marks sound
+    by (Some p) told done = sound_then ks ls xs at p x h y action sound is sel marks told done
+
+pub carried_so : (directory : Directory) (ks ls : List MarkedBuffer) (xs : List Session) (next : Option ℕ) (id at : ℕ) (x : WindowMarks) (h y : Session) (action : Action) → IsSound ks xs → at ≡ position_or_len (session_id id) xs → at < length xs → slice_get xs at ≡ Some h → window_marks_of h ≡ Some x → state_at at xs ≡ idle (state_at at xs) → CanBeDone ks x h.kill action → IsCarriedOut x action ks ls h y
+    → world_of directory ls (followed x.name (edit_through x ks (kill_at at xs) action) (slice_set xs at y)) next ≡ apply (world_of directory ks xs next) id (outcome_through (state_at at xs) x ks (kill_at at xs) action)
+carried_so directory ks ls xs next id at x h y action sound place within is sel fresh can = by (mark_told action) refl
+  where
+    by : (o : Option ℕ) → mark_told action ≡ o → IsCarriedOutBy o x action ks ls h y → world_of directory ls (followed x.name (edit_through x ks (kill_at at xs) action) (slice_set xs at y)) next ≡ apply (world_of directory ks xs next) id (outcome_through (state_at at xs) x ks (kill_at at xs) action)
+    by None told done =
+        after_ok {T = ℕ} {E = ℕ} (Ok 0) ks ls xs at x h y action is done.0 done.1 sound within (ap (option_and_then window_marks_of) is ∙ sel) fresh (subst (λ o. CanBeDone ks x (kill_or_none o) action) (sym is) can) told directory id next place
+    by (Some p) told done =
+        ap (λ (o : Option Session). world_of directory ls (followed x.name (edit_through x ks (kill_or_none o) action) (slice_set xs at y)) next) is
+        ∙ acted_so directory ks ls xs next id at p x h y action sound place within is sel (selected_marks ks xs at h x sound is sel) (fresh_state xs at h is fresh) can told done
+        ∙ ap (λ o. apply (world_of directory ks xs next) id (outcome_through (state_or_first o) x ks (kill_or_none o) action)) (sym is)
+
+-- a mark that was given up leaves the world as it was
+pub dropped_sound : (ks ls : List MarkedBuffer) (xs : List Session) (at : ℕ) (h y : Session) → slice_get xs at ≡ Some h → WindowMarksDropped None ks ls → y ≡ h → IsSound ks xs → IsSound ls (slice_set xs at y)
+dropped_sound ks ls xs at h y is dropped same sound =
+    rw same (sound_set ls xs at h h (sym (get_or_from_slice_get xs at h h is)) (λ n i. refl) (given_up_sound ks ls xs dropped sound))
+
+pub dropped_so : (ks ls : List MarkedBuffer) (xs : List Session) (at : ℕ) (h y : Session) → slice_get xs at ≡ Some h → WindowMarksDropped None ks ls → y ≡ h → IsSound ks xs → IsUnchanged ks xs ls (slice_set xs at y)
+dropped_so ks ls xs at h y is dropped same sound = λ directory next.
+    same_world directory _ _ _ _ (id_after next) dropped.buffers
+    (rw same (ap (map (session_of ls)) (set_back xs at h is)) ∙ given_up_sessions ks ls xs dropped sound)
 
 -- what sets a mark may be refused
 or_true : (a : Bool) → (a || true) ≡ true

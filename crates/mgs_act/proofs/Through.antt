@@ -1,34 +1,31 @@
 -- What is done through a window's marks, and by an insertion through them.
-use Rattle.std.proofs.Common.{◌≡◌, ℕ, ◌<◌, true, false, cond, List, [], length, Option, Some, None, get_or, refl, sym, ap, subst, ◌∙◌}
+use Rattle.std.proofs.Common.{◌≡◌, ℕ, ◌<◌, true, false, cond, List, [], length, Option, Some, None, get_or, refl, ap, subst, ◌∙◌}
 use Rattle.std.specs.Prelude.{slice_get}
 use Rattle.std.specs.List.{position_or_len}
-use Rattle.std.specs.Option.{option_and_then}
-use Rattle.std.proofs.lemmas.Option.{slice_get-get_or}
 use Rattle.mgs_model.specs.Access.{Directory}
 use Rattle.mgs_model.specs.Acts.{edit_of, fails, finished, finished_state, is_too_large}
 use Rattle.mgs_laws.specs.Apart.{touched_by}
 use Rattle.mgs_model.specs.Apply.{apply}
 use Rattle.mgs_model.specs.Events.{saved_by}
 use Rattle.mgs_model.specs.Outcome.{Effect, No_effect, Edit, Adjust, Keep_search}
-use Rattle.mgs_laws.specs.Refusals.{takes_memory}
 use Rattle.mgs_model.specs.Plans as plans
 use Rattle.mgs_model.specs.Text.{is_edit}
 use Rattle.mgs_model.specs.World.{State}
 use Rattle.mgs_model.specs.declared.message.Message.TheVariants.{KillTooLarge}
 use Rattle.mgs_model.specs.declared.touched.Touched.{Touched}
 use Rattle.mgs_buffers.specs.MarkedBuffer.{MarkedBuffer, marked_at}
-use Rattle.mgs_session.specs.Sessions.{window_marks_of}
 use Rattle.mgs_session.specs.declared.Session.{Session}
 use Rattle.mgs_windows.specs.declared.WindowMarks.{WindowMarks}
 use Rattle.mgs_edit.specs.Reading.{change_read, finish_read, undone_read}
-use Rattle.mgs_plan.specs.Actions.{CanBeDone, kill_at, kill_or_none, outcome_through, removed_by}
+use Rattle.mgs_plan.specs.Actions.{kill_at, kill_or_none, outcome_through, removed_by}
 use Rattle.mgs_plan.specs.Inserting.{insertion_of, put_outcome}
 use Rattle.mgs_plan.specs.declared.action.Action.{Action}
 use Rattle.mgs_plan.specs.declared.action.Action.TheVariants.{Fails, Edits, Undoes, Moves, Clears}
 use Rattle.mgs_plan.specs.declared.outcome.Outcome.TheVariants.{Acts, Copies}
-use Rattle.mgs_act.proofs.Done.{quietly}
+use Rattle.mgs_act.proofs.Done.{here_is, quietly}
 use Rattle.mgs_act.proofs.Marked.{finish_takes}
-use Rattle.mgs_act.specs.Doing.{CanDo, IsQuietlyDone, TakesMemory}
+use Rattle.mgs_act.specs.Doing.{IsQuietlyDone, TakesMemory}
+use Rattle.mgs_act.specs.Performing.{MayBeShort}
 use Rattle.mgs_world.specs.Worlds.{state_at, state_of, state_or_first, session_id, world_of}
 
 -- IT SAVES NOTHING
@@ -53,29 +50,19 @@ through_saves_none state x ks kill Clears = refl
 
 -- AN ACTION
 
-module _ (directory : Directory) (at : ℕ) (ks : List MarkedBuffer) (xs : List Session) (r : Session) (x : WindowMarks) (action : Action) (within : at < length xs) (can : CanDo directory at ks xs (Acts x action)) where
-  pub selected_through : option_and_then window_marks_of (slice_get xs at) ≡ Some x
-  selected_through =
-      let found = slice_get-get_or xs at r within in ap (option_and_then window_marks_of) found ∙ (can (get_or xs at r) found).selected
+pub through_done : (directory : Directory) (at : ℕ) (ks ls : List MarkedBuffer) (xs ys : List Session) (x : WindowMarks) (action : Action) (touched : Touched)
+    → ((id : ℕ) (next : Option ℕ) → at ≡ position_or_len (session_id id) xs → world_of directory ls ys next ≡ apply (world_of directory ks xs next) id (outcome_through (state_at at xs) x ks (kill_at at xs) action))
+    → ((h : Session) → slice_get xs at ≡ Some h → touched ≡ touched_by (outcome_through (state_of h.state) x ks h.kill action).effect)
+    → IsQuietlyDone directory at (Acts x action) ks xs ls ys touched
+through_done directory at ks ls xs ys x action touched done touches = quietly directory at (Acts x action) ks ls xs ys touched (λ id next h place found. (
+  done id next place ∙ ap (λ s. apply (world_of directory ks xs next) id (outcome_through (state_or_first s) x ks (kill_or_none s) action)) found,
+  touches h found,
+  through_saves_none (state_of h.state) x ks h.kill action,
+))
 
-  pub can_through : CanBeDone ks x (kill_at at xs) action
-  can_through =
-      let found = slice_get-get_or xs at r within in
-      subst (λ s. CanBeDone ks x (kill_or_none s) action) (sym found) (can (get_or xs at r) found).can
-
-  pub through_done : (ls : List MarkedBuffer) (ys : List Session) (touched : Touched)
-      → ((id : ℕ) (next : Option ℕ) → at ≡ position_or_len (session_id id) xs → world_of directory ls ys next ≡ apply (world_of directory ks xs next) id (outcome_through (state_at at xs) x ks (kill_at at xs) action))
-      → ((h : Session) → slice_get xs at ≡ Some h → touched ≡ touched_by (outcome_through (state_of h.state) x ks h.kill action).effect)
-      → IsQuietlyDone directory at (Acts x action) ks xs ls ys touched
-  through_done ls ys touched done touches = quietly directory at (Acts x action) ks ls xs ys touched (λ id next h place found. (
-    done id next place ∙ ap (λ s. apply (world_of directory ks xs next) id (outcome_through (state_or_first s) x ks (kill_or_none s) action)) found,
-    touches h found,
-    through_saves_none (state_of h.state) x ks h.kill action,
-  ))
-
-pub through_takes : (at : ℕ) (ks : List MarkedBuffer) (xs : List Session) (x : WindowMarks) (action : Action) → ((state : State) → takes_memory (outcome_through state x ks (kill_at at xs) action) ≡ true) → TakesMemory at (Acts x action) ks xs
-through_takes at ks xs x action takes = λ directory id next h place found.
-    subst (λ s. takes_memory (outcome_through (state_or_first s) x ks (kill_or_none s) action) ≡ true) found (takes (state_at at xs))
+pub through_takes : (at : ℕ) (ks : List MarkedBuffer) (xs : List Session) (r : Session) (x : WindowMarks) (action : Action) → at < length xs → MayBeShort x ks (get_or xs at r).kill action → TakesMemory at (Acts x action) ks xs
+through_takes at ks xs r x action within takes = λ directory id next h place found.
+    subst (λ (y : Session). MayBeShort x ks y.kill action) (here_is xs at r h within found) takes (state_of h.state)
 
 -- A COPY
 

@@ -1,16 +1,13 @@
 -- What is done through a window's marks.
-use Rattle.std.specs.Prelude.{◌≡◌, ◌≤◌, ℕ, true, false, List, length, Option, Some, IsSome, slice_get}
-use Rattle.std.specs.List.{position_or_len}
-use Rattle.mgs_model.specs.Access.{Directory}
+use Rattle.std.specs.Prelude.{◌≡◌, ◌≤◌, ℕ, true, false, List, length, Option, None, Some, IsSome}
 use Rattle.mgs_model.specs.Acts.{is_full}
 use Rattle.mgs_laws.specs.Apart.{touched_by}
 use Rattle.mgs_model.specs.declared.touched.Touched.{Touched}
-use Rattle.mgs_model.specs.Apply.{apply, change_first}
+use Rattle.mgs_model.specs.Apply.{change_first}
 use Rattle.mgs_laws.specs.Refusals.{takes_memory}
 use Rattle.mgs_model.specs.Plans as plans
 use Rattle.mgs_model.specs.Text.{is_edit}
 use Rattle.mgs_model.specs.World.{State}
-use Rattle.mgs_model.specs.declared.entry.Decision.TheVariants.{Granted}
 use Rattle.mgs_buffers.specs.MarkedBuffer.{MarkedBuffer, marked_at, marked_edited, marked_named}
 use Rattle.mgs_buffers.specs.Placing.{CanStand, placed_if}
 use Rattle.mgs_marks.specs.Marks.{mark_in}
@@ -20,14 +17,10 @@ use Rattle.mgs_edit.specs.declared.plan.Goes.{Goes}
 use Rattle.mgs_edit.specs.declared.plan.Change.{Change}
 use Rattle.mgs_edit.specs.declared.plan.Finish.{Finish}
 use Rattle.mgs_edit.specs.declared.plan.Undone.{Undone}
-use Rattle.mgs_plan.specs.Actions.{CanBeDone, CanUndo, kill_at, mark_gone, marked_after, outcome_through, removed_by, session_acted}
-use Rattle.mgs_plan.specs.Following.{edit_through, edit_told, followed}
-use Rattle.mgs_plan.specs.Inserting.{insertion_of, put_outcome, target_decision}
+use Rattle.mgs_plan.specs.Actions.{CanBeDone, CanUndo, IsMarked, mark_gone, mark_told, marked_after, outcome_through, removed_by, session_acted}
 use Rattle.mgs_plan.specs.declared.action.Action.{Action}
-use Rattle.mgs_session.specs.Sessions.{window_marks_of}
 use Rattle.mgs_session.specs.declared.Session.{Session}
 use Rattle.mgs_windows.specs.declared.WindowMarks.{WindowMarks}
-use Rattle.mgs_world.specs.Worlds.{state_at, session_id, world_of}
 
 -- a change, and what comes back by an undo, in the buffer of a name
 abbrev pub change_in : List ℕ → List MarkedBuffer → List ℕ → Change → plans.Change
@@ -76,6 +69,14 @@ buffers_acted x kill action ks = marked_after x (marked_at x.name ks).buffer.tex
 abbrev pub acted_in : WindowMarks → List MarkedBuffer → Action → Session → Session
 acted_in x ks action h = session_acted (marked_at x.name ks).buffer.text action h
 
+-- and with the mark, where it sets one
+abbrev pub IsCarriedOutBy : Option ℕ → WindowMarks → Action → List MarkedBuffer → List MarkedBuffer → Session → Session → Type 0
+IsCarriedOutBy None x action ks ls h y = (ls ≡ buffers_acted x h.kill action ks) × (y ≡ acted_in x ks action h)
+IsCarriedOutBy (Some position) x action ks ls h y = IsMarked x position action ks ls h y
+
+abbrev pub IsCarriedOut : WindowMarks → Action → List MarkedBuffer → List MarkedBuffer → Session → Session → Type 0
+IsCarriedOut x action ks ls h y = IsCarriedOutBy (mark_told action) x action ks ls h y
+
 -- that it takes memory
 abbrev pub MayBeShort : WindowMarks → List MarkedBuffer → List ℕ → Action → Type 0
 MayBeShort x ks kill action = (state : State) → takes_memory (outcome_through state x ks kill action) ≡ true
@@ -84,18 +85,3 @@ MayBeShort x ks kill action = (state : State) → takes_memory (outcome_through 
 abbrev pub IsTouched : WindowMarks → Action → ℕ → Touched → Type 0
 IsTouched x action killed touched =
     (state : State) (ks : List MarkedBuffer) (kill : List ℕ) → length kill ≡ killed → CanBeDone ks x kill action → touched ≡ touched_by (outcome_through state x ks kill action).effect
-
--- the world, once the positions of searches go by it
-abbrev pub IsFollowed : ℕ → WindowMarks → Action → List MarkedBuffer → List Session → List MarkedBuffer → List Session → Type 0
-IsFollowed at x action ks xs ls ys =
-    (directory : Directory) (id : ℕ) (next : Option ℕ) → at ≡ position_or_len (session_id id) xs
-    → world_of directory ls (followed x.name (edit_through x ks (kill_at at xs) action) ys) next ≡ apply (world_of directory ks xs next) id (outcome_through (state_at at xs) x ks (kill_at at xs) action)
-
--- AN INSERTION, by the session at an index, whose selected window has these marks
-abbrev pub MayInsert : Directory → ℕ → List MarkedBuffer → List Session → WindowMarks → ℕ → Type 0
-MayInsert directory at ks xs x place = (h : Session) → slice_get xs at ≡ Some h → (window_marks_of h ≡ Some x) × (target_decision directory ks h.user x.name place ≡ Granted)
-
-abbrev pub IsPutIn : ℕ → WindowMarks → ℕ → List ℕ → List MarkedBuffer → List Session → List MarkedBuffer → List Session → Type 0
-IsPutIn at x place put ks xs ls ys =
-    (directory : Directory) (id : ℕ) (next : Option ℕ) → at ≡ position_or_len (session_id id) xs
-    → world_of directory ls (followed x.name (edit_told (length (marked_at x.name ks).buffer.text) (insertion_of place put)) ys) next ≡ apply (world_of directory ks xs next) id (put_outcome (state_at at xs) x.name place put)

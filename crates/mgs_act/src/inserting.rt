@@ -8,7 +8,6 @@ ghost use Rattle.mgs_plan.specs.Actions.{AreMarks, edited_by};
 ghost use Rattle.mgs_plan.specs.declared.outcome.Outcome.TheVariants.{Copies};
 ghost use Rattle.mgs_plan.specs.Inserting.{CanPut, IsInserted, buffers_inserted, insertion_of, leaving, put_outcome, session_inserted, target_decision};
 ghost use Rattle.mgs_act.specs.Doing.{CanDo, IsQuietlyDone};
-ghost use Rattle.mgs_act.specs.Performing.{IsPutIn, MayInsert};
 ghost use Rattle.mgs_world.specs.Acted.{IsUnchanged};
 ghost use Rattle.mgs_world.specs.Sound.{IsSound};
 ghost use Rattle.mgs_world.specs.WindowMarks.{WindowMarksDropped};
@@ -151,35 +150,6 @@ fn copied_text<T: Marked + Drop>(buffers: &Buffers<T>, name: &Name) -> Result<Ve
     buffers.text(name).copy(0, buffers.text_len(name))
 }
 
-/// Puts characters into the window's buffer, as `insert_copy` says; the positions of searches stay.
-fn insert_unfollowed<T: Marked + Drop>(
-    buffers: &mut Buffers<T>,
-    directory: &Directory,
-    sessions: &mut [Session],
-    at: usize,
-    window_marks: &WindowMarks,
-    place: usize,
-    put: &[char],
-) -> Result<(), Short>
-    requires sound { IsSound buffers.old sessions.old }
-    requires within { at < length sessions.old }
-    requires fresh { state_at at sessions.old ≡ idle (state_at at sessions.old) }
-    requires can { CanPut (marked_at window_marks.now.name buffers.old).buffer put.now place }
-    requires may { MayInsert directory.now at buffers.old sessions.old window_marks.now place }
-    ensures sound { IsSound buffers.new sessions.new }
-    ensures ok { OnOk result (IsPutIn at window_marks.now place put.now buffers.old sessions.old buffers.new sessions.new) }
-    ensures err { OnErr result (IsUnchanged buffers.old sessions.old buffers.new sessions.new) }
-{
-    insert_marked(
-        buffers,
-        directory,
-        &mut sessions[at],
-        window_marks,
-        place,
-        put,
-    )
-}
-
 /// Puts a copy of a buffer's text into the window's, for the session at `at`, and tells what it touched. `Short`: memory was refused,
 /// and the world is as it was.
 pub fn insert_copy<T: Marked + Drop>(
@@ -202,7 +172,14 @@ pub fn insert_copy<T: Marked + Drop>(
     let name = &window_marks.name;
     let put = copied_text(buffers, source)?;
     let edit = edit_of_insertion(buffers, name, place, &put);
-    insert_unfollowed(buffers, directory, sessions, at, window_marks, place, &put)?;
+    insert_marked(
+        buffers,
+        directory,
+        &mut sessions[at],
+        window_marks,
+        place,
+        &put,
+    )?;
     follow(sessions, name, &edit);
     Ok(touched_by_insertion(name, &put))
 }

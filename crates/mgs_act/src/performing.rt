@@ -8,10 +8,10 @@ ghost use Rattle.mgs_edit.specs.Reading.{ChangeWithin, GoesWithin, IsWithin, Pie
 ghost use Rattle.mgs_session.specs.Sessions.{acted, told};
 ghost use Rattle.mgs_plan.specs.declared.action.Action.TheVariants.{Edits, Moves, Undoes};
 ghost use Rattle.mgs_plan.specs.declared.outcome.Outcome.TheVariants.{Acts};
-ghost use Rattle.mgs_plan.specs.Actions.{AreMarks, CanBeDone, IsMarked, edited_by, kill_at, kill_set, mark_told, removed_by};
+ghost use Rattle.mgs_plan.specs.Actions.{AreMarks, CanBeDone, edited_by, kill_set, mark_told, removed_by};
 ghost use Rattle.mgs_plan.specs.Deciding.{IsActionGranted, IsGranted};
 ghost use Rattle.mgs_act.specs.Doing.{CanDo, IsQuietlyDone, TakesMemory};
-ghost use Rattle.mgs_act.specs.Performing.{CanComeBack, HasRoom, IsEdit, IsFollowed, IsTarget, IsTouched, MayBeShort, PointCanStand, TopCanStand, acted_in, back_in, buffers_acted, buffers_edited, change_in, marks_left, undone_in};
+ghost use Rattle.mgs_act.specs.Performing.{CanComeBack, HasRoom, IsCarriedOut, IsEdit, IsTarget, IsTouched, MayBeShort, PointCanStand, TopCanStand, acted_in, back_in, buffers_acted, buffers_edited, change_in, marks_left, undone_in};
 ghost use Rattle.mgs_world.specs.Acted.{IsUnchanged};
 ghost use Rattle.mgs_world.specs.Sound.{IsSound};
 ghost use Rattle.mgs_world.specs.WindowMarks.{WindowMarksDropped};
@@ -449,7 +449,7 @@ fn mark_of(action: &Action) -> Option<usize>
     }
 }
 
-/// Does what was planned, and sets the mark of the window. `Short`: memory was refused, and nothing was done.
+/// Does what was planned, and sets the mark where the action does. `Short`: memory was refused, and nothing was done.
 fn carry_out_marked<T: Marked + Drop>(
     alloc: Global,
     buffers: &mut Buffers<T>,
@@ -457,16 +457,19 @@ fn carry_out_marked<T: Marked + Drop>(
     session: &mut Session,
     window_marks: &WindowMarks,
     action: &Action,
-    position: usize,
 ) -> Result<(), Short>
     requires marks { AreMarks buffers.old window_marks.now }
     requires can { CanBeDone buffers.old window_marks.now session.old.kill action.now }
     requires granted { IsActionGranted directory.now buffers.old session.old.user window_marks.now.name action.now }
-    requires told { mark_told action.now ≡ Some position }
-    ensures ok { OnOk result (IsMarked window_marks.now position action.now buffers.old buffers.new session.old session.new) }
+    ensures ok { OnOk result (IsCarriedOut window_marks.now action.now buffers.old buffers.new session.old session.new) }
     ensures err { OnErr result (WindowMarksDropped None buffers.old buffers.new) }
     ensures same { OnErr result (session.new ≡ session.old) }
+    ensures may { OnErr result (MayBeShort window_marks.now buffers.old session.old.kill action.now) }
 {
+    let position = match mark_of(action) {
+        None => return carry_out(alloc, buffers, directory, session, window_marks, action),
+        Some(position) => position,
+    };
     let mark = reserve_mark(buffers, window_marks)?;
     match carry_out(alloc, buffers, directory, session, window_marks, action) {
         Ok(()) => {
@@ -477,110 +480,6 @@ fn carry_out_marked<T: Marked + Drop>(
             give_up_mark(buffers, window_marks, mark);
             Err(short)
         }
-    }
-}
-
-/// Does what was planned and sets no mark, as `perform` says; the positions of searches stay.
-fn perform_plain<T: Marked + Drop>(
-    alloc: Global,
-    buffers: &mut Buffers<T>,
-    directory: &Directory,
-    sessions: &mut [Session],
-    at: usize,
-    window_marks: &WindowMarks,
-    action: &Action,
-) -> Result<(), Short>
-    requires sound { IsSound buffers.old sessions.old }
-    requires within { at < length sessions.old }
-    requires fresh { state_at at sessions.old ≡ idle (state_at at sessions.old) }
-    requires can { CanDo directory.now at buffers.old sessions.old (Acts window_marks.now action.now) }
-    requires unmarked { mark_told action.now ≡ None }
-    ensures sound { IsSound buffers.new sessions.new }
-    ensures ok { OnOk result (IsFollowed at window_marks.now action.now buffers.old sessions.old buffers.new sessions.new) }
-    ensures err { OnErr result (IsUnchanged buffers.old sessions.old buffers.new sessions.new) }
-    ensures may { OnErr result (MayBeShort window_marks.now buffers.old (kill_at at sessions.old) action.now) }
-{
-    carry_out(
-        alloc,
-        buffers,
-        directory,
-        &mut sessions[at],
-        window_marks,
-        action,
-    )
-}
-
-/// Does what was planned and sets the mark, as `perform` says; the positions of searches stay.
-fn perform_marked<T: Marked + Drop>(
-    alloc: Global,
-    buffers: &mut Buffers<T>,
-    directory: &Directory,
-    sessions: &mut [Session],
-    at: usize,
-    window_marks: &WindowMarks,
-    action: &Action,
-    position: usize,
-) -> Result<(), Short>
-    requires sound { IsSound buffers.old sessions.old }
-    requires within { at < length sessions.old }
-    requires fresh { state_at at sessions.old ≡ idle (state_at at sessions.old) }
-    requires can { CanDo directory.now at buffers.old sessions.old (Acts window_marks.now action.now) }
-    requires told { mark_told action.now ≡ Some position }
-    ensures sound { IsSound buffers.new sessions.new }
-    ensures ok { OnOk result (IsFollowed at window_marks.now action.now buffers.old sessions.old buffers.new sessions.new) }
-    ensures err { OnErr result (IsUnchanged buffers.old sessions.old buffers.new sessions.new) }
-    ensures may { OnErr result (MayBeShort window_marks.now buffers.old (kill_at at sessions.old) action.now) }
-{
-    carry_out_marked(
-        alloc,
-        buffers,
-        directory,
-        &mut sessions[at],
-        window_marks,
-        action,
-        position,
-    )
-}
-
-/// The same, with a mark or without one.
-fn perform_unfollowed<T: Marked + Drop>(
-    alloc: Global,
-    buffers: &mut Buffers<T>,
-    directory: &Directory,
-    sessions: &mut [Session],
-    at: usize,
-    window_marks: &WindowMarks,
-    action: &Action,
-) -> Result<(), Short>
-    requires sound { IsSound buffers.old sessions.old }
-    requires within { at < length sessions.old }
-    requires fresh { state_at at sessions.old ≡ idle (state_at at sessions.old) }
-    requires can { CanDo directory.now at buffers.old sessions.old (Acts window_marks.now action.now) }
-    ensures sound { IsSound buffers.new sessions.new }
-    ensures ok { OnOk result (IsFollowed at window_marks.now action.now buffers.old sessions.old buffers.new sessions.new) }
-    ensures err { OnErr result (IsUnchanged buffers.old sessions.old buffers.new sessions.new) }
-    ensures may { OnErr result (MayBeShort window_marks.now buffers.old (kill_at at sessions.old) action.now) }
-{
-    match mark_of(action) {
-        None => perform_plain(
-            alloc,
-            buffers,
-            directory,
-            sessions,
-            at,
-            window_marks,
-            action,
-        ),
-        Some(position) => perform_marked(
-            alloc,
-            buffers,
-            directory,
-            sessions,
-            at,
-            window_marks,
-            action,
-            position,
-        ),
     }
 }
 
@@ -632,12 +531,11 @@ pub fn perform<T: Marked + Drop>(
     let kill = sessions[at].kill.as_slice();
     let touched = touched_by(window_marks, action, kill.len());
     let edit = edit_of(buffers, name, kill, action);
-    perform_unfollowed(
+    carry_out_marked(
         alloc,
         buffers,
         directory,
-        sessions,
-        at,
+        &mut sessions[at],
         window_marks,
         action,
     )?;

@@ -5,12 +5,13 @@ use Rattle.mgs_buffers.specs.MarkedBuffer.{MarkedBuffer, marked_at, marked_named
 use Rattle.mgs_world.specs.Marking.{IsGivenUp, session_marked}
 use Rattle.mgs_world.proofs.SelectedMark.{reserved_given_up}
 use Rattle.mgs_world.proofs.Soundness.{mark_is_kept}
-use Rattle.mgs_plan.specs.Actions.{CanDo, marked_after, session_acted}
-use Rattle.mgs_act.proofs.Marked.{granted_still, mark_after_action, reserved_buffer, reserved_in_use, reserved_marks, within_after}
+use Rattle.mgs_plan.specs.Actions.{CanDo, IsMarked, mark_told, marked_after, session_acted}
+use Rattle.mgs_act.proofs.Marked.{granted_still, mark_after_action, plain_so, reserved_buffer, reserved_in_use, reserved_marks, within_after}
+use Rattle.mgs_act.specs.Performing.{IsCarriedOutBy}
 use Rattle.mgs_act.proofs.performing.carry_out_marked.Goals as goal
 
-pub carry_out-requires-clause-marks : goal.carry_out-requires-clause-marks
-carry_out-requires-clause-marks g c =
+pub carry_out-requires-2-clause-marks : goal.carry_out-requires-2-clause-marks
+carry_out-requires-2-clause-marks g c =
     let x = c.args.window_marks.now in
     let ks = c.args.buffers.now in
     let ls = c.reserve_mark.new.buffers in
@@ -19,8 +20,8 @@ carry_out-requires-clause-marks g c =
     let kept = mark_is_kept x.name x.point ks c.requires.marks.point in
     reserved_marks x mid ks ls kept r c.requires.marks
 
-pub carry_out-requires-clause-can : goal.carry_out-requires-clause-can
-carry_out-requires-clause-can g c =
+pub carry_out-requires-2-clause-can : goal.carry_out-requires-2-clause-can
+carry_out-requires-2-clause-can g c =
     let x = c.args.window_marks.now in
     let ks = c.args.buffers.now in
     let ls = c.reserve_mark.new.buffers in
@@ -28,8 +29,8 @@ carry_out-requires-clause-can g c =
     let r = c.in_ok-mark.ensures.ok in
     subst (λ (b : Buffer). CanDo b.text b.items c.args.session.now.kill b.serial c.args.action.now) (sym (reserved_buffer x.name x.mark mid ks ls r)) c.requires.can
 
-pub carry_out-requires-clause-granted : goal.carry_out-requires-clause-granted
-carry_out-requires-clause-granted g c =
+pub carry_out-requires-2-clause-granted : goal.carry_out-requires-2-clause-granted
+carry_out-requires-2-clause-granted g c =
     let x = c.args.window_marks.now in
     granted_still c.args.directory.now c.args.buffers.now c.reserve_mark.new.buffers c.args.session.now.user x.name c.args.action.now (reserved_buffer x.name x.mark c.in_ok-mark.mark c.args.buffers.now c.reserve_mark.new.buffers c.in_ok-mark.ensures.ok) c.requires.granted
 
@@ -49,7 +50,7 @@ set_mark-requires-clause-mark g c =
 
 pub set_mark-requires-clause-kept : goal.set_mark-requires-clause-kept
 set_mark-requires-clause-kept g c =
-    mark_is_kept c.args.window_marks.now.name c.in_ok-mark.mark c.carry_out.new.buffers (set_mark-requires-clause-mark g c)
+    mark_is_kept c.args.window_marks.now.name c.in_ok-mark.mark c.carry_out-2.new.buffers (set_mark-requires-clause-mark g c)
 
 pub set_mark-requires-clause-within : goal.set_mark-requires-clause-within
 set_mark-requires-clause-within g c =
@@ -62,7 +63,7 @@ set_mark-requires-clause-within g c =
     let marks = reserved_marks x mid ks ls kept r c.requires.marks in
     let mark = reserved_in_use x.mark x mid ks ls refl kept c.requires.marks r in
     let can = subst (λ (b : Buffer). CanDo b.text b.items c.args.session.now.kill b.serial c.args.action.now) (sym (reserved_buffer x.name x.mark mid ks ls r)) c.requires.can in
-    rw c.in-Ok.ensures.ok (within_after x c.args.position c.args.session.now.kill c.args.action.now ls (mark_is_kept x.name mid ls mark) can c.requires.told)
+    rw c.in-Ok.ensures.ok (within_after x c.in-Some.position c.args.session.now.kill c.args.action.now ls (mark_is_kept x.name mid ls mark) can (sym c.mark_of.ensures ∙ c.in-Some.is))
 
 pub give_up_mark-requires-clause-mark : goal.give_up_mark-requires-clause-mark
 give_up_mark-requires-clause-mark g c =
@@ -76,7 +77,7 @@ give_up_mark-requires-clause-mark g c =
 
 pub give_up_mark-requires-clause-kept : goal.give_up_mark-requires-clause-kept
 give_up_mark-requires-clause-kept g c =
-    mark_is_kept c.args.window_marks.now.name c.in_ok-mark.mark c.carry_out.new.buffers (give_up_mark-requires-clause-mark g c)
+    mark_is_kept c.args.window_marks.now.name c.in_ok-mark.mark c.carry_out-2.new.buffers (give_up_mark-requires-clause-mark g c)
 
 pub returns-in-Ok-clause-ok : goal.returns-in-Ok-clause-ok
 returns-in-Ok-clause-ok g c =
@@ -86,13 +87,14 @@ returns-in-Ok-clause-ok g c =
     let mid = c.in_ok-mark.mark in
     let r = c.in_ok-mark.ensures.ok in
     let same = reserved_buffer x.name x.mark mid ks ls r in
-    record {
+    let marked : IsMarked x c.in-Some.position c.args.action.now ks c.set_mark.new.buffers c.args.session.now c.set_mark.new.session = record {
       id = mid;
       between = ls;
       reserved = r;
-      buffers = c.set_mark.ensures.buffers ∙ ap (change_first (marked_named x.name) (marked_placed mid c.args.position)) (c.in-Ok.ensures.ok ∙ ap (λ (b : Buffer). marked_after x b.text b.items c.args.session.now.kill c.args.action.now ls) same);
+      buffers = c.set_mark.ensures.buffers ∙ ap (change_first (marked_named x.name) (marked_placed mid c.in-Some.position)) (c.in-Ok.ensures.ok ∙ ap (λ (b : Buffer). marked_after x b.text b.items c.args.session.now.kill c.args.action.now ls) same);
       session = c.set_mark.ensures.session ∙ ap (session_marked mid) (c.in-Ok.ensures.acted ∙ ap (λ (b : Buffer). session_acted b.text c.args.action.now c.args.session.now) same);
-    }
+    } in
+    subst (λ m. IsCarriedOutBy m x c.args.action.now ks c.set_mark.new.buffers c.args.session.now c.set_mark.new.session) (sym (sym c.mark_of.ensures ∙ c.in-Some.is)) marked
 
 pub returns-in-Err-clause-err : goal.returns-in-Err-clause-err
 returns-in-Err-clause-err g c =
@@ -104,3 +106,7 @@ returns-in-Err-clause-err g c =
     let kept = mark_is_kept x.name x.point ks c.requires.marks.point in
     reserved_given_up x.name x.mark mid ks ls c.give_up_mark.new.buffers kept r
     (subst (λ (s : List MarkedBuffer). IsGivenUp x.name x.mark mid s c.give_up_mark.new.buffers) c.in-Err.ensures.err c.give_up_mark.ensures)
+
+pub returns-in-None-clause-ok : goal.returns-in-None-clause-ok
+returns-in-None-clause-ok g c =
+    plain_so c.carry_out.result (mark_told c.args.action.now) c.args.window_marks.now c.args.action.now c.args.buffers.now c.carry_out.new.buffers c.args.session.now c.carry_out.new.session (sym c.mark_of.ensures ∙ c.in-None.is) c.carry_out.ensures.ok c.carry_out.ensures.acted

@@ -1,4 +1,5 @@
 use Rattle.std.proofs.Common.{ℕ, List, Option, length, get_or, ◌∙◌, sym, ap}
+use Rattle.std.specs.Prelude.{slice_set}
 use Rattle.std.proofs.lemmas.Option.{slice_get-get_or}
 use Rattle.mgs_session.specs.declared.Session.{Session}
 use Rattle.mgs_session.specs.declared.search.Edited.{Edited}
@@ -6,21 +7,20 @@ use Rattle.mgs_world.specs.Worlds.{state_of, world_of}
 use Rattle.mgs_world.proofs.Soundness.{mark_is_kept}
 use Rattle.mgs_plan.specs.Following.{edit_through, followed}
 use Rattle.mgs_plan.specs.Actions.{kill_or_none}
-use Rattle.mgs_plan.proofs.Deeds.{acting_marks}
 use Rattle.mgs_plan.proofs.Followed.{sound_kept}
 use Rattle.mgs_act.proofs.Done.{here_is}
-use Rattle.mgs_act.proofs.Marked.{when_refused}
-use Rattle.mgs_act.proofs.Through.{selected_through, through_done, through_takes}
+use Rattle.mgs_act.proofs.Marked.{carried_so, carried_sound, dropped_so, dropped_sound, selected_marks, when_refused}
+use Rattle.mgs_act.proofs.Through.{through_done, through_takes}
 use Rattle.mgs_act.proofs.performing.perform.Goals as goal
 
 pub edit_of-edit-requires-clause-kept : goal.edit_of-edit-requires-clause-kept
 edit_of-edit-requires-clause-kept g c =
-    let d = c.args.directory.now in
     let ks = c.args.buffers.now in
     let xs = c.args.sessions.now in
     let x = c.args.window_marks.now in
     let r = c.index-sessions-at.result in
-    mark_is_kept x.name x.point ks (acting_marks ks xs c.args.at x c.requires.sound (selected_through d c.args.at ks xs r x c.args.action.now c.requires.within c.requires.can)).point
+    let found = slice_get-get_or xs c.args.at r c.requires.within in
+    mark_is_kept x.name x.point ks (selected_marks ks xs c.args.at (get_or xs c.args.at r) x c.requires.sound found (c.requires.can (get_or xs c.args.at r) found).selected).point
 
 pub edit_of-edit-requires-clause-can : goal.edit_of-edit-requires-clause-can
 edit_of-edit-requires-clause-can g c =
@@ -28,9 +28,51 @@ edit_of-edit-requires-clause-can g c =
     let r = c.index-sessions-at.result in
     rw c.as_slice-kill.ensures (c.requires.can (get_or xs c.args.at r) (slice_get-get_or xs c.args.at r c.requires.within)).can
 
+pub carry_out_marked-requires-clause-marks : goal.carry_out_marked-requires-clause-marks
+carry_out_marked-requires-clause-marks g c =
+    let xs = c.args.sessions.now in
+    let r = c.index-sessions-at-2.result in
+    let found = slice_get-get_or xs c.args.at r c.requires.within in
+    selected_marks c.args.buffers.now xs c.args.at (get_or xs c.args.at r) c.args.window_marks.now c.requires.sound found (c.requires.can (get_or xs c.args.at r) found).selected
+
+pub carry_out_marked-requires-clause-can : goal.carry_out_marked-requires-clause-can
+carry_out_marked-requires-clause-can g c =
+    let xs = c.args.sessions.now in
+    let r = c.index-sessions-at-2.result in
+    (c.requires.can (get_or xs c.args.at r) (slice_get-get_or xs c.args.at r c.requires.within)).can
+
+pub carry_out_marked-requires-clause-granted : goal.carry_out_marked-requires-clause-granted
+carry_out_marked-requires-clause-granted g c =
+    let xs = c.args.sessions.now in
+    let r = c.index-sessions-at-2.result in
+    (c.requires.can (get_or xs c.args.at r) (slice_get-get_or xs c.args.at r c.requires.within)).granted
+
+pub returns-in_err-carry_out_marked-clause-sound : goal.returns-in_err-carry_out_marked-clause-sound
+returns-in_err-carry_out_marked-clause-sound g c =
+    let xs = c.args.sessions.now in
+    let r = c.index-sessions-at-2.result in
+    dropped_sound c.args.buffers.now c.carry_out_marked.new.buffers xs c.args.at (get_or xs c.args.at r) c.carry_out_marked.new.session (slice_get-get_or xs c.args.at r c.requires.within) c.in_err-carry_out_marked.ensures.err c.in_err-carry_out_marked.ensures.same c.requires.sound
+
+pub returns-in_err-carry_out_marked-clause-err : goal.returns-in_err-carry_out_marked-clause-err
+returns-in_err-carry_out_marked-clause-err g c =
+    let xs = c.args.sessions.now in
+    let r = c.index-sessions-at-2.result in
+    when_refused c.from_residual.result (dropped_so c.args.buffers.now c.carry_out_marked.new.buffers xs c.args.at (get_or xs c.args.at r) c.carry_out_marked.new.session (slice_get-get_or xs c.args.at r c.requires.within) c.in_err-carry_out_marked.ensures.err c.in_err-carry_out_marked.ensures.same c.requires.sound)
+
+pub returns-in_err-carry_out_marked-clause-may : goal.returns-in_err-carry_out_marked-clause-may
+returns-in_err-carry_out_marked-clause-may g c =
+    when_refused c.from_residual.result (through_takes c.args.at c.args.buffers.now c.args.sessions.now c.index-sessions-at-2.result c.args.window_marks.now c.args.action.now c.requires.within c.in_err-carry_out_marked.ensures.may)
+
 pub returns-clause-sound : goal.returns-clause-sound
 returns-clause-sound g c =
-    rw c.follow.ensures (sound_kept c.args.window_marks.now.name c.edit_of-edit.result c.perform_unfollowed.new.buffers c.perform_unfollowed.new.sessions c.perform_unfollowed.ensures.sound)
+    let ks = c.args.buffers.now in
+    let xs = c.args.sessions.now in
+    let x = c.args.window_marks.now in
+    let r = c.index-sessions-at-2.result in
+    let found = slice_get-get_or xs c.args.at r c.requires.within in
+    let sel = (c.requires.can (get_or xs c.args.at r) found).selected in
+    rw c.follow.ensures (sound_kept x.name c.edit_of-edit.result c.carry_out_marked.new.buffers _
+    (carried_sound ks c.carry_out_marked.new.buffers xs c.args.at x (get_or xs c.args.at r) c.carry_out_marked.new.session c.args.action.now c.requires.sound found sel (selected_marks ks xs c.args.at (get_or xs c.args.at r) x c.requires.sound found sel) c.in_ok-carry_out_marked.ensures.ok))
 
 pub returns-clause-done : goal.returns-clause-done
 returns-clause-done g c =
@@ -39,18 +81,16 @@ returns-clause-done g c =
     let xs = c.args.sessions.now in
     let x = c.args.window_marks.now in
     let r = c.index-sessions-at.result in
-    let found = slice_get-get_or xs c.args.at r c.requires.within in
-    through_done d c.args.at ks xs r x c.args.action.now c.requires.within c.requires.can _ _ c.touched_by-touched.result
+    let h : Session = get_or xs c.args.at c.index-sessions-at-2.result in
+    let found = slice_get-get_or xs c.args.at c.index-sessions-at-2.result c.requires.within in
+    let can = c.requires.can h found in
+    through_done d c.args.at ks _ xs _ x c.args.action.now c.touched_by-touched.result
     (λ id next place.
-    ap (λ (ys : List Session). world_of d c.perform_unfollowed.new.buffers ys next)
+    ap (λ (ys : List Session). world_of d c.carry_out_marked.new.buffers ys next)
     (c.follow.ensures
-    ∙ ap (λ (o : Option Edited). followed x.name o c.perform_unfollowed.new.sessions)
-    (c.edit_of-edit.ensures.value ∙ ap (λ (k : List ℕ). edit_through x ks k c.args.action.now) (c.as_slice-kill.ensures ∙ sym (ap kill_or_none found))))
-    ∙ c.in_ok-perform_unfollowed.ensures.ok d id next place)
+    ∙ ap (λ (o : Option Edited). followed x.name o (slice_set xs c.args.at c.carry_out_marked.new.session))
+    (c.edit_of-edit.ensures.value ∙ ap (λ (k : List ℕ). edit_through x ks k c.args.action.now) (c.as_slice-kill.ensures ∙ sym (ap kill_or_none (slice_get-get_or xs c.args.at r c.requires.within)))))
+    ∙ carried_so d ks c.carry_out_marked.new.buffers xs next id c.args.at x h c.carry_out_marked.new.session c.args.action.now c.requires.sound place c.requires.within found can.selected c.requires.fresh can.can c.in_ok-carry_out_marked.ensures.ok)
     (λ h there. c.touched_by-touched.ensures (state_of h.state) ks h.kill
     (sym (ap (λ (k : List ℕ). length k) c.as_slice-kill.ensures ∙ ap (λ (y : Session). length y.kill) (here_is xs c.args.at r h c.requires.within there)))
     (c.requires.can h there).can)
-
-pub returns-in_err-perform_unfollowed-clause-may : goal.returns-in_err-perform_unfollowed-clause-may
-returns-in_err-perform_unfollowed-clause-may g c =
-    when_refused c.from_residual.result (through_takes c.args.at c.args.buffers.now c.args.sessions.now c.args.window_marks.now c.args.action.now c.in_err-perform_unfollowed.ensures.may)
