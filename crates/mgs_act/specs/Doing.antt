@@ -1,5 +1,5 @@
 -- What is done for the session at an index, by what was decided for it.
-use Rattle.std.specs.Prelude.{◌≡◌, ℕ, Bool, true, false, List, Option, Some, Ok, slice_get}
+use Rattle.std.specs.Prelude.{◌≡◌, ◌<◌, ℕ, Bool, true, false, List, length, Option, Some, Ok, slice_get}
 use Rattle.std.specs.List.{flat_map, position_or_len}
 use Rattle.mgs_model.specs.Access.{Directory}
 use Rattle.mgs_laws.specs.Apart.{touched_by}
@@ -22,11 +22,19 @@ use Rattle.mgs_plan.specs.Listed.{entries_planned}
 use Rattle.mgs_plan.specs.declared.outcome.EntryPlan.{EntryPlan}
 use Rattle.mgs_plan.specs.declared.outcome.Outcome.{Outcome}
 pub use Rattle.mgs_world.specs.Acted.{IsRefusable}
-use Rattle.mgs_world.specs.Worlds.{state_at, session_id, world_of}
+use Rattle.mgs_world.specs.Sound.{IsSound}
+use Rattle.mgs_world.specs.Worlds.{idle, state_at, session_id, world_of}
 
 -- that it can be done
 abbrev pub CanDo : Directory → ℕ → List MarkedBuffer → List Session → Outcome → Type 0
 CanDo directory at ks xs o = (h : Session) → slice_get xs at ≡ Some h → CanPerform directory ks h o
+
+-- what is asked of the world: the session is at rest, and this can be done for it
+pub record IsReady (directory : Directory) (at : ℕ) (ks : List MarkedBuffer) (xs : List Session) (o : Outcome) : Type 0 where
+  pub sound : IsSound ks xs
+  pub within : at < length xs
+  pub fresh : state_at at xs ≡ idle (state_at at xs)
+  pub can : CanDo directory at ks xs o
 
 -- AN OUTCOME OF THE MODEL IS DONE, and it tells what it touched; what it saves was accepted
 pub record Does (old new : World) (before after : StoreTold) (id : ℕ) (o : outcomes.Outcome) (touched : Touched) : Type 0 where

@@ -1,14 +1,13 @@
 // What was decided is done: whole, or not at all.
-ghost use Rattle.std.specs.Prelude.{◌≡◌, ◌<◌, length, Some, IfOk, OnErr};
+ghost use Rattle.std.specs.Prelude.{◌≡◌, Some, IfOk, OnErr};
 ghost use Rattle.mgs_model.specs.Apply.{change_first};
 ghost use Rattle.mgs_buffers.specs.MarkedBuffer.{HasBuffer, marked_named, marked_owners_set};
 ghost use Rattle.mgs_plan.specs.Deciding.{CanList, IsGranted};
 ghost use Rattle.mgs_plan.specs.declared.outcome.Outcome.TheVariants.{Kills, SetsList, SetsOwners, Saves};
 ghost use Rattle.mgs_plan.specs.Rows.{scrolled_to};
-ghost use Rattle.mgs_act.specs.Doing.{CanDo, IsDoneIn, IsQuietlyDone, IsListSet, TakesMemory};
+ghost use Rattle.mgs_act.specs.Doing.{IsDoneIn, IsListSet, IsQuietlyDone, IsReady, TakesMemory};
 ghost use Rattle.mgs_world.specs.Acted.{IsUnchanged};
 ghost use Rattle.mgs_world.specs.Sound.{IsSound};
-ghost use Rattle.mgs_world.specs.Worlds.{idle, state_at};
 
 use crate::inserting::insert_copy;
 use crate::performing::perform;
@@ -34,10 +33,7 @@ fn kill<T: Marked + Drop>(
     at: usize,
     name: &Name,
 ) -> Touched
-    requires sound { IsSound buffers.old sessions.old }
-    requires within { at < length sessions.old }
-    requires fresh { state_at at sessions.old ≡ idle (state_at at sessions.old) }
-    requires can { CanDo directory.now at buffers.old sessions.old (Kills name.now) }
+    requires { IsReady directory.now at buffers.old sessions.old (Kills name.now) }
     ensures sound { IsSound buffers.new sessions.new }
     ensures done { IsQuietlyDone directory.now at (Kills name.now) buffers.old sessions.old buffers.new sessions.new result }
 {
@@ -75,10 +71,7 @@ fn assign<T: Marked + Drop>(
     name: &Name,
     new: NewOwner,
 ) -> Touched
-    requires sound { IsSound buffers.old sessions.old }
-    requires within { at < length sessions.old }
-    requires fresh { state_at at sessions.old ≡ idle (state_at at sessions.old) }
-    requires can { CanDo directory.now at buffers.old sessions.old (SetsOwners name.now new) }
+    requires { IsReady directory.now at buffers.old sessions.old (SetsOwners name.now new) }
     ensures sound { IsSound buffers.new sessions.new }
     ensures done { IsQuietlyDone directory.now at (SetsOwners name.now new) buffers.old sessions.old buffers.new sessions.new result }
 {
@@ -116,10 +109,7 @@ fn set_list<T: Marked + Drop>(
     name: &Name,
     plan: &EntryPlan,
 ) -> Touched
-    requires sound { IsSound buffers.old sessions.old }
-    requires within { at < length sessions.old }
-    requires fresh { state_at at sessions.old ≡ idle (state_at at sessions.old) }
-    requires can { CanDo directory.now at buffers.old sessions.old (SetsList name.now plan.now) }
+    requires { IsReady directory.now at buffers.old sessions.old (SetsList name.now plan.now) }
     ensures sound { IsSound buffers.new sessions.new }
     ensures done { IsQuietlyDone directory.now at (SetsList name.now plan.now) buffers.old sessions.old buffers.new sessions.new result }
 {
@@ -146,10 +136,7 @@ fn save<T: Marked + Drop, S: Store>(
     name: &Name,
     store: &mut S,
 ) -> Result<Touched, Short>
-    requires sound { IsSound buffers.old sessions.old }
-    requires within { at < length sessions.old }
-    requires fresh { state_at at sessions.old ≡ idle (state_at at sessions.old) }
-    requires can { CanDo directory.now at buffers.old sessions.old (Saves name.now) }
+    requires { IsReady directory.now at buffers.old sessions.old (Saves name.now) }
     ensures sound { IsSound buffers.new sessions.new }
     ensures done { IfOk result (IsDoneIn S.failed S.accepted directory.now at (Saves name.now)
         buffers.old sessions.old store.old buffers.new sessions.new store.new) }
@@ -185,10 +172,7 @@ pub fn do_decided<T: Marked + Drop, S: Store>(
     store: &mut S,
     outcome: &Outcome,
 ) -> Result<Touched, Short>
-    requires sound { IsSound buffers.old sessions.old }
-    requires within { at < length sessions.old }
-    requires fresh { state_at at sessions.old ≡ idle (state_at at sessions.old) }
-    requires can { CanDo directory.now at buffers.old sessions.old outcome.now }
+    requires { IsReady directory.now at buffers.old sessions.old outcome.now }
     ensures sound { IsSound buffers.new sessions.new }
     ensures done { IfOk result (IsDoneIn S.failed S.accepted directory.now at outcome.now
         buffers.old sessions.old store.old buffers.new sessions.new store.new) }

@@ -1,5 +1,5 @@
 // A buffer's text is inserted: whole, or not at all.
-ghost use Rattle.std.specs.Prelude.{◌≡◌, ◌<◌, ℕ, length, None, IfOk, OnOk, OnErr};
+ghost use Rattle.std.specs.Prelude.{◌≡◌, ℕ, None, IfOk, OnOk, OnErr};
 ghost use Rattle.mgs_laws.specs.Apart.{touched_by};
 ghost use Rattle.mgs_model.specs.World.{State};
 ghost use Rattle.mgs_model.specs.declared.entry.Decision.TheVariants.{Granted};
@@ -7,11 +7,10 @@ ghost use Rattle.mgs_buffers.specs.MarkedBuffer.{HasBuffer, marked_at};
 ghost use Rattle.mgs_plan.specs.Actions.{AreMarks, edited_by};
 ghost use Rattle.mgs_plan.specs.declared.outcome.Outcome.TheVariants.{Copies};
 ghost use Rattle.mgs_plan.specs.Inserting.{CanPut, IsInserted, buffers_inserted, insertion_of, leaving, put_outcome, session_inserted, target_decision};
-ghost use Rattle.mgs_act.specs.Doing.{CanDo, IsQuietlyDone};
+ghost use Rattle.mgs_act.specs.Doing.{IsQuietlyDone, IsReady};
 ghost use Rattle.mgs_world.specs.Acted.{IsUnchanged};
 ghost use Rattle.mgs_world.specs.Sound.{IsSound};
 ghost use Rattle.mgs_world.specs.WindowMarks.{WindowMarksDropped};
-ghost use Rattle.mgs_world.specs.Worlds.{idle, state_at};
 
 use crate::performing::{edit_by, leave};
 use mgs_buffers::Buffers;
@@ -161,10 +160,7 @@ pub fn insert_copy<T: Marked + Drop>(
     source: &Name,
     place: usize,
 ) -> Result<Touched, Short>
-    requires sound { IsSound buffers.old sessions.old }
-    requires within { at < length sessions.old }
-    requires fresh { state_at at sessions.old ≡ idle (state_at at sessions.old) }
-    requires can { CanDo directory.now at buffers.old sessions.old (Copies window_marks.now source.now place) }
+    requires { IsReady directory.now at buffers.old sessions.old (Copies window_marks.now source.now place) }
     ensures sound { IsSound buffers.new sessions.new }
     ensures done { IfOk result (IsQuietlyDone directory.now at (Copies window_marks.now source.now place) buffers.old sessions.old buffers.new sessions.new) }
     ensures err { OnErr result (IsUnchanged buffers.old sessions.old buffers.new sessions.new) }

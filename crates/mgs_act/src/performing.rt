@@ -10,12 +10,11 @@ ghost use Rattle.mgs_plan.specs.declared.action.Action.TheVariants.{Edits, Moves
 ghost use Rattle.mgs_plan.specs.declared.outcome.Outcome.TheVariants.{Acts};
 ghost use Rattle.mgs_plan.specs.Actions.{AreMarks, CanBeDone, edited_by, kill_set, mark_told, removed_by};
 ghost use Rattle.mgs_plan.specs.Deciding.{IsActionGranted, IsGranted};
-ghost use Rattle.mgs_act.specs.Doing.{CanDo, IsQuietlyDone, TakesMemory};
+ghost use Rattle.mgs_act.specs.Doing.{IsQuietlyDone, IsReady, TakesMemory};
 ghost use Rattle.mgs_act.specs.Performing.{CanComeBack, HasRoom, IsCarriedOut, IsEdit, IsTarget, IsTouched, MayBeShort, PointCanStand, TopCanStand, acted_in, back_in, buffers_acted, buffers_edited, change_in, marks_left, undone_in};
 ghost use Rattle.mgs_world.specs.Acted.{IsUnchanged};
 ghost use Rattle.mgs_world.specs.Sound.{IsSound};
 ghost use Rattle.mgs_world.specs.WindowMarks.{WindowMarksDropped};
-ghost use Rattle.mgs_world.specs.Worlds.{idle, state_at};
 
 use mgs_buffers::{Buffers, EditFault};
 use mgs_edit::{
@@ -518,10 +517,7 @@ pub fn perform<T: Marked + Drop>(
     window_marks: &WindowMarks,
     action: &Action,
 ) -> Result<Touched, Short>
-    requires sound { IsSound buffers.old sessions.old }
-    requires within { at < length sessions.old }
-    requires fresh { state_at at sessions.old ≡ idle (state_at at sessions.old) }
-    requires can { CanDo directory.now at buffers.old sessions.old (Acts window_marks.now action.now) }
+    requires { IsReady directory.now at buffers.old sessions.old (Acts window_marks.now action.now) }
     ensures sound { IsSound buffers.new sessions.new }
     ensures done { IfOk result (IsQuietlyDone directory.now at (Acts window_marks.now action.now) buffers.old sessions.old buffers.new sessions.new) }
     ensures err { OnErr result (IsUnchanged buffers.old sessions.old buffers.new sessions.new) }

@@ -1,11 +1,9 @@
 // A buffer is made and shown, whole or not at all.
-ghost use Rattle.std.specs.Prelude.{◌≡◌, ◌<◌, length, IfOk, OnErr, false};
-ghost use Rattle.mgs_buffers.specs.MarkedBuffer.{has_buffer};
+ghost use Rattle.std.specs.Prelude.{IfOk, OnErr};
 ghost use Rattle.mgs_plan.specs.declared.outcome.Outcome.TheVariants.{Creates};
-ghost use Rattle.mgs_act.specs.Doing.{IsQuietlyDone};
+ghost use Rattle.mgs_act.specs.Doing.{IsQuietlyDone, IsReady};
 ghost use Rattle.mgs_world.specs.Acted.{IsUnchanged};
 ghost use Rattle.mgs_world.specs.Sound.{IsSound};
-ghost use Rattle.mgs_world.specs.Worlds.{idle, state_at};
 
 use mgs_arrange::show;
 use mgs_buffers::Buffers;
@@ -23,10 +21,7 @@ pub fn show_created<T: Marked + Drop>(
     at: usize,
     name: Name,
 ) -> Result<Touched, Short>
-    requires sound { IsSound buffers.old sessions.old }
-    requires within { at < length sessions.old }
-    requires fresh { state_at at sessions.old ≡ idle (state_at at sessions.old) }
-    requires free { has_buffer name buffers.old ≡ false }
+    requires { IsReady directory.now at buffers.old sessions.old (Creates name) }
     ensures sound { IsSound buffers.new sessions.new }
     ensures done { IfOk result (IsQuietlyDone directory.now at (Creates name) buffers.old sessions.old buffers.new sessions.new) }
     ensures err { OnErr result (IsUnchanged buffers.old sessions.old buffers.new sessions.new) }

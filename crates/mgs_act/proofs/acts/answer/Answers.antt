@@ -17,9 +17,13 @@ plan_answer-outcome-requires-clause-fresh g c =
     let r = c.index-sessions-at.result in
     fresh_state xs c.args.at (get_or xs c.args.at r) (slice_get-get_or xs c.args.at r c.requires.within) c.requires.fresh
 
-pub do_decided-requires-clause-can : goal.do_decided-requires-clause-can
-do_decided-requires-clause-can g c =
-    can_here c.args.directory.now c.args.at c.args.buffers.now c.args.sessions.now c.index-sessions-at.result c.plan_answer-outcome.result c.requires.within c.plan_answer-outcome.ensures.can
+pub do_decided-requires : goal.do_decided-requires
+do_decided-requires g c = record {
+  sound = c.requires.sound;
+  within = c.requires.within;
+  fresh = c.requires.fresh;
+  can = can_here c.args.directory.now c.args.at c.args.buffers.now c.args.sessions.now c.index-sessions-at.result c.plan_answer-outcome.result c.requires.within c.plan_answer-outcome.ensures.can;
+}
 
 pub returns-clause-ok : goal.returns-clause-ok
 returns-clause-ok g c =

@@ -16,7 +16,7 @@ use Rattle.mgs_world.proofs.Soundness.{sound_set}
 use Rattle.mgs_plan.proofs.Commands.{asked_done, outcome_answered, set_done}
 use Rattle.mgs_plan.proofs.Deeds.{failed_so, fresh_state}
 use Rattle.mgs_plan.proofs.Quiet.{arrangement_quiet, question_quiet, setting_quiet}
-use Rattle.mgs_act.specs.Doing.{CanDo, TakesMemory}
+use Rattle.mgs_act.specs.Doing.{CanDo, IsReady, TakesMemory}
 use Rattle.mgs_act.proofs.Done.{done_as, got, here_is, nowhere_saves_none, quietly}
 use Rattle.mgs_act.proofs.Listings.{listed_so}
 use Rattle.mgs_act.proofs.Scrolls.{rows_save_nothing, rows_touch_nothing, rows_uses, scrolled_so}
@@ -46,9 +46,8 @@ returns-in-Fails-clause-done g c =
       refl,
     )) _)
 
-pub perform-requires-clause-can : goal.perform-requires-clause-can
-perform-requires-clause-can g c =
-    subst (CanDo c.args.directory.now c.args.at c.args.buffers.now c.args.sessions.now) c.in-Acts.is c.requires.can
+pub perform-requires : goal.perform-requires
+perform-requires g c = subst (IsReady c.args.directory.now c.args.at c.args.buffers.now c.args.sessions.now) c.in-Acts.is c.requires
 
 pub returns-in-Acts-clause-done : goal.returns-in-Acts-clause-done
 returns-in-Acts-clause-done g c =
@@ -58,25 +57,22 @@ pub returns-in-Acts-clause-may : goal.returns-in-Acts-clause-may
 returns-in-Acts-clause-may g c =
     OnErr-map c.perform.result (λ may. subst (λ o. TakesMemory c.args.at o c.args.buffers.now c.args.sessions.now) (sym c.in-Acts.is) (may)) c.perform.ensures.may
 
-pub kill-requires-clause-can : goal.kill-requires-clause-can
-kill-requires-clause-can g c =
-    subst (CanDo c.args.directory.now c.args.at c.args.buffers.now c.args.sessions.now) c.in-Kills.is c.requires.can
+pub kill-requires : goal.kill-requires
+kill-requires g c = subst (IsReady c.args.directory.now c.args.at c.args.buffers.now c.args.sessions.now) c.in-Kills.is c.requires
 
 pub returns-in-Kills-clause-done : goal.returns-in-Kills-clause-done
 returns-in-Kills-clause-done g c =
     done_as c.args.directory.now c.args.at c.args.outcome.now _ c.args.buffers.now _ c.args.sessions.now _ _ _ _ c.in-Kills.is (c.kill.ensures.done _)
 
-pub assign-requires-clause-can : goal.assign-requires-clause-can
-assign-requires-clause-can g c =
-    subst (CanDo c.args.directory.now c.args.at c.args.buffers.now c.args.sessions.now) c.in-SetsOwners.is c.requires.can
+pub assign-requires : goal.assign-requires
+assign-requires g c = subst (IsReady c.args.directory.now c.args.at c.args.buffers.now c.args.sessions.now) c.in-SetsOwners.is c.requires
 
 pub returns-in-SetsOwners-clause-done : goal.returns-in-SetsOwners-clause-done
 returns-in-SetsOwners-clause-done g c =
     done_as c.args.directory.now c.args.at c.args.outcome.now _ c.args.buffers.now _ c.args.sessions.now _ _ _ _ c.in-SetsOwners.is (c.assign.ensures.done _)
 
-pub set_list-requires-clause-can : goal.set_list-requires-clause-can
-set_list-requires-clause-can g c =
-    subst (CanDo c.args.directory.now c.args.at c.args.buffers.now c.args.sessions.now) c.in-SetsList.is c.requires.can
+pub set_list-requires : goal.set_list-requires
+set_list-requires g c = subst (IsReady c.args.directory.now c.args.at c.args.buffers.now c.args.sessions.now) c.in-SetsList.is c.requires
 
 pub returns-in-SetsList-clause-done : goal.returns-in-SetsList-clause-done
 returns-in-SetsList-clause-done g c =
@@ -110,10 +106,8 @@ returns-in_err-show-in-Shows-clause-may g c =
     when_refused _ (subst (λ o. TakesMemory c.args.at o c.args.buffers.now c.args.sessions.now) (sym c.in-Shows.is)
     (λ d id next h place found. may_show d c.args.buffers.now c.args.sessions.now next id c.args.at h found c.in-Shows.name c.show.ensures.selected))
 
-pub show_created-requires-clause-free : goal.show_created-requires-clause-free
-show_created-requires-clause-free g c =
-    let there = got c.args.sessions.now c.args.at c.requires.within in
-    subst (CanDo c.args.directory.now c.args.at c.args.buffers.now c.args.sessions.now) c.in-Creates.is c.requires.can there.0 there.1
+pub show_created-requires : goal.show_created-requires
+show_created-requires g c = subst (IsReady c.args.directory.now c.args.at c.args.buffers.now c.args.sessions.now) c.in-Creates.is c.requires
 
 pub returns-in-Creates-clause-done : goal.returns-in-Creates-clause-done
 returns-in-Creates-clause-done g c =
@@ -123,9 +117,8 @@ pub returns-in-Creates-clause-may : goal.returns-in-Creates-clause-may
 returns-in-Creates-clause-may g c =
     OnErr-map c.show_created.result (λ may. subst (λ o. TakesMemory c.args.at o c.args.buffers.now c.args.sessions.now) (sym c.in-Creates.is) (λ d id next h place found. refl)) c.show_created.ensures.err
 
-pub insert_copy-requires-clause-can : goal.insert_copy-requires-clause-can
-insert_copy-requires-clause-can g c =
-    subst (CanDo c.args.directory.now c.args.at c.args.buffers.now c.args.sessions.now) c.in-Copies.is c.requires.can
+pub insert_copy-requires : goal.insert_copy-requires
+insert_copy-requires g c = subst (IsReady c.args.directory.now c.args.at c.args.buffers.now c.args.sessions.now) c.in-Copies.is c.requires
 
 pub returns-in-Copies-clause-done : goal.returns-in-Copies-clause-done
 returns-in-Copies-clause-done g c =
@@ -135,9 +128,8 @@ pub returns-in-Copies-clause-may : goal.returns-in-Copies-clause-may
 returns-in-Copies-clause-may g c =
     OnErr-map c.insert_copy.result (λ may. subst (λ o. TakesMemory c.args.at o c.args.buffers.now c.args.sessions.now) (sym c.in-Copies.is) (copy_takes c.args.at c.args.buffers.now c.args.sessions.now c.in-Copies.marks c.in-Copies.source c.in-Copies.place)) c.insert_copy.ensures.err
 
-pub save-requires-clause-can : goal.save-requires-clause-can
-save-requires-clause-can g c =
-    subst (CanDo c.args.directory.now c.args.at c.args.buffers.now c.args.sessions.now) c.in-Saves.is c.requires.can
+pub save-requires : goal.save-requires
+save-requires g c = subst (IsReady c.args.directory.now c.args.at c.args.buffers.now c.args.sessions.now) c.in-Saves.is c.requires
 
 pub returns-in-Saves-clause-done : goal.returns-in-Saves-clause-done
 returns-in-Saves-clause-done g c =

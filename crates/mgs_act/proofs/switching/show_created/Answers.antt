@@ -1,4 +1,5 @@
 use Rattle.std.proofs.Common.{get_or, refl, sym, subst, ap}
+use Rattle.std.proofs.lemmas.Option.{slice_get-get_or}
 use Rattle.mgs_model.specs.declared.touched.Touched.TheVariants.{Anywhere}
 use Rattle.mgs_buffers.specs.MarkedBuffer.{HasBuffer}
 use Rattle.mgs_session.specs.declared.Session.{Session}
@@ -22,7 +23,8 @@ show-requires-clause-kept g c =
 pub kill_as-done-requires : goal.kill_as-done-requires
 kill_as-done-requires g c =
     let h : Session = get_or c.args.sessions.now c.args.at c.index-sessions-at.result in
-    (made_kept c.args.name h.user c.args.buffers.now c.create.new.self c.show.new.buffers c.requires.free c.in_ok-create.ensures.ok c.in-Err.ensures.unmarked).0
+    let free = c.requires.can h (slice_get-get_or c.args.sessions.now c.args.at c.index-sessions-at.result c.requires.within) in
+    (made_kept c.args.name h.user c.args.buffers.now c.create.new.self c.show.new.buffers free c.in_ok-create.ensures.ok c.in-Err.ensures.unmarked).0
 
 pub returns-in_default-clause-done : goal.returns-in_default-clause-done
 returns-in_default-clause-done g c =
@@ -42,16 +44,18 @@ pub returns-clause-sound : goal.returns-clause-sound
 returns-clause-sound g c =
     let d = c.args.directory.now in
     let h : Session = get_or c.args.sessions.now c.args.at c.index-sessions-at.result in
-    let granted = made_granted d c.args.name h.user c.args.buffers.now c.create.new.self c.show.new.buffers c.requires.free c.in_ok-create.ensures.ok c.in-Err.ensures.unmarked in
+    let free = c.requires.can h (slice_get-get_or c.args.sessions.now c.args.at c.index-sessions-at.result c.requires.within) in
+    let granted = made_granted d c.args.name h.user c.args.buffers.now c.create.new.self c.show.new.buffers free c.in_ok-create.ensures.ok c.in-Err.ensures.unmarked in
     let without = granted_done c.kill_as-done.result _ c.kill_as-done.ensures.answer granted c.kill_as-done.ensures.ok in
     let gone = granted_done c.kill_as-done.result _ c.kill_as-done.ensures.answer granted c.kill_as-done.ensures.gone in
-    unmade_sound c.args.name h.user c.args.buffers.now c.create.new.self c.show.new.buffers c.kill_as-done.new.self c.show.new.sessions c.requires.free c.in_ok-create.ensures.ok c.in-Err.ensures.unmarked without gone c.show.ensures.sound
+    unmade_sound c.args.name h.user c.args.buffers.now c.create.new.self c.show.new.buffers c.kill_as-done.new.self c.show.new.sessions free c.in_ok-create.ensures.ok c.in-Err.ensures.unmarked without gone c.show.ensures.sound
 
 pub returns-clause-err : goal.returns-clause-err
 returns-clause-err g c = λ directory next.
     let d = c.args.directory.now in
     let h : Session = get_or c.args.sessions.now c.args.at c.index-sessions-at.result in
-    let granted = made_granted d c.args.name h.user c.args.buffers.now c.create.new.self c.show.new.buffers c.requires.free c.in_ok-create.ensures.ok c.in-Err.ensures.unmarked in
+    let free = c.requires.can h (slice_get-get_or c.args.sessions.now c.args.at c.index-sessions-at.result c.requires.within) in
+    let granted = made_granted d c.args.name h.user c.args.buffers.now c.create.new.self c.show.new.buffers free c.in_ok-create.ensures.ok c.in-Err.ensures.unmarked in
     let without = granted_done c.kill_as-done.result _ c.kill_as-done.ensures.answer granted c.kill_as-done.ensures.ok in
     let gone = granted_done c.kill_as-done.result _ c.kill_as-done.ensures.answer granted c.kill_as-done.ensures.gone in
-    unmade_world c.args.name h.user c.args.buffers.now c.create.new.self c.show.new.buffers c.kill_as-done.new.self c.show.new.sessions c.requires.free c.in_ok-create.ensures.ok c.in-Err.ensures.unmarked without gone c.show.ensures.sound c.args.sessions.now directory next (c.in-Err.ensures.err directory next)
+    unmade_world c.args.name h.user c.args.buffers.now c.create.new.self c.show.new.buffers c.kill_as-done.new.self c.show.new.sessions free c.in_ok-create.ensures.ok c.in-Err.ensures.unmarked without gone c.show.ensures.sound c.args.sessions.now directory next (c.in-Err.ensures.err directory next)
