@@ -18,7 +18,8 @@ use Rattle.mgs_arrange.specs.Showing.{shown_in, window_shows}
 use Rattle.mgs_world.specs.Sound.{IsSound, in_use, one_if}
 use Rattle.mgs_world.specs.WindowMarks.{MarksStay, SizesStay, WindowMarksDropped}
 use Rattle.mgs_world.specs.Worlds.{buffers_of, id_after, session_id, session_of, size_found, size_named, world_of}
-use Rattle.mgs_world.proofs.Marks.{false_from, is_same, not_both, same_is}
+use Rattle.mgs_world.proofs.Killed.{buffers_killed, find_removed}
+use Rattle.mgs_world.proofs.Marks.{is_same, other_name, same_is}
 use Rattle.mgs_world.proofs.Sessions.{session_some}
 use Rattle.mgs_world.proofs.Soundness.{sound_in_use, sound_same}
 use Rattle.mgs_world.proofs.WindowMarks.{buffer_same, session_local, sessions_stay}
@@ -38,23 +39,6 @@ removed_last p (x ∷ xs) y none e = by (p x) none (λ none. removed_last p xs y
     by : (b : Bool) → is_some (cond b (Some x) (find p xs)) ≡ false → (is_some (find p xs) ≡ false → remove_first p (xs ++ y ∷ []) ≡ xs) → cond b (xs ++ y ∷ []) (x ∷ remove_first p (xs ++ y ∷ [])) ≡ x ∷ xs
     by true none later = cc
     by false none later = ap (λ ys. x ∷ ys) (later none)
-
-map_removed : {A B : Type 0} (h : A → B) (p : A → Bool) (q : B → Bool) → ((x : A) → q (h x) ≡ p x) → (xs : List A) → map h (remove_first p xs) ≡ remove_first q (map h xs)
-map_removed h p q same [] = refl
-map_removed h p q same (x ∷ xs) = by (p x) refl (map_removed h p q same xs)
-  where
-    by : (b : Bool) → p x ≡ b → map h (remove_first p xs) ≡ remove_first q (map h xs) → map h (cond b xs (x ∷ remove_first p xs)) ≡ cond (q (h x)) (map h xs) (h x ∷ remove_first q (map h xs))
-    by true e later = sym (ap (λ b. cond b (map h xs) (h x ∷ remove_first q (map h xs))) (same x ∙ e))
-    by false e later = ap (λ ys. h x ∷ ys) later ∙ sym (ap (λ b. cond b (map h xs) (h x ∷ remove_first q (map h xs))) (same x ∙ e))
-
--- what is found by a test that what goes does not pass
-found_still : {A : Type 0} (p q : A → Bool) → ((x : A) → p x ≡ true → q x ≡ false) → (xs : List A) → find q (remove_first p xs) ≡ find q xs
-found_still p q apart [] = refl
-found_still p q apart (x ∷ xs) = by (p x) refl (found_still p q apart xs)
-  where
-    by : (b : Bool) → p x ≡ b → find q (remove_first p xs) ≡ find q xs → find q (cond b xs (x ∷ remove_first p xs)) ≡ cond (q x) (Some x) (find q xs)
-    by true e later = sym (ap (λ b. cond b (Some x) (find q xs)) (apart x e))
-    by false e later = ap (cond (q x) (Some x)) later
 
 -- A BUFFER WITHOUT MARKS COMES
 
@@ -99,16 +83,12 @@ none_in : (o : Option MarkedBuffer) (i : ℕ) → is_some o ≡ false → one_if
 none_in None i e = refl
 none_in (Some k) i e = cc
 
-other_name : (name n : List ℕ) → same_name name n ≡ false → (k : MarkedBuffer) → marked_named name k ≡ true → marked_named n k ≡ false
-other_name name n apart k is =
-    false_from (marked_named n k) (λ e. not_both (same_name name n) (is_same name n (same_is name k.buffer.name is ∙ sym (same_is n k.buffer.name e))) apart)
-
 module _ (name : List ℕ) (ks ls : List MarkedBuffer) (k : MarkedBuffer) (free : has_buffer name ks ≡ false) (named : marked_named name k ≡ true) (unmarked : k.marks ≡ []) (empty : k.buffer.text ≡ []) (dropped : WindowMarksDropped None (ks ++ k ∷ []) ls) (gone : has_buffer name (without_marked name ls) ≡ false) where
   unused : (i : ℕ) → in_use name i ls ≡ 0
   unused i = omega (arith, dropped.uses name i, use_created name i ks k unmarked, none_in (find (marked_named name) ks) i free)
 
   gone_marks : (n : List ℕ) → same_name name n ≡ false → (marked_at n (without_marked name ls)).marks ≡ (marked_at n ls).marks
-  gone_marks n apart = ap (λ o. (marked_or_none o).marks) (found_still (marked_named name) (marked_named n) (other_name name n apart) ls)
+  gone_marks n apart = ap (λ o. (marked_or_none o).marks) (find_removed (marked_named name) (marked_named n) (λ k e. other_name name n k.buffer.name apart e) ls)
 
   gone_use : (n : List ℕ) (i : ℕ) → in_use n i (without_marked name ls) ≡ in_use n i ls
   gone_use n i = by (same_name name n) refl
@@ -133,9 +113,9 @@ module _ (name : List ℕ) (ks ls : List MarkedBuffer) (k : MarkedBuffer) (free 
 
   gone_buffers : buffers_of (without_marked name ls) ≡ buffers_of ks
   gone_buffers =
-      map_removed (λ (k : MarkedBuffer). k.buffer) (marked_named name) (is_named name) (λ k. refl) ls
+      buffers_killed name ls
       ∙ ap (remove_first (is_named name)) dropped.buffers
-      ∙ sym (map_removed (λ (k : MarkedBuffer). k.buffer) (marked_named name) (is_named name) (λ k. refl) (ks ++ k ∷ []))
+      ∙ sym (buffers_killed name (ks ++ k ∷ []))
       ∙ ap (λ (ms : List MarkedBuffer). buffers_of ms) (removed_last (marked_named name) ks k free named)
 
   gone_sizes : SizesStay (buffers_of ls) (buffers_of (without_marked name ls))

@@ -1,6 +1,6 @@
 -- What is done for the session at an index, by what was decided for it.
 use Rattle.std.proofs.Common.{◌≡◌, ℕ, zero, suc, ◌<◌, Bool, true, List, [], ◌∷◌, length, Option, Some, None, get_or, refl, sym, ap, subst, ◌∙◌, append-nil, arith}
-use Rattle.std.specs.Prelude.{slice_get, IfSome, OnOk, Result, Ok, Err}
+use Rattle.std.specs.Prelude.{slice_get, slice_set, IfSome, OnOk, Result, Ok, Err}
 use Rattle.std.specs.List.{flat_map, position_or_len}
 use Rattle.std.specs.Option.{option_and_then}
 use Rattle.std.proofs.lemmas.List.{get_or_default}
@@ -13,7 +13,9 @@ use Rattle.mgs_laws.specs.Refusals.{may_be_refused}
 use Rattle.mgs_model.specs.Outcome.{Act, Effect, No_effect, Edit, Unmodified, SetList, SetOwners, Create, Kill, Save, Quit}
 use Rattle.mgs_laws.specs.Refusals.{takes_memory}
 use Rattle.mgs_model.specs.Outcome as outcomes
+use Rattle.mgs_model.specs.Plans.{acted_state}
 use Rattle.mgs_model.specs.World.{State}
+use Rattle.mgs_model.specs.declared.session.Kind.TheVariants.{Other}
 use Rattle.mgs_model.specs.declared.session.Question.{Question}
 use Rattle.mgs_model.specs.declared.entry.Decision.{Decision}
 use Rattle.mgs_model.specs.declared.entry.Decision.TheVariants.{Granted}
@@ -24,6 +26,7 @@ use Rattle.mgs_store.proofs.Told.{told_none}
 use Rattle.mgs_buffers.specs.MarkedBuffer.{MarkedBuffer}
 use Rattle.mgs_buffers.specs.Permitting.{PermitAnswers}
 use Rattle.mgs_session.specs.Sessions.{window_marks_of}
+use Rattle.mgs_session.specs.declared.State as held
 use Rattle.mgs_session.specs.declared.Session.{Session}
 use Rattle.mgs_windows.specs.declared.WindowMarks.{WindowMarks}
 use Rattle.mgs_plan.specs.Actions.{AreMarks}
@@ -35,7 +38,8 @@ use Rattle.mgs_plan.proofs.Deeds.{acting_marks}
 use Rattle.mgs_plan.proofs.Tells.{tells_known}
 use Rattle.mgs_world.specs.Sound.{IsSound}
 use Rattle.mgs_act.specs.Doing.{CanDo, DoneBy, IsDone, IsQuietlyDone}
-use Rattle.mgs_world.specs.Worlds.{state_at, state_of, state_or_first, session_id, world_of}
+use Rattle.mgs_world.proofs.Owns.{at_rest}
+use Rattle.mgs_world.specs.Worlds.{idle, state_at, state_of, state_or_first, session_id, world_of}
 
 -- the session at an index within
 pub here_is : (xs : List Session) (at : ℕ) (r h : Session) → at < length xs → slice_get xs at ≡ Some h → get_or xs at r ≡ h
@@ -105,6 +109,27 @@ nowhere_saves_none (Create name owner) is = refl
 nowhere_saves_none (Kill name) is = refl
 nowhere_saves_none (Save name text) is = cc
 nowhere_saves_none Quit is = refl
+
+pub quiet_done : (directory : Directory) (at : ℕ) (o p : Outcome) (ks ls : List MarkedBuffer) (xs ys : List Session) (t : StoreTold) → o ≡ p
+    → ((id : ℕ) (next : Option ℕ) (h : Session) → at ≡ position_or_len (session_id id) xs → slice_get xs at ≡ Some h
+    → (let q = outcome_read ks (view_at directory ks xs next h) p true in (world_of directory ls ys next ≡ apply (world_of directory ks xs next) id q) × (touched_by q.effect ≡ Nowhere)))
+    → IsDone directory at o ks xs t ls ys t Nowhere
+quiet_done directory at o p ks ls xs ys t is does =
+    done_as directory at o p ks ls xs ys t t Nowhere is
+    (quietly directory at p ks ls xs ys Nowhere (λ id next h place found. let it = does id next h place found in (it.0, sym it.1, nowhere_saves_none _ it.1)) t)
+
+-- and is done to the session alone
+pub written_done : (directory : Directory) (at : ℕ) (o p : Outcome) (ks : List MarkedBuffer) (xs : List Session) (f : Session → Session) (r y : Session) (t : StoreTold) → o ≡ p → at < length xs → y ≡ f (get_or xs at r)
+    → ((id : ℕ) (next : Option ℕ) (h : Session) → at ≡ position_or_len (session_id id) xs → slice_get xs at ≡ Some h
+    → (let q = outcome_read ks (view_at directory ks xs next h) p true in (world_of directory ks (slice_set xs at (f h)) next ≡ apply (world_of directory ks xs next) id q) × (touched_by q.effect ≡ Nowhere)))
+    → IsDone directory at o ks xs t ks (slice_set xs at y) t Nowhere
+written_done directory at o p ks xs f r y t is within new does =
+    quiet_done directory at o p ks ks xs _ t is (λ id next h place found.
+    let it = does id next h place found in (ap (λ z. world_of directory ks (slice_set xs at z) next) (new ∙ ap f (here_is xs at r h within found)) ∙ it.0, it.1))
+
+-- A COMMAND OF NO KIND WAS DONE by a session at rest
+pub fresh_acted : (o : held.State) → state_of o ≡ idle (state_of o) → state_of (record o { kind = Other }) ≡ acted_state (state_of o)
+fresh_acted o fresh = at_rest (λ (state : State). record state { kind = Other }) acted_state (λ state. refl) (state_of o) fresh
 
 -- THE ACT
 

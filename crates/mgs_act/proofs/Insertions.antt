@@ -9,16 +9,17 @@ use Rattle.mgs_windows.specs.declared.WindowMarks.{WindowMarks}
 use Rattle.mgs_session.specs.Sessions.{window_marks_of}
 use Rattle.mgs_session.specs.declared.Session.{Session}
 use Rattle.mgs_buffers.specs.Changing.{writes}
+use Rattle.mgs_edit.specs.declared.plan.Finish.{Finish}
+use Rattle.mgs_act.specs.Performing.{marks_left}
 use Rattle.mgs_plan.specs.Actions.{AreMarks, edited_by, insertion_mask}
 use Rattle.mgs_plan.specs.Following.{edit_told, followed}
 use Rattle.mgs_plan.specs.Inserting.{IsInserted, buffers_inserted, insertion_of, leaving, put_outcome}
 use Rattle.mgs_world.specs.Sound.{IsSound}
 use Rattle.mgs_world.specs.Worlds.{idle, state_at, state_or_first, session_id, world_of}
-use Rattle.mgs_world.proofs.SelectedMark.{reserved_mark}
-use Rattle.mgs_world.proofs.Soundness.{mark_is_kept, sound_placed}
+use Rattle.mgs_world.proofs.Soundness.{mark_is_kept}
 use Rattle.mgs_plan.proofs.Deeds.{fresh_state}
 use Rattle.mgs_plan.proofs.Leaving.{length_edited_by}
-use Rattle.mgs_act.proofs.Marked.{held_then, mark_there, marked_so, reserved_marks, text_left}
+use Rattle.mgs_act.proofs.Marked.{mark_there, marked_so, sound_marked, text_left}
 
 -- THE TEXT AFTERWARDS
 
@@ -32,6 +33,11 @@ place_inserted x place put ks kept within =
 
 pub mark_inserted : (x : WindowMarks) (mid place : ℕ) (put : List ℕ) (ks : List MarkedBuffer) → IsMark x.name mid ks → AreMarks ks x → IsMark x.name mid (buffers_inserted x place put ks)
 mark_inserted x mid place put ks mark marks = mark_there x mid (insertion_of place put) (insertion_of place put).finish ks mark marks
+
+-- what is left of it
+pub left_there : (x : WindowMarks) (place : ℕ) (put : List ℕ) (f : Finish) (ks ls ms : List MarkedBuffer) → f ≡ leaving place → ls ≡ edited_by x.name (insertion_of place put) ks → ms ≡ marks_left x f (place + length put) ls → ms ≡ buffers_inserted x place put ks
+left_there x place put f ks ls ms is edits left =
+    left ∙ ap (λ (g : Finish). marks_left x g (place + length put) ls) is ∙ ap (marks_left x (leaving place) (place + length put)) edits
 
 -- an insertion writes
 pub insertion_writes : (mask place size : ℕ) → mask ≡ insertion_mask place size → writes mask ≡ true
@@ -47,10 +53,7 @@ module _ (ks ls : List MarkedBuffer) (xs : List Session) (at place : ℕ) (put :
   pub inserted_sound : IsSound ls (slice_set xs at y)
   inserted_sound =
       let change = insertion_of place put in
-      let kept = mark_is_kept x.name x.point ks marks.point in
-      let marks_l = reserved_marks x m.id ks m.between kept m.reserved marks in
-      let mark = mark_there x m.id change change.finish m.between (reserved_mark x.mark m.id ks m.between xs at h x refl sound kept found sel m.reserved) marks_l in
-      rw (m.buffers, m.session) (sound_placed x.name m.id place _ _ mark (held_then ks m.between xs at m.id h x change change.finish change.finish sound kept m.reserved found sel marks_l))
+      rw (m.buffers, m.session) (sound_marked ks m.between xs at m.id place h x change change.finish sound found sel marks m.reserved)
 
   pub inserted_so : (directory : Directory) (next : Option ℕ) (id : ℕ) → at ≡ position_or_len (session_id id) xs → at < length xs → state_at at xs ≡ idle (state_at at xs) → place ≤ length (marked_at x.name ks).buffer.text
       → world_of directory ls (followed x.name (edit_told (length (marked_at x.name ks).buffer.text) (insertion_of place put)) (slice_set xs at y)) next ≡ apply (world_of directory ks xs next) id (put_outcome (state_at at xs) x.name place put)

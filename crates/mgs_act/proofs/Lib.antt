@@ -7,6 +7,5 @@ pub mod Switches
 mod Through
 mod Insertions
 mod Rulings
-mod Listings
 pub mod Scrolls
 mod Done

@@ -1,5 +1,5 @@
 -- What an action does that sets the mark of the window.
-use Rattle.std.proofs.Common.{◌≡◌, ℕ, ◌+◌, ◌<◌, ◌≤◌, Bool, true, false, cond, ◌||◌, List, [], ◌∷◌, length, map, Option, Some, None, refl, sym, ap, subst, ◌∙◌, arith}
+use Rattle.std.proofs.Common.{◌≡◌, ℕ, ◌+◌, ◌<◌, ◌≤◌, true, false, cond, List, [], length, map, Option, Some, None, refl, sym, ap, subst, ◌∙◌, arith}
 use Rattle.std.specs.Prelude.{find, is_some, slice_get, slice_set, Result, Ok, Err, OnOk, OnErr}
 use Rattle.std.specs.List.{position_or_len}
 use Rattle.std.specs.Option.{option_and_then, option_map}
@@ -13,6 +13,7 @@ use Rattle.mgs_model.specs.Plans as plans
 use Rattle.mgs_model.specs.Acts.{edit_of, fails, finished, is_too_large}
 use Rattle.mgs_model.specs.Apply.{apply, buffers_after, change_at, change_first, session_after, session_arranged, window_adjusted}
 use Rattle.mgs_model.specs.declared.message.Message.TheVariants.{KillTooLarge}
+use Rattle.mgs_model.proofs.Basics.{or_true}
 use Rattle.mgs_model.proofs.Firsts.{position_or_len-map}
 use Rattle.mgs_marks.specs.Marks.{mark_in}
 use Rattle.mgs_buffers.specs.MarkedBuffer.{HasBuffer, IsMark, MarkedBuffer, marked_at, marked_named, marked_or_none, marked_placed, with_marks}
@@ -28,11 +29,11 @@ use Rattle.mgs_plan.specs.Following.{edit_through, edit_told, followed}
 use Rattle.mgs_plan.specs.Actions.{AreMarks, CanBeDone, IsMarked, edited_by, kill_at, kill_or_none, mark_gone, mark_told, marked_after, marks_gone, outcome_through, removed_by, session_finished}
 use Rattle.mgs_act.specs.Performing.{IsCarriedOut, IsCarriedOutBy, acted_in, buffers_acted}
 use Rattle.mgs_world.specs.Acted.{IsUnchanged}
-use Rattle.mgs_world.specs.Marking.{IsReserved, mark_at_place, session_marked}
+use Rattle.mgs_world.specs.Marking.{IsGivenUp, IsReserved, mark_at_place, session_marked}
 use Rattle.mgs_world.specs.Sound.{IsSound}
 use Rattle.mgs_world.specs.WindowMarks.{WindowMarksDropped}
 use Rattle.mgs_world.specs.Worlds.{id_after, idle, state_at, state_of, state_or_first, session_id, session_of, world_of}
-use Rattle.mgs_world.proofs.SelectedMark.{changed_first, get_set, given_up_sessions, given_up_sound, reserved_buffers, reserved_mark, reserved_more, reserved_sessions, reserved_sound, sessions_marked}
+use Rattle.mgs_world.proofs.SelectedMark.{changed_first, get_set, given_up_sessions, given_up_sound, reserved_buffers, reserved_given_up, reserved_mark, reserved_more, reserved_sessions, reserved_sound, sessions_marked}
 use Rattle.mgs_world.proofs.Soundness.{in_use_mark, mark_is_kept, sound_placed, sound_set}
 use Rattle.mgs_world.proofs.Marks.{found_same, is_same}
 use Rattle.mgs_world.proofs.Owns.{search_at_rest}
@@ -77,15 +78,24 @@ pub reserved_in_use : (o : Option ℕ) (x : WindowMarks) (id : ℕ) (ks ls : Lis
 reserved_in_use None x id ks ls is kept marks r = added_mark x.name 0 id ks ls kept r
 reserved_in_use (Some m) x id ks ls is kept marks r = rw (r.1, r.0) (marks.mark m is)
 
--- LISTS
+-- what holds once it is reserved
+module _ (x : WindowMarks) (ks ls : List MarkedBuffer) (id : ℕ) (marks : AreMarks ks x) (r : IsReserved x.name x.mark id ks ls) where
+  kept : HasBuffer x.name ks
+  kept = mark_is_kept x.name x.point ks marks.point
 
-first_pointwise : {A : Type 0} (p : A → Bool) (f g : A → A) → ((x : A) → f x ≡ g x) → (xs : List A) → change_first p f xs ≡ change_first p g xs
-first_pointwise p f g same [] = refl
-first_pointwise {A = A} p f g same (x ∷ xs) = go (p x) (first_pointwise p f g same xs)
-  where
-    go : (b : Bool) → change_first p f xs ≡ change_first p g xs → cond b (f x ∷ xs) (x ∷ change_first p f xs) ≡ cond b (g x ∷ xs) (x ∷ change_first p g xs)
-    go true rest = ap (λ y. y ∷ xs) (same x)
-    go false rest = ap (λ ys. x ∷ ys) rest
+  pub marks_then : AreMarks ls x
+  marks_then = reserved_marks x id ks ls kept r marks
+
+  pub kept_then : HasBuffer x.name ls
+  kept_then = mark_is_kept x.name x.point ls marks_then.point
+
+  pub mark_then : IsMark x.name id ls
+  mark_then = reserved_in_use x.mark x id ks ls refl kept marks r
+
+  -- and is given up again
+  pub dropped_then : (ms ns : List MarkedBuffer) → ms ≡ ls → IsGivenUp x.name x.mark id ms ns → WindowMarksDropped None ks ns
+  dropped_then ms ns same given =
+      reserved_given_up x.name x.mark id ks ls ns kept r (subst (λ (s : List MarkedBuffer). IsGivenUp x.name x.mark id s ns) same given)
 
 -- ONE SESSION
 
@@ -118,7 +128,7 @@ marked_there ks ls xs id at mid p h x c behind text f sound kept r place within 
     ∙ sym (changed_first (has_id id) arranged zs at there))
     ∙ at_twice arranged (mark_at_place p) at zs
     ∙ changed_first (has_id id) (λ z. mark_at_place p (arranged z)) zs at there
-    ∙ first_pointwise (has_id id) (λ z. mark_at_place p (arranged z)) (session_arranged (ended (record left { mark = Mark_at p }) e state)) (mark_ends p left e state) zs
+    ∙ (λ i. change_first (has_id id) (λ z. mark_ends p left e state z i) zs)
 
 -- THE WORLD
 
@@ -223,24 +233,20 @@ acted_so directory ks ls xs next id at p x h y (Moves f) sound place within is s
     (marked_so directory ks m.between xs next id at m.id p h x (record { a = 0; b = 0; put = []; finish = finish_read text h.kill 0 f }) 0 text f (omega arith) (omega arith) sound (mark_is_kept x.name x.point ks marks.point) m.reserved place within is sel marks fresh told can.small)
 acted_so directory ks ls xs next id at p x h y Clears sound place within is sel marks fresh can told m = cc
 
+pub sound_marked : (ks ls : List MarkedBuffer) (xs : List Session) (at mid p : ℕ) (h : Session) (x : WindowMarks) (c : plans.Change) (g : plans.Finish) → IsSound ks xs → slice_get xs at ≡ Some h → window_marks_of h ≡ Some x → AreMarks ks x → IsReserved x.name x.mark mid ks ls → IsSound (change_first (marked_named x.name) (marked_placed mid p) (marks_gone x c.finish (edited_by x.name c ls))) (slice_set xs at (session_marked mid (session_finished g h)))
+sound_marked ks ls xs at mid p h x c g sound is sel marks r =
+    let marks_l = marks_then x ks ls mid marks r in
+    sound_placed x.name mid p _ _ (mark_there x mid c c.finish ls (mark_then x ks ls mid marks r) marks_l) (held_then ks ls xs at mid h x c c.finish g sound (mark_is_kept x.name x.point ks marks.point) r is sel marks_l)
+
 sound_then : (ks ls : List MarkedBuffer) (xs : List Session) (at p : ℕ) (x : WindowMarks) (h y : Session) (action : Action) → IsSound ks xs → slice_get xs at ≡ Some h → window_marks_of h ≡ Some x → AreMarks ks x → mark_told action ≡ Some p → IsMarked x p action ks ls h y → IsSound ls (slice_set xs at y)
 sound_then ks ls xs at p x h y (Fails message) sound is sel marks told m = cc
 sound_then ks ls xs at p x h y (Edits mask c) sound is sel marks told m =
-    let text = (marked_at x.name ks).buffer.text in
-    let change = change_read text h.kill c in
-    let kept = mark_is_kept x.name x.point ks marks.point in
-    let marks_l = reserved_marks x m.id ks m.between kept m.reserved marks in
-    let mark = mark_there x m.id change change.finish m.between (reserved_mark x.mark m.id ks m.between xs at h x refl sound kept is sel m.reserved) marks_l in
-    rw (m.buffers, m.session) (sound_placed x.name m.id p _ _ mark (held_then ks m.between xs at m.id h x change change.finish change.finish sound kept m.reserved is sel marks_l))
+    let change = change_read (marked_at x.name ks).buffer.text h.kill c in
+    rw (m.buffers, m.session) (sound_marked ks m.between xs at m.id p h x change change.finish sound is sel marks m.reserved)
 sound_then ks ls xs at p x h y (Undoes u) sound is sel marks told m = cc
 sound_then ks ls xs at p x h y (Moves f) sound is sel marks told m =
-    let text = (marked_at x.name ks).buffer.text in
-    let left = finish_read text h.kill 0 f in
-    let change : plans.Change = record { a = 0; b = 0; put = []; finish = left } in
-    let kept = mark_is_kept x.name x.point ks marks.point in
-    let marks_l = reserved_marks x m.id ks m.between kept m.reserved marks in
-    let mark = mark_there x m.id change left m.between (reserved_mark x.mark m.id ks m.between xs at h x refl sound kept is sel m.reserved) marks_l in
-    rw (m.buffers, m.session) (sound_placed x.name m.id p _ _ mark (held_then ks m.between xs at m.id h x change left left sound kept m.reserved is sel marks_l))
+    let left = finish_read (marked_at x.name ks).buffer.text h.kill 0 f in
+    rw (m.buffers, m.session) (sound_marked ks m.between xs at m.id p h x (record { a = 0; b = 0; put = []; finish = left }) left sound is sel marks m.reserved)
 sound_then ks ls xs at p x h y Clears sound is sel marks told m = cc
 
 -- the marks of the window that a session has selected
@@ -284,15 +290,11 @@ dropped_so ks ls xs at h y is dropped same sound = λ directory next.
     (rw same (ap (map (session_of ls)) (set_back xs at h is)) ∙ given_up_sessions ks ls xs dropped sound)
 
 -- what sets a mark may be refused
-or_true : (a : Bool) → (a || true) ≡ true
-or_true true = refl
-or_true false = refl
-
 pub finish_takes : (state : model.State) (f : plans.Finish) (e : Effect) (p : ℕ) → is_too_large f.kill ≡ false → f.mark ≡ Mark_at p → takes_memory (finished state f e) ≡ true
 finish_takes state f e p small told =
     ap (λ b. takes_memory (cond b (fails state KillTooLarge) (ended f e state))) small
     ∙ ap (λ m. takes_memory (ended (record f { mark = m }) e state)) told
-    ∙ or_true (effect_takes_memory e)
+    ∙ or_true (effect_takes_memory e) true refl
 
 pub marking_takes : (state : model.State) (x : WindowMarks) (ks : List MarkedBuffer) (kill : List ℕ) (action : Action) (p : ℕ) → CanBeDone ks x kill action → mark_told action ≡ Some p → takes_memory (outcome_through state x ks kill action) ≡ true
 marking_takes state x ks kill (Fails message) p can told = cc

@@ -8,11 +8,10 @@ use Rattle.mgs_model.specs.Access.{Directory}
 use Rattle.mgs_model.specs.World.{has_id}
 use Rattle.mgs_model.specs.World as model
 use Rattle.mgs_model.specs.Outcome.{Keep_position, Keep_mark}
-use Rattle.mgs_model.specs.Plans.{acted_state, row_scrolled}
+use Rattle.mgs_model.specs.Plans.{row_scrolled}
 use Rattle.mgs_model.specs.Acts.{scrolls_rows}
 use Rattle.mgs_model.specs.Apply.{apply, change_at, change_first, session_arranged, window_adjusted}
 use Rattle.mgs_laws.specs.Apart.{touched_by}
-use Rattle.mgs_model.specs.Events.{saved_by}
 use Rattle.mgs_model.specs.declared.session.Kind.TheVariants.{Other}
 use Rattle.mgs_model.specs.declared.session.Scrolling.{Scrolling}
 use Rattle.mgs_model.specs.declared.touched.Touched.TheVariants.{Nowhere}
@@ -24,13 +23,13 @@ use Rattle.mgs_windows.specs.declared.RowPane.{RowPane}
 use Rattle.mgs_windows.specs.declared.RowPane.TheVariants.{NoRows, Buffers, Entries}
 use Rattle.mgs_windows.specs.Panes.{rows_set}
 use Rattle.mgs_session.specs.Sessions.{acted}
-use Rattle.mgs_session.specs.declared.State.{State}
 use Rattle.mgs_session.specs.declared.Session.{Session}
 use Rattle.mgs_arrange.proofs.WindowsGone.{sum_changed}
 use Rattle.mgs_plan.specs.Rows.{CanScroll, pane_scrolled, rows_outcome, rows_scrolled, session_rows}
+use Rattle.mgs_act.proofs.Done.{fresh_acted}
 use Rattle.mgs_world.specs.Sound.{session_uses, window_uses}
 use Rattle.mgs_world.specs.Worlds.{id_after, idle, state_of, session_id, session_of, window_of, window_shown, world_of}
-use Rattle.mgs_world.proofs.Owns.{at_rest, search_kept}
+use Rattle.mgs_world.proofs.Owns.{search_kept}
 use Rattle.mgs_world.proofs.Worlds.{same_world}
 
 -- no mark moves
@@ -57,9 +56,6 @@ row_seen ks rows row w none does =
 
 -- THE SESSION
 
-fresh_scrolling : (o : State) → state_of o ≡ idle (state_of o) → state_of (record o { kind = Other }) ≡ acted_state (state_of o)
-fresh_scrolling o fresh = at_rest (λ (state : model.State). record state { kind = Other }) acted_state (λ state. refl) (state_of o) fresh
-
 module _ (directory : Directory) (ks : List MarkedBuffer) (xs : List Session) (next : Option ℕ) (id at : ℕ) (h : Session) (place : at ≡ position_or_len (session_id id) xs) (within : at < length xs) (found : slice_get xs at ≡ Some h) (fresh : state_of h.state ≡ idle (state_of h.state)) where
   rows_so : (w : Window) (rows : RowPane) (row : ℕ) → slice_get h.windows.windows h.windows.selected ≡ Some w → w.shows ≡ None → window_shown ks w.height None rows ≡ row_by row (window_shown ks w.height None w.rows)
       → world_of directory ks (slice_set xs at (acted Other (session_rows rows h))) next ≡ apply (world_of directory ks xs next) id (scrolls_rows (state_of h.state) (Some row))
@@ -68,7 +64,7 @@ module _ (directory : Directory) (ks : List MarkedBuffer) (xs : List Session) (n
       same_world directory _ _ _ _ (id_after next) refl
       (written_first (session_of ks) (has_id id) f xs at h (acted Other (session_rows rows h)) (place ∙ sym (position_or_len-map (session_of ks) (has_id id) xs)) within (sym (get_or_from_slice_get xs at h h found))
       (λ i. record (session_of ks h) {
-        state = fresh_scrolling h.state fresh i;
+        state = fresh_acted h.state fresh i;
         windows = changed_there (window_of ks) (rows_set rows) (row_by row) h.windows.selected h.windows.windows w is (row_seen ks rows row w none does) i;
         search = search_kept ks h fresh i;
       })
@@ -97,12 +93,7 @@ module _ (directory : Directory) (ks : List MarkedBuffer) (xs : List Session) (n
   pub scrolled_so : (rows : RowPane) → CanScroll h rows → world_of directory ks (slice_set xs at (acted Other (session_rows rows h))) next ≡ apply (world_of directory ks xs next) id (rows_outcome (state_of h.state) rows)
   scrolled_so rows can = by_window can.by (slice_get h.windows.windows h.windows.selected) rows refl can.unshown can.scrolled
 
-pub rows_save_nothing : (state : model.State) (rows : RowPane) → saved_by (rows_outcome state rows).effect ≡ []
-rows_save_nothing state NoRows = refl
-rows_save_nothing state (Buffers row) = refl
-rows_save_nothing state (Entries name row) = refl
-
-pub rows_touch_nothing : (state : model.State) (rows : RowPane) → Nowhere ≡ touched_by (rows_outcome state rows).effect
-rows_touch_nothing state NoRows = refl
-rows_touch_nothing state (Buffers row) = refl
-rows_touch_nothing state (Entries name row) = refl
+pub rows_quiet : (state : model.State) (rows : RowPane) → touched_by (rows_outcome state rows).effect ≡ Nowhere
+rows_quiet state NoRows = refl
+rows_quiet state (Buffers row) = refl
+rows_quiet state (Entries name row) = refl

@@ -6,7 +6,7 @@ ghost use Rattle.mgs_model.specs.declared.entry.Decision.TheVariants.{Granted};
 ghost use Rattle.mgs_buffers.specs.MarkedBuffer.{HasBuffer, marked_at};
 ghost use Rattle.mgs_plan.specs.Actions.{AreMarks, edited_by};
 ghost use Rattle.mgs_plan.specs.declared.outcome.Outcome.TheVariants.{Copies};
-ghost use Rattle.mgs_plan.specs.Inserting.{CanPut, IsInserted, buffers_inserted, insertion_of, leaving, put_outcome, session_inserted, target_decision};
+ghost use Rattle.mgs_plan.specs.Inserting.{CanPut, IsInserted, insertion_of, leaving, put_outcome, target_decision};
 ghost use Rattle.mgs_act.specs.Doing.{IsQuietlyDone, IsReady};
 ghost use Rattle.mgs_world.specs.Acted.{IsUnchanged};
 ghost use Rattle.mgs_world.specs.Sound.{IsSound};
@@ -73,46 +73,8 @@ fn leaving(place: usize) -> Finish
     }
 }
 
-/// Puts characters into the window's buffer at a place, with the point behind them. `Short`: memory was refused, and nothing
-/// was done.
-fn insert_chars<T: Marked + Drop>(
-    buffers: &mut Buffers<T>,
-    directory: &Directory,
-    session: &mut Session,
-    window_marks: &WindowMarks,
-    place: usize,
-    put: &[char],
-) -> Result<(), Short>
-    requires marks { AreMarks buffers.old window_marks.now }
-    requires can { CanPut (marked_at window_marks.now.name buffers.old).buffer put.now place }
-    requires granted { target_decision directory.now buffers.old session.old.user window_marks.now.name place ≡ Granted }
-    ensures ok { OnOk result (buffers.new ≡ buffers_inserted window_marks.now place put.now buffers.old) }
-    ensures acted { OnOk result (session.new ≡ session_inserted place put.now session.old) }
-    ensures err { OnErr result (buffers.new ≡ buffers.old) }
-    ensures same { OnErr result (session.new ≡ session.old) }
-{
-    // For the range of a place.
-    let _size = buffers.text_len(&window_marks.name);
-    put_in(
-        buffers,
-        directory,
-        &session.user,
-        &window_marks.name,
-        place,
-        put,
-    )?;
-    leave(
-        buffers,
-        session,
-        window_marks,
-        &leaving(place),
-        place + put.len(),
-        None,
-    );
-    Ok(())
-}
-
-/// The same, with the mark at the place. `Short`: memory was refused, and nothing was done.
+/// Puts characters into the window's buffer at a place, with the mark there and the point behind them. `Short`: memory was
+/// refused, and nothing was done.
 fn insert_marked<T: Marked + Drop>(
     buffers: &mut Buffers<T>,
     directory: &Directory,
@@ -128,9 +90,27 @@ fn insert_marked<T: Marked + Drop>(
     ensures err { OnErr result (WindowMarksDropped None buffers.old buffers.new) }
     ensures same { OnErr result (session.new ≡ session.old) }
 {
+    // For the range of a place.
+    let _size = buffers.text_len(&window_marks.name);
     let mark = reserve_mark(buffers, window_marks)?;
-    match insert_chars(buffers, directory, session, window_marks, place, put) {
+    match put_in(
+        buffers,
+        directory,
+        &session.user,
+        &window_marks.name,
+        place,
+        put,
+    ) {
         Ok(()) => {
+            let behind = place + put.len();
+            leave(
+                buffers,
+                session,
+                window_marks,
+                &leaving(place),
+                behind,
+                None,
+            );
             set_mark(buffers, session, window_marks, mark, place);
             Ok(())
         }

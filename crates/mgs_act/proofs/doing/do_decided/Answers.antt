@@ -1,11 +1,9 @@
 use Rattle.std.proofs.Common.{get_or, refl, ap, subst, sym, [], true, ◌∙◌}
-use Rattle.std.specs.Prelude.{slice_set}
 use Rattle.mgs_model.specs.Apply.{applied}
 use Rattle.mgs_laws.specs.Refusals.{may_be_refused}
 use Rattle.mgs_model.specs.Outcome.{Run}
 use Rattle.mgs_model.specs.declared.session.Command.TheVariants.{Rearrange}
 use Rattle.mgs_model.specs.declared.session.Kind.TheVariants.{Other}
-use Rattle.mgs_model.specs.declared.touched.Touched.TheVariants.{Nowhere}
 use Rattle.mgs_session.specs.Sessions.{acted, asking, failed}
 use Rattle.mgs_plan.specs.Deciding.{view_at}
 use Rattle.mgs_plan.specs.Rows.{session_rows}
@@ -17,11 +15,10 @@ use Rattle.mgs_plan.proofs.Commands.{asked_done, outcome_answered, set_done}
 use Rattle.mgs_plan.proofs.Deeds.{failed_so, fresh_state}
 use Rattle.mgs_plan.proofs.Quiet.{arrangement_quiet, question_quiet, setting_quiet}
 use Rattle.mgs_act.specs.Doing.{CanDo, IsReady, TakesMemory}
-use Rattle.mgs_act.proofs.Done.{done_as, got, here_is, nowhere_saves_none, quietly}
-use Rattle.mgs_act.proofs.Listings.{listed_so}
-use Rattle.mgs_act.proofs.Scrolls.{rows_save_nothing, rows_touch_nothing, rows_uses, scrolled_so}
+use Rattle.mgs_act.proofs.Done.{done_as, got, quiet_done, written_done}
+use Rattle.mgs_act.proofs.Scrolls.{rows_quiet, rows_uses, scrolled_so}
 use Rattle.mgs_act.proofs.Settings.{set_uses}
-use Rattle.mgs_act.proofs.Switches.{may_show, shown_done, when_ok}
+use Rattle.mgs_act.proofs.Switches.{listed_done, may_show, shown_done, when_ok}
 use Rattle.mgs_act.proofs.Through.{copy_takes}
 use Rattle.mgs_act.proofs.Marked.{when_refused}
 use Rattle.mgs_buffers.proofs.MarkedLemmas.{OnErr-map}
@@ -38,13 +35,10 @@ returns-in-Fails-clause-done g c =
     let d = c.args.directory.now in
     let ks = c.args.buffers.now in
     let xs = c.args.sessions.now in
-    done_as d c.args.at c.args.outcome.now _ ks _ xs _ _ _ _ c.in-Fails.is
-    (quietly d c.args.at (Fails c.in-Fails.message) ks _ xs _ Nowhere (λ id next h place found. (
-      ap (λ y. world_of d ks (slice_set xs c.args.at y) next) (c.fail.ensures ∙ ap (failed c.in-Fails.message) (here_is xs c.args.at c.index-sessions-at.result h c.requires.within found))
-          ∙ failed_so d ks xs next id c.args.at h c.in-Fails.message place c.requires.within found (fresh_state xs c.args.at h found c.requires.fresh),
+    written_done d c.args.at c.args.outcome.now (Fails c.in-Fails.message) ks xs (failed c.in-Fails.message) c.index-sessions-at.result _ _ c.in-Fails.is c.requires.within c.fail.ensures (λ id next h place found. (
+      failed_so d ks xs next id c.args.at h c.in-Fails.message place c.requires.within found (fresh_state xs c.args.at h found c.requires.fresh),
       refl,
-      refl,
-    )) _)
+    ))
 
 pub perform-requires : goal.perform-requires
 perform-requires g c = subst (IsReady c.args.directory.now c.args.at c.args.buffers.now c.args.sessions.now) c.in-Acts.is c.requires
@@ -83,9 +77,10 @@ returns-in-Lists-clause-done g c =
     let d = c.args.directory.now in
     let ks = c.args.buffers.now in
     let xs = c.args.sessions.now in
-    done_as d c.args.at c.args.outcome.now _ ks _ xs _ _ _ _ c.in-Lists.is
-    (quietly d c.args.at (Lists c.in-Lists.name) ks _ xs _ Nowhere (λ id next h place found.
-    (listed_so d ks xs next id c.args.at h place c.requires.within found c.requires.fresh (world_of d c.show_entries.new.buffers c.show_entries.new.sessions next) c.in-Lists.name c.show_entries.ensures.selected (λ x. c.show_entries.ensures.world d id next x), refl, refl)) _)
+    quiet_done d c.args.at c.args.outcome.now (Lists c.in-Lists.name) ks _ xs _ _ c.in-Lists.is (λ id next h place found. (
+      listed_done d ks xs next id c.args.at h found place c.requires.within c.requires.fresh _ c.in-Lists.name c.show_entries.ensures.selected (λ x. c.show_entries.ensures.world d id next x),
+      refl,
+    ))
 
 pub show-requires-clause-kept : goal.show-requires-clause-kept
 show-requires-clause-kept g c =
@@ -97,9 +92,10 @@ returns-in_ok-show-in-Shows-clause-done g c =
     let d = c.args.directory.now in
     let ks = c.args.buffers.now in
     let xs = c.args.sessions.now in
-    done_as d c.args.at c.args.outcome.now _ ks _ xs _ _ _ _ c.in-Shows.is
-    (quietly d c.args.at (Shows c.in-Shows.name) ks _ xs _ Nowhere (λ id next h place found.
-    (shown_done d ks xs next id c.args.at h found place c.requires.within c.requires.fresh _ c.in-Shows.name c.show.ensures.selected (λ x. c.in_ok-show-in-Shows.ensures.ok d id next x), refl, refl)) _)
+    quiet_done d c.args.at c.args.outcome.now (Shows c.in-Shows.name) ks _ xs _ _ c.in-Shows.is (λ id next h place found. (
+      shown_done d ks xs next id c.args.at h found place c.requires.within c.requires.fresh _ c.in-Shows.name c.show.ensures.selected (λ x. c.in_ok-show-in-Shows.ensures.ok d id next x),
+      refl,
+    ))
 
 pub returns-in_err-show-in-Shows-clause-may : goal.returns-in_err-show-in-Shows-clause-may
 returns-in_err-show-in-Shows-clause-may g c =
@@ -151,13 +147,10 @@ returns-in-Scrolls-clause-done g c =
     let ks = c.args.buffers.now in
     let xs = c.args.sessions.now in
     let can = subst (CanDo d c.args.at ks xs) c.in-Scrolls.is c.requires.can in
-    done_as d c.args.at c.args.outcome.now _ ks _ xs _ _ _ _ c.in-Scrolls.is
-    (quietly d c.args.at (Scrolls c.in-Scrolls.rows) ks _ xs _ Nowhere (λ id next h place found. (
-      ap (λ y. world_of d ks (slice_set xs c.args.at y) next) (c.scroll.ensures ∙ ap (λ y. acted Other (session_rows c.in-Scrolls.rows y)) (here_is xs c.args.at c.index-sessions-at-in-Scrolls.result h c.requires.within found))
-          ∙ scrolled_so d ks xs next id c.args.at h place c.requires.within found (fresh_state xs c.args.at h found c.requires.fresh) c.in-Scrolls.rows (can h found),
-      rows_touch_nothing (state_of h.state) c.in-Scrolls.rows,
-      rows_save_nothing (state_of h.state) c.in-Scrolls.rows,
-    )) _)
+    written_done d c.args.at c.args.outcome.now (Scrolls c.in-Scrolls.rows) ks xs (λ y. acted Other (session_rows c.in-Scrolls.rows y)) c.index-sessions-at-in-Scrolls.result _ _ c.in-Scrolls.is c.requires.within c.scroll.ensures (λ id next h place found. (
+      scrolled_so d ks xs next id c.args.at h place c.requires.within found (fresh_state xs c.args.at h found c.requires.fresh) c.in-Scrolls.rows (can h found),
+      rows_quiet (state_of h.state) c.in-Scrolls.rows,
+    ))
 
 pub returns-in-Sets-clause-sound : goal.returns-in-Sets-clause-sound
 returns-in-Sets-clause-sound g c =
@@ -171,14 +164,10 @@ returns-in-Sets-clause-done g c =
     let ks = c.args.buffers.now in
     let xs = c.args.sessions.now in
     let can = subst (CanDo d c.args.at ks xs) c.in-Sets.is c.requires.can in
-    done_as d c.args.at c.args.outcome.now _ ks _ xs _ _ _ _ c.in-Sets.is
-    (quietly d c.args.at (Sets c.in-Sets.setting c.in-Sets.argument) ks _ xs _ Nowhere (λ id next h place found.
-    let touches = setting_quiet (view_at d ks xs next h) c.in-Sets.argument true c.in-Sets.setting in (
-      ap (λ y. world_of d ks (slice_set xs c.args.at y) next) (c.set.ensures ∙ ap (session_set c.in-Sets.setting c.in-Sets.argument) (here_is xs c.args.at c.index-sessions-at-in-Sets.result h c.requires.within found))
-          ∙ set_done d ks xs next id c.args.at h place c.requires.within found c.requires.fresh c.in-Sets.setting c.in-Sets.argument true (can h found),
-      sym touches,
-      nowhere_saves_none _ touches,
-    )) _)
+    written_done d c.args.at c.args.outcome.now (Sets c.in-Sets.setting c.in-Sets.argument) ks xs (session_set c.in-Sets.setting c.in-Sets.argument) c.index-sessions-at-in-Sets.result _ _ c.in-Sets.is c.requires.within c.set.ensures (λ id next h place found. (
+      set_done d ks xs next id c.args.at h place c.requires.within found c.requires.fresh c.in-Sets.setting c.in-Sets.argument true (can h found),
+      setting_quiet (view_at d ks xs next h) c.in-Sets.argument true c.in-Sets.setting,
+    ))
 
 pub returns-in-Asks-clause-sound : goal.returns-in-Asks-clause-sound
 returns-in-Asks-clause-sound g c =
@@ -191,14 +180,10 @@ returns-in-Asks-clause-done g c =
     let d = c.args.directory.now in
     let ks = c.args.buffers.now in
     let xs = c.args.sessions.now in
-    done_as d c.args.at c.args.outcome.now _ ks _ xs _ _ _ _ c.in-Asks.is
-    (quietly d c.args.at (Asks c.in-Asks.question c.in-Asks.argument) ks _ xs _ Nowhere (λ id next h place found.
-    let touches = question_quiet (view_at d ks xs next h) c.in-Asks.argument true c.in-Asks.question in (
-      ap (λ y. world_of d ks (slice_set xs c.args.at y) next) (c.ask.ensures ∙ ap (asking c.in-Asks.question c.in-Asks.argument) (here_is xs c.args.at c.index-sessions-at-in-Asks.result h c.requires.within found))
-          ∙ asked_done d ks xs next id c.args.at h place c.requires.within found c.requires.fresh c.in-Asks.question c.in-Asks.argument true,
-      sym touches,
-      nowhere_saves_none _ touches,
-    )) _)
+    written_done d c.args.at c.args.outcome.now (Asks c.in-Asks.question c.in-Asks.argument) ks xs (asking c.in-Asks.question c.in-Asks.argument) c.index-sessions-at-in-Asks.result _ _ c.in-Asks.is c.requires.within c.ask.ensures (λ id next h place found. (
+      asked_done d ks xs next id c.args.at h place c.requires.within found c.requires.fresh c.in-Asks.question c.in-Asks.argument true,
+      question_quiet (view_at d ks xs next h) c.in-Asks.argument true c.in-Asks.question,
+    ))
 
 pub returns-in_ok-rearrange-in-Arranges-clause-done : goal.returns-in_ok-rearrange-in-Arranges-clause-done
 returns-in_ok-rearrange-in-Arranges-clause-done g c =
@@ -206,13 +191,10 @@ returns-in_ok-rearrange-in-Arranges-clause-done g c =
     let ks = c.args.buffers.now in
     let xs = c.args.sessions.now in
     let run = Run (Rearrange c.in-Arranges.arrangement) c.in-Arranges.argument [] in
-    done_as d c.args.at c.args.outcome.now _ ks _ xs _ _ _ _ c.in-Arranges.is
-    (quietly d c.args.at (Arranges c.in-Arranges.arrangement c.in-Arranges.argument) ks _ xs _ Nowhere (λ id next h place found.
-    let touches = arrangement_quiet (view_at d ks xs next h) c.in-Arranges.argument true c.in-Arranges.arrangement in (
+    quiet_done d c.args.at c.args.outcome.now (Arranges c.in-Arranges.arrangement c.in-Arranges.argument) ks _ xs _ _ c.in-Arranges.is (λ id next h place found. (
       c.in_ok-rearrange-in-Arranges.ensures.ok d id next place ∙ ap (applied (world_of d ks xs next) id) (outcome_answered d ks xs next id c.args.at h run true place c.requires.within found),
-      sym touches,
-      nowhere_saves_none _ touches,
-    )) _)
+      arrangement_quiet (view_at d ks xs next h) c.in-Arranges.argument true c.in-Arranges.arrangement,
+    ))
 
 pub returns-in_err-rearrange-in-Arranges-clause-may : goal.returns-in_err-rearrange-in-Arranges-clause-may
 returns-in_err-rearrange-in-Arranges-clause-may g c =

@@ -9,10 +9,12 @@ use Rattle.mgs_model.specs.declared.touched.Touched.TheVariants.{Anywhere}
 use Rattle.mgs_session.specs.Sessions.{acted}
 use Rattle.mgs_plan.specs.declared.outcome.Outcome.TheVariants.{SetsList}
 use Rattle.mgs_world.specs.Worlds.{state_of, world_of}
+use Rattle.mgs_model.specs.World.{Buffer}
+use Rattle.mgs_world.proofs.Attributes.{sound_by}
 use Rattle.mgs_world.proofs.Soundness.{sound_set}
 use Rattle.mgs_plan.proofs.Deeds.{fresh_state}
 use Rattle.mgs_act.proofs.Done.{here_is, quietly}
-use Rattle.mgs_act.proofs.Rulings.{list_set_so, list_set_sound}
+use Rattle.mgs_act.proofs.Rulings.{list_set_so}
 use Rattle.mgs_act.proofs.doing.set_list.Goals as goal
 
 pub put_list-requires : goal.put_list-requires
@@ -27,7 +29,7 @@ returns-clause-sound g c =
     let xs = c.args.sessions.now in
     let r = c.index-sessions-at.result in
     let can = (c.requires.can (get_or xs c.args.at r) (slice_get-get_or xs c.args.at r c.requires.within)).can in
-    rw (c.put_list.ensures can.entries can.planned, c.set_kind.ensures) (list_set_sound c.args.name.now can.entries ks _ (sound_set ks xs c.args.at (get_or xs c.args.at c.index-sessions-at-2.result) _ (ap (get_or xs c.args.at) c.index-sessions-at-2.is) (λ n i. refl) c.requires.sound))
+    rw (c.put_list.ensures can.entries can.planned, c.set_kind.ensures) (sound_by (λ (b : Buffer). record b { entries = can.entries }) (λ b. refl) c.args.name.now ks _ (sound_set ks xs c.args.at (get_or xs c.args.at c.index-sessions-at-2.result) _ (ap (get_or xs c.args.at) c.index-sessions-at-2.is) (λ n i. refl) c.requires.sound))
 
 pub returns-clause-done : goal.returns-clause-done
 returns-clause-done g c =

@@ -1,33 +1,23 @@
-use Rattle.std.proofs.Common.{List, refl, sym, ap, subst, ◌∙◌}
+use Rattle.std.proofs.Common.{sym, ap, subst, ◌∙◌}
 use Rattle.mgs_model.specs.Apply.{change_first}
 use Rattle.mgs_model.specs.World.{Buffer}
-use Rattle.mgs_buffers.specs.MarkedBuffer.{MarkedBuffer, marked_at, marked_named, marked_placed}
-use Rattle.mgs_world.specs.Marking.{IsGivenUp, session_marked}
-use Rattle.mgs_world.proofs.SelectedMark.{reserved_given_up}
+use Rattle.mgs_buffers.specs.MarkedBuffer.{marked_at, marked_named, marked_placed}
+use Rattle.mgs_world.specs.Marking.{session_marked}
 use Rattle.mgs_world.proofs.Soundness.{mark_is_kept}
 use Rattle.mgs_plan.specs.Actions.{CanDo, IsMarked, mark_told, marked_after, session_acted}
-use Rattle.mgs_act.proofs.Marked.{granted_still, mark_after_action, plain_so, reserved_buffer, reserved_in_use, reserved_marks, within_after}
+use Rattle.mgs_act.proofs.Marked.{granted_still, mark_after_action, dropped_then, kept_then, mark_then, marks_then, plain_so, reserved_buffer, within_after}
 use Rattle.mgs_act.specs.Performing.{IsCarriedOutBy}
 use Rattle.mgs_act.proofs.performing.carry_out_marked.Goals as goal
 
 pub carry_out-requires-2-clause-marks : goal.carry_out-requires-2-clause-marks
 carry_out-requires-2-clause-marks g c =
-    let x = c.args.window_marks.now in
-    let ks = c.args.buffers.now in
-    let ls = c.reserve_mark.new.buffers in
-    let mid = c.in_ok-mark.mark in
-    let r = c.in_ok-mark.ensures.ok in
-    let kept = mark_is_kept x.name x.point ks c.requires.marks.point in
-    reserved_marks x mid ks ls kept r c.requires.marks
+    marks_then c.args.window_marks.now c.args.buffers.now c.reserve_mark.new.buffers c.in_ok-mark.mark c.requires.marks c.in_ok-mark.ensures.ok
 
 pub carry_out-requires-2-clause-can : goal.carry_out-requires-2-clause-can
 carry_out-requires-2-clause-can g c =
     let x = c.args.window_marks.now in
-    let ks = c.args.buffers.now in
-    let ls = c.reserve_mark.new.buffers in
-    let mid = c.in_ok-mark.mark in
-    let r = c.in_ok-mark.ensures.ok in
-    subst (λ (b : Buffer). CanDo b.text b.items c.args.session.now.kill b.serial c.args.action.now) (sym (reserved_buffer x.name x.mark mid ks ls r)) c.requires.can
+    let same = reserved_buffer x.name x.mark c.in_ok-mark.mark c.args.buffers.now c.reserve_mark.new.buffers c.in_ok-mark.ensures.ok in
+    subst (λ (b : Buffer). CanDo b.text b.items c.args.session.now.kill b.serial c.args.action.now) (sym same) c.requires.can
 
 pub carry_out-requires-2-clause-granted : goal.carry_out-requires-2-clause-granted
 carry_out-requires-2-clause-granted g c =
@@ -41,12 +31,8 @@ set_mark-requires-clause-mark g c =
     let ls = c.reserve_mark.new.buffers in
     let mid = c.in_ok-mark.mark in
     let r = c.in_ok-mark.ensures.ok in
-    let kept = mark_is_kept x.name x.point ks c.requires.marks.point in
-    let marks = reserved_marks x mid ks ls kept r c.requires.marks in
-    let mark = reserved_in_use x.mark x mid ks ls refl kept c.requires.marks r in
-    let text = (marked_at x.name ls).buffer.text in
-    let there = mark_after_action x mid text (marked_at x.name ls).buffer.items c.args.session.now.kill c.args.action.now ls mark marks in
-    rw c.in-Ok.ensures.ok there
+    let b = (marked_at x.name ls).buffer in
+    rw c.in-Ok.ensures.ok (mark_after_action x mid b.text b.items c.args.session.now.kill c.args.action.now ls (mark_then x ks ls mid c.requires.marks r) (marks_then x ks ls mid c.requires.marks r))
 
 pub set_mark-requires-clause-kept : goal.set_mark-requires-clause-kept
 set_mark-requires-clause-kept g c =
@@ -59,21 +45,12 @@ set_mark-requires-clause-within g c =
     let ls = c.reserve_mark.new.buffers in
     let mid = c.in_ok-mark.mark in
     let r = c.in_ok-mark.ensures.ok in
-    let kept = mark_is_kept x.name x.point ks c.requires.marks.point in
-    let marks = reserved_marks x mid ks ls kept r c.requires.marks in
-    let mark = reserved_in_use x.mark x mid ks ls refl kept c.requires.marks r in
     let can = subst (λ (b : Buffer). CanDo b.text b.items c.args.session.now.kill b.serial c.args.action.now) (sym (reserved_buffer x.name x.mark mid ks ls r)) c.requires.can in
-    rw c.in-Ok.ensures.ok (within_after x c.in-Some.position c.args.session.now.kill c.args.action.now ls (mark_is_kept x.name mid ls mark) can (sym c.mark_of.ensures ∙ c.in-Some.is))
+    rw c.in-Ok.ensures.ok (within_after x c.in-Some.position c.args.session.now.kill c.args.action.now ls (kept_then x ks ls mid c.requires.marks r) can (sym c.mark_of.ensures ∙ c.in-Some.is))
 
 pub give_up_mark-requires-clause-mark : goal.give_up_mark-requires-clause-mark
 give_up_mark-requires-clause-mark g c =
-    let x = c.args.window_marks.now in
-    let ks = c.args.buffers.now in
-    let ls = c.reserve_mark.new.buffers in
-    let mid = c.in_ok-mark.mark in
-    let r = c.in_ok-mark.ensures.ok in
-    let kept = mark_is_kept x.name x.point ks c.requires.marks.point in
-    rw c.in-Err.ensures.err (reserved_in_use x.mark x mid ks ls refl kept c.requires.marks r)
+    rw c.in-Err.ensures.err (mark_then c.args.window_marks.now c.args.buffers.now c.reserve_mark.new.buffers c.in_ok-mark.mark c.requires.marks c.in_ok-mark.ensures.ok)
 
 pub give_up_mark-requires-clause-kept : goal.give_up_mark-requires-clause-kept
 give_up_mark-requires-clause-kept g c =
@@ -98,14 +75,7 @@ returns-in-Ok-clause-ok g c =
 
 pub returns-in-Err-clause-err : goal.returns-in-Err-clause-err
 returns-in-Err-clause-err g c =
-    let x = c.args.window_marks.now in
-    let ks = c.args.buffers.now in
-    let ls = c.reserve_mark.new.buffers in
-    let mid = c.in_ok-mark.mark in
-    let r = c.in_ok-mark.ensures.ok in
-    let kept = mark_is_kept x.name x.point ks c.requires.marks.point in
-    reserved_given_up x.name x.mark mid ks ls c.give_up_mark.new.buffers kept r
-    (subst (λ (s : List MarkedBuffer). IsGivenUp x.name x.mark mid s c.give_up_mark.new.buffers) c.in-Err.ensures.err c.give_up_mark.ensures)
+    dropped_then c.args.window_marks.now c.args.buffers.now c.reserve_mark.new.buffers c.in_ok-mark.mark c.requires.marks c.in_ok-mark.ensures.ok c.carry_out-2.new.buffers c.give_up_mark.new.buffers c.in-Err.ensures.err c.give_up_mark.ensures
 
 pub returns-in-None-clause-ok : goal.returns-in-None-clause-ok
 returns-in-None-clause-ok g c =

@@ -1,15 +1,12 @@
 use Rattle.std.proofs.Common.{◌≡◌, ◌+◌, Bool, true, cond, [], sym, ap, subst, ◌∙◌, arith}
-use Rattle.std.specs.Prelude.{OnOk, OnErr, Result, Ok, Err}
+use Rattle.std.specs.Prelude.{OnOk}
 use Rattle.mgs_model.specs.Text.{is_edit}
 use Rattle.mgs_model.specs.Apply.{change_first}
 use Rattle.mgs_buffers.specs.MarkedBuffer.{marked_at, marked_edited, marked_named}
 use Rattle.mgs_plan.specs.Actions.{removed_by}
 use Rattle.mgs_plan.proofs.Leaving.{no_edit}
+use Rattle.mgs_act.proofs.Marked.{when_refused}
 use Rattle.mgs_act.proofs.performing.restore.Goals as goal
-
-refused : {T E : Type 0} {P : Type 0} (r : Result T E) → P → OnErr r P
-refused (Ok o) p = tt
-refused (Err e) p = p
 
 pub put_back-requires-clause-within : goal.put_back-requires-clause-within
 put_back-requires-clause-within g c = (c.requires.can []).within
@@ -34,7 +31,7 @@ returns-then-is_undo_an_edit-clause-ok g c = λ kill.
 pub returns-then-is_undo_an_edit-clause-may : goal.returns-then-is_undo_an_edit-clause-may
 returns-then-is_undo_an_edit-clause-may g c =
     let removed = removed_by c.args.undone.now.serial (marked_at c.args.name.now c.args.buffers.now).buffer.items in
-    refused c.put_back.result (sym (c.is_undo_an_edit.ensures removed (c.requires.can []).len) ∙ c.if-is_undo_an_edit.true)
+    when_refused c.put_back.result (sym (c.is_undo_an_edit.ensures removed (c.requires.can []).len) ∙ c.if-is_undo_an_edit.true)
 
 pub returns-clause-ok : goal.returns-clause-ok
 returns-clause-ok g c = λ kill.
