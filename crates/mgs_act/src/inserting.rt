@@ -50,8 +50,6 @@ fn put_in<T: Marked + Drop>(
     ensures ok { OnOk result (buffers.new ≡ edited_by name.now (insertion_of place put.now) buffers.old) }
     ensures err { OnErr result (buffers.new ≡ buffers.old) }
 {
-    // For the range of a serial.
-    let _serial = buffers.serial(name);
     if put.is_empty() {
         return Ok(());
     }

@@ -1,6 +1,8 @@
 // An action is done: in the buffers, and to the session that acts.
-ghost use Rattle.std.specs.Prelude.{◌≡◌, ◌+◌, ◌-◌, ◌^◌, ◌<◌, ◌≤◌, ℕ, List, [], length, take, Option, Some, None, IfOk, OnOk, OnErr, true};
+ghost use Rattle.std.specs.Prelude.{◌≡◌, ◌+◌, ◌-◌, ◌<◌, ◌≤◌, ℕ, List, [], length, take, Option, Some, None, IfOk, OnOk, OnErr, false, true};
 ghost use Rattle.mgs_model.specs.Apply.{change_first, kill_after};
+ghost use Rattle.mgs_model.specs.Acts.{is_full};
+ghost use Rattle.mgs_model.specs.Text.{is_edit};
 ghost use Rattle.mgs_laws.specs.Refusals.{kill_takes_memory};
 ghost use Rattle.mgs_buffers.specs.Changing.{writes};
 ghost use Rattle.mgs_buffers.specs.MarkedBuffer.{HasBuffer, marked_at, marked_edited, marked_named};
@@ -30,19 +32,25 @@ use mgs_windows::WindowMarks;
 use mgs_world::{give_up_mark, reserve_mark, set_mark};
 use std::alloc::Global;
 
-/// A piece of a text is killed: one that joins behind is in the kill buffer then, and for any other the kill buffer that it makes is
-/// handed back, for later. `Short`: memory was refused, and the kill buffer is as it was.
-fn killed<T: Text>(
-    text: &T,
+/// A piece of a buffer's text is killed, if one is: where it joins behind, it is in the kill buffer then, and for any other the
+/// kill buffer that it makes is handed back, for later. `Short`: memory was refused, and the kill buffer is as it was.
+fn killed_if<T: Marked + Drop>(
+    buffers: &Buffers<T>,
+    name: &Name,
     kill: &mut KillBuffer,
-    piece: &Piece,
+    piece: &Option<Piece>,
 ) -> Result<Option<Vec<char>>, Short>
-    requires { PieceWithin (length (T.text text.now)) (Some piece.now) }
-    ensures ok { IfOk result (λ made. kill_set made kill.new ≡ kill_after (kill_read (T.text text.now) kill.old (Some piece.now)) kill.old) }
+    requires kept { HasBuffer name.now buffers.now }
+    requires within { PieceWithin (length (marked_at name.now buffers.now).buffer.text) piece.now }
+    ensures ok { IfOk result (λ made. kill_set made kill.new ≡ kill_after (kill_read (marked_at name.now buffers.now).buffer.text kill.old piece.now) kill.old) }
     ensures held { OnOk result (take (length kill.old) kill.new ≡ kill.old) }
     ensures err { OnErr result (kill.new ≡ kill.old) }
+    ensures may { OnErr result (kill_takes_memory (kill_read (marked_at name.now buffers.now).buffer.text kill.old piece.now) ≡ true) }
 {
-    let mut chars = text.copy(piece.from, piece.to)?;
+    let Some(piece) = piece else {
+        return Ok(None);
+    };
+    let mut chars = buffers.text(name).copy(piece.from, piece.to)?;
     match piece.joins {
         Joins::New => Ok(Some(chars)),
         Joins::Behind => match kill.extend(&chars) {
@@ -53,24 +61,6 @@ fn killed<T: Text>(
             Ok(()) => Ok(Some(chars)),
             Err(_) => Err(Short),
         },
-    }
-}
-
-/// The same, where a piece is killed.
-fn killed_if<T: Text>(
-    text: &T,
-    kill: &mut KillBuffer,
-    piece: &Option<Piece>,
-) -> Result<Option<Vec<char>>, Short>
-    requires { PieceWithin (length (T.text text.now)) piece.now }
-    ensures ok { IfOk result (λ made. kill_set made kill.new ≡ kill_after (kill_read (T.text text.now) kill.old piece.now) kill.old) }
-    ensures held { OnOk result (take (length kill.old) kill.new ≡ kill.old) }
-    ensures err { OnErr result (kill.new ≡ kill.old) }
-    ensures may { OnErr result (kill_takes_memory (kill_read (T.text text.now) kill.old piece.now) ≡ true) }
-{
-    match piece {
-        None => Ok(None),
-        Some(piece) => killed(text, kill, piece),
     }
 }
 
@@ -90,11 +80,13 @@ pub fn edit_by<T: Marked + Drop>(
     requires granted { IsGranted directory.now buffers.old user.now name.now mask }
     requires order { from ≤ to }
     requires within { to ≤ length (marked_at name.now buffers.old).buffer.text }
-    requires serial { (marked_at name.now buffers.old).buffer.serial < 2 ^ 64 - 1 }
-    requires room { length (marked_at name.now buffers.old).buffer.text + length put.now ≤ 1048576 + (to - from) }
+    requires edit { is_edit from to put.now ≡ true }
+    requires room { is_full (length (marked_at name.now buffers.old).buffer.text) (marked_at name.now buffers.old).buffer.serial from to put.now ≡ false }
     ensures ok { OnOk result (buffers.new ≡ change_first (marked_named name.now) (marked_edited from to put.now) buffers.old) }
     ensures err { OnErr result (buffers.new ≡ buffers.old) }
 {
+    // For the range of a serial.
+    let _serial = buffers.serial(name);
     match buffers.edit_as(directory, user, name, mask, from, to, put) {
         Ok(()) => Ok(()),
         Err(EditFault::Short) => Err(Short),
@@ -124,8 +116,6 @@ fn edit<T: Marked + Drop>(
     ensures end { IfOk result (λ end. end ≡ change.now.from + length (put_read (marked_at name.now buffers.old).buffer.text kill.now change.now.put)) }
     ensures err { OnErr result (buffers.new ≡ buffers.old) }
 {
-    // For the range of a serial.
-    let _serial = buffers.serial(name);
     let from = change.from;
     let to = change.to;
     // One character is the common case, and takes no room beside the text's.
@@ -192,36 +182,8 @@ fn read_and_write() -> Mask
     Mask::from_bits(Right::ReadData.bit() + Right::WriteData.bit())
 }
 
-/// Takes an edit back, and tells where what comes back ends. `Short`: memory was refused, and nothing was done.
-fn put_back<T: Marked + Drop>(
-    alloc: Global,
-    buffers: &mut Buffers<T>,
-    directory: &Directory,
-    user: &Name,
-    name: &Name,
-    undone: &Undone,
-) -> Result<usize, Short>
-    requires kept { HasBuffer name.now buffers.old }
-    requires granted { IsGranted directory.now buffers.old user.now name.now 3 }
-    requires within { undone.now.from + undone.now.gone ≤ length (marked_at name.now buffers.old).buffer.text }
-    requires edit { IsEdit (undone_in name.now buffers.old [] undone.now) }
-    requires room { HasRoom name.now buffers.old (undone_in name.now buffers.old [] undone.now) }
-    ensures ok { OnOk result (buffers.new ≡ buffers_edited name.now (undone_in name.now buffers.old [] undone.now) buffers.old) }
-    ensures end { IfOk result (λ end. end ≡ undone.now.from + length (back_in name.now buffers.old undone.now)) }
-    ensures err { OnErr result (buffers.new ≡ buffers.old) }
-{
-    // For the ranges of a serial and of a place.
-    let _serial = buffers.serial(name);
-    let _size = buffers.text_len(name);
-    let back = removed_by(alloc, buffers, name, undone.serial)?;
-    let from = undone.from;
-    let to = from + undone.gone;
-    let mask = read_and_write();
-    edit_by(buffers, directory, user, name, mask, from, to, &back)?;
-    Ok(from + back.len())
-}
-
-/// The same, where that takes out or puts in anything.
+/// Takes an edit back, where that takes out or puts in anything, and tells where what comes back ends. `Short`: memory was
+/// refused, and nothing was done.
 fn restore<T: Marked + Drop>(
     alloc: Global,
     buffers: &mut Buffers<T>,
@@ -238,10 +200,17 @@ fn restore<T: Marked + Drop>(
     ensures err { OnErr result (buffers.new ≡ buffers.old) }
     ensures may { OnErr result (IsEdit (undone_in name.now buffers.old [] undone.now)) }
 {
-    if is_undo_an_edit(undone) {
-        return put_back(alloc, buffers, directory, user, name, undone);
+    if !is_undo_an_edit(undone) {
+        return Ok(undone.from);
     }
-    Ok(undone.from)
+    // For the range of a place.
+    let _size = buffers.text_len(name);
+    let back = removed_by(alloc, buffers, name, undone.serial)?;
+    let from = undone.from;
+    let to = from + undone.gone;
+    let mask = read_and_write();
+    edit_by(buffers, directory, user, name, mask, from, to, &back)?;
+    Ok(from + back.len())
 }
 
 /// The point of a window, and where it goes. What was put in ends at `behind`.
@@ -321,7 +290,7 @@ fn change_text<T: Marked + Drop>(
 {
     let name = &window_marks.name;
     let held = session.kill.as_slice().len();
-    let made = killed_if(buffers.text(name), &mut session.kill, &change.finish.kill)?;
+    let made = killed_if(buffers, name, &mut session.kill, &change.finish.kill)?;
     // What the edit puts in is of the kill buffer as it was.
     let kill = &session.kill.as_slice()[..held];
     match edit_if(
@@ -384,8 +353,7 @@ fn move_point<T: Marked + Drop>(
     ensures same { OnErr result (session.new ≡ session.old) }
     ensures may { OnErr result (MayBeShort window_marks.now buffers.old session.old.kill (Moves left.now)) }
 {
-    let text = buffers.text(&window_marks.name);
-    let made = killed_if(text, &mut session.kill, &left.kill)?;
+    let made = killed_if(buffers, &window_marks.name, &mut session.kill, &left.kill)?;
     leave(buffers, session, window_marks, left, 0, made);
     Ok(())
 }

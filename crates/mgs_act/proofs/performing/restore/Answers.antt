@@ -1,48 +1,79 @@
-use Rattle.std.proofs.Common.{◌≡◌, ◌+◌, Bool, true, cond, [], sym, ap, subst, ◌∙◌, arith}
-use Rattle.std.specs.Prelude.{OnOk}
+use Rattle.std.proofs.Common.{◌≡◌, ℕ, ◌+◌, Bool, true, false, cond, List, [], length, sym, ap, subst, ◌∙◌, arith}
+use Rattle.mgs_model.specs.Acts.{is_full}
 use Rattle.mgs_model.specs.Text.{is_edit}
 use Rattle.mgs_model.specs.Apply.{change_first}
+use Rattle.mgs_buffers.specs.Changing.{writes}
 use Rattle.mgs_buffers.specs.MarkedBuffer.{marked_at, marked_edited, marked_named}
+use Rattle.mgs_edit.specs.Reading.{undone_read}
 use Rattle.mgs_plan.specs.Actions.{removed_by}
-use Rattle.mgs_plan.proofs.Leaving.{no_edit}
+use Rattle.mgs_plan.specs.Deciding.{IsGranted}
+use Rattle.mgs_plan.proofs.Leaving.{has_room, no_edit}
 use Rattle.mgs_act.proofs.Marked.{when_refused}
 use Rattle.mgs_act.proofs.performing.restore.Goals as goal
 
-pub put_back-requires-clause-within : goal.put_back-requires-clause-within
-put_back-requires-clause-within g c = (c.requires.can []).within
-
-pub put_back-requires-clause-edit : goal.put_back-requires-clause-edit
-put_back-requires-clause-edit g c =
-    let removed = removed_by c.args.undone.now.serial (marked_at c.args.name.now c.args.buffers.now).buffer.items in
-    sym (c.is_undo_an_edit.ensures removed (c.requires.can []).len) ∙ c.if-is_undo_an_edit.true
-
-pub put_back-requires-clause-room : goal.put_back-requires-clause-room
-put_back-requires-clause-room g c = (c.requires.can []).room
-
-pub returns-then-is_undo_an_edit-clause-ok : goal.returns-then-is_undo_an_edit-clause-ok
-returns-then-is_undo_an_edit-clause-ok g c = λ kill.
+pub returns-then-not-is_undo_an_edit-clause-ok : goal.returns-then-not-is_undo_an_edit-clause-ok
+returns-then-not-is_undo_an_edit-clause-ok g c = λ kill.
     let u = c.args.undone.now in
     let ks = c.args.buffers.now in
     let removed = removed_by u.serial (marked_at c.args.name.now ks).buffer.items in
     let edited = change_first (marked_named c.args.name.now) (marked_edited u.from (u.from + u.gone) removed) ks in
-    let is : is_edit u.from (u.from + u.gone) removed ≡ true = sym (c.is_undo_an_edit.ensures removed (c.requires.can []).len) ∙ c.if-is_undo_an_edit.true in
-    subst (λ (e : Bool). OnOk c.put_back.result (c.put_back.new.buffers ≡ cond e edited ks)) (sym is) c.put_back.ensures.ok
+    sym (ap (λ (e : Bool). cond e edited ks) (sym (c.is_undo_an_edit.ensures removed (c.requires.can []).len) ∙ c.if-not-is_undo_an_edit.true))
 
-pub returns-then-is_undo_an_edit-clause-may : goal.returns-then-is_undo_an_edit-clause-may
-returns-then-is_undo_an_edit-clause-may g c =
+pub returns-then-not-is_undo_an_edit-clause-end : goal.returns-then-not-is_undo_an_edit-clause-end
+returns-then-not-is_undo_an_edit-clause-end g c =
+    let u = c.args.undone.now in
+    let removed = removed_by u.serial (marked_at c.args.name.now c.args.buffers.now).buffer.items in
+    omega (arith, (no_edit u.from (u.from + u.gone) removed (sym (c.is_undo_an_edit.ensures removed (c.requires.can []).len) ∙ c.if-not-is_undo_an_edit.true)).1)
+
+pub returns-in_err-back-clause-may : goal.returns-in_err-back-clause-may
+returns-in_err-back-clause-may g c =
     let removed = removed_by c.args.undone.now.serial (marked_at c.args.name.now c.args.buffers.now).buffer.items in
-    when_refused c.put_back.result (sym (c.is_undo_an_edit.ensures removed (c.requires.can []).len) ∙ c.if-is_undo_an_edit.true)
+    when_refused _ (sym (c.is_undo_an_edit.ensures removed (c.requires.can []).len) ∙ c.if-not-is_undo_an_edit.false)
 
+pub overflow_add-to : goal.overflow_add-to
+overflow_add-to g c = omega (arith, (c.requires.can []).within)
+
+pub edit_by-requires-clause-writes : goal.edit_by-requires-clause-writes
+edit_by-requires-clause-writes g c = ap writes c.read_and_write-mask.ensures
+
+pub edit_by-requires-clause-granted : goal.edit_by-requires-clause-granted
+edit_by-requires-clause-granted g c = subst (IsGranted c.args.directory.now c.args.buffers.now c.args.user.now c.args.name.now) (sym c.read_and_write-mask.ensures) c.requires.granted
+
+pub edit_by-requires-clause-within : goal.edit_by-requires-clause-within
+edit_by-requires-clause-within g c = (c.requires.can []).within
+
+pub edit_by-requires-clause-edit : goal.edit_by-requires-clause-edit
+edit_by-requires-clause-edit g c =
+    let u = c.args.undone.now in
+    let removed = removed_by u.serial (marked_at c.args.name.now c.args.buffers.now).buffer.items in
+    subst (λ (put : List ℕ). is_edit u.from (u.from + u.gone) put ≡ true) (sym (c.deref.ensures.value ∙ c.in_ok-back.ensures)) (sym (c.is_undo_an_edit.ensures removed (c.requires.can []).len) ∙ c.if-not-is_undo_an_edit.false)
+
+pub edit_by-requires-clause-room : goal.edit_by-requires-clause-room
+edit_by-requires-clause-room g c =
+    let u = c.args.undone.now in
+    let b = (marked_at c.args.name.now c.args.buffers.now).buffer in
+    subst (λ (put : List ℕ). is_full (length b.text) b.serial u.from (u.from + u.gone) put ≡ false) (sym (c.deref.ensures.value ∙ c.in_ok-back.ensures)) (c.requires.can []).room
+
+pub returns-in_err-edit_by-clause-may : goal.returns-in_err-edit_by-clause-may
+returns-in_err-edit_by-clause-may g c =
+    let removed = removed_by c.args.undone.now.serial (marked_at c.args.name.now c.args.buffers.now).buffer.items in
+    when_refused _ (sym (c.is_undo_an_edit.ensures removed (c.requires.can []).len) ∙ c.if-not-is_undo_an_edit.false)
+
+pub overflow_add-result : goal.overflow_add-result
+overflow_add-result g c =
+    let u = c.args.undone.now in
+    let b = (marked_at c.args.name.now c.args.buffers.now).buffer in
+    let removed = removed_by u.serial b.items in
+    let room = has_room (length b.text) b.serial (undone_read b.text [] removed u) (sym (c.is_undo_an_edit.ensures removed (c.requires.can []).len) ∙ c.if-not-is_undo_an_edit.false) (c.requires.can []).room in
+    omega (arith, room.0, (c.requires.can []).within, ap (λ (chars : List ℕ). length chars) c.in_ok-back.ensures)
+
+-- what was taken out then comes back
 pub returns-clause-ok : goal.returns-clause-ok
 returns-clause-ok g c = λ kill.
     let u = c.args.undone.now in
     let ks = c.args.buffers.now in
     let removed = removed_by u.serial (marked_at c.args.name.now ks).buffer.items in
-    let edited = change_first (marked_named c.args.name.now) (marked_edited u.from (u.from + u.gone) removed) ks in
-    sym (ap (λ (e : Bool). cond e edited ks) (sym (c.is_undo_an_edit.ensures removed (c.requires.can []).len) ∙ c.if-is_undo_an_edit.false))
-
-pub returns-clause-end : goal.returns-clause-end
-returns-clause-end g c =
-    let u = c.args.undone.now in
-    let removed = removed_by u.serial (marked_at c.args.name.now c.args.buffers.now).buffer.items in
-    omega (arith, (no_edit u.from (u.from + u.gone) removed (sym (c.is_undo_an_edit.ensures removed (c.requires.can []).len) ∙ c.if-is_undo_an_edit.false)).1)
+    let edited = λ (put : List ℕ). change_first (marked_named c.args.name.now) (marked_edited u.from (u.from + u.gone) put) ks in
+    c.in_ok-edit_by.ensures.ok
+    ∙ ap edited (c.deref.ensures.value ∙ c.in_ok-back.ensures)
+    ∙ sym (ap (λ (e : Bool). cond e (edited removed) ks) (sym (c.is_undo_an_edit.ensures removed (c.requires.can []).len) ∙ c.if-not-is_undo_an_edit.false))
