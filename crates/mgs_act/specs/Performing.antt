@@ -3,12 +3,11 @@ use Rattle.std.specs.Prelude.{◌≡◌, ◌≤◌, ℕ, true, false, List, leng
 use Rattle.mgs_model.specs.Acts.{is_full}
 use Rattle.mgs_laws.specs.Apart.{touched_by}
 use Rattle.mgs_model.specs.declared.touched.Touched.{Touched}
-use Rattle.mgs_model.specs.Apply.{change_first}
 use Rattle.mgs_laws.specs.Refusals.{takes_memory}
 use Rattle.mgs_model.specs.Plans as plans
 use Rattle.mgs_model.specs.Text.{is_edit}
 use Rattle.mgs_model.specs.World.{State}
-use Rattle.mgs_buffers.specs.MarkedBuffer.{MarkedBuffer, marked_at, marked_edited, marked_named}
+use Rattle.mgs_buffers.specs.MarkedBuffer.{MarkedBuffer, marked_at}
 use Rattle.mgs_buffers.specs.Placing.{CanStand, placed_if}
 use Rattle.mgs_marks.specs.Marks.{mark_in}
 use Rattle.mgs_model.specs.Outcome.{PointPlan}
@@ -37,9 +36,6 @@ IsEdit c = is_edit c.a c.b c.put ≡ true
 
 abbrev pub HasRoom : List ℕ → List MarkedBuffer → plans.Change → Type 0
 HasRoom name ks c = is_full (length (marked_at name ks).buffer.text) (marked_at name ks).buffer.serial c.a c.b c.put ≡ false
-
-abbrev pub buffers_edited : List ℕ → plans.Change → List MarkedBuffer → List MarkedBuffer
-buffers_edited name c ks = change_first (marked_named name) (marked_edited c.a c.b c.put) ks
 
 abbrev pub CanComeBack : List ℕ → List MarkedBuffer → Undone → Type 0
 CanComeBack name ks u =

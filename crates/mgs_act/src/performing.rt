@@ -13,7 +13,7 @@ ghost use Rattle.mgs_plan.specs.declared.outcome.Outcome.TheVariants.{Acts};
 ghost use Rattle.mgs_plan.specs.Actions.{AreMarks, CanBeDone, edited_by, kill_set, mark_told, removed_by};
 ghost use Rattle.mgs_plan.specs.Deciding.{IsActionGranted, IsGranted};
 ghost use Rattle.mgs_act.specs.Doing.{IsQuietlyDone, IsReady, TakesMemory};
-ghost use Rattle.mgs_act.specs.Performing.{CanComeBack, HasRoom, IsCarriedOut, IsEdit, IsTarget, IsTouched, MayBeShort, PointCanStand, TopCanStand, acted_in, back_in, buffers_acted, buffers_edited, change_in, marks_left, undone_in};
+ghost use Rattle.mgs_act.specs.Performing.{CanComeBack, HasRoom, IsCarriedOut, IsEdit, IsTarget, IsTouched, MayBeShort, PointCanStand, TopCanStand, acted_in, back_in, buffers_acted, change_in, marks_left, undone_in};
 ghost use Rattle.mgs_world.specs.Acted.{IsUnchanged};
 ghost use Rattle.mgs_world.specs.Sound.{IsSound};
 ghost use Rattle.mgs_world.specs.WindowMarks.{WindowMarksDropped};
@@ -95,41 +95,9 @@ pub fn edit_by<T: Marked + Drop>(
     }
 }
 
-/// Edits a buffer, and tells where what is put in ends. `Short`: memory was refused, and nothing was done.
+/// Edits a buffer, where the change takes out or puts in anything, and tells where what is put in ends. `Short`: memory was
+/// refused, and nothing was done.
 fn edit<T: Marked + Drop>(
-    alloc: Global,
-    buffers: &mut Buffers<T>,
-    directory: &Directory,
-    user: &Name,
-    name: &Name,
-    kill: &[char],
-    mask: Mask,
-    change: &Change,
-) -> Result<usize, Short>
-    requires writes { writes mask ≡ true }
-    requires granted { IsGranted directory.now buffers.old user.now name.now mask }
-    requires kept { HasBuffer name.now buffers.old }
-    requires within { ChangeWithin (marked_at name.now buffers.old).buffer.text kill.now change.now }
-    requires edit { IsEdit (change_in name.now buffers.old kill.now change.now) }
-    requires room { HasRoom name.now buffers.old (change_in name.now buffers.old kill.now change.now) }
-    ensures ok { OnOk result (buffers.new ≡ buffers_edited name.now (change_in name.now buffers.old kill.now change.now) buffers.old) }
-    ensures end { IfOk result (λ end. end ≡ change.now.from + length (put_read (marked_at name.now buffers.old).buffer.text kill.now change.now.put)) }
-    ensures err { OnErr result (buffers.new ≡ buffers.old) }
-{
-    let from = change.from;
-    let to = change.to;
-    // One character is the common case, and takes no room beside the text's.
-    if let Put::Character { put, times: 1 } = change.put {
-        edit_by(buffers, directory, user, name, mask, from, to, &[put])?;
-        return Ok(from + 1);
-    }
-    let chars = put_chars(alloc, buffers.text(name), kill, &change.put)?;
-    edit_by(buffers, directory, user, name, mask, from, to, &chars)?;
-    Ok(from + chars.len())
-}
-
-/// The same, where the change takes out or puts in anything.
-fn edit_if<T: Marked + Drop>(
     alloc: Global,
     buffers: &mut Buffers<T>,
     directory: &Directory,
@@ -149,10 +117,19 @@ fn edit_if<T: Marked + Drop>(
     ensures err { OnErr result (buffers.new ≡ buffers.old) }
     ensures may { OnErr result (IsEdit (change_in name.now buffers.old kill.now change.now)) }
 {
-    if is_edit(change, kill.len()) {
-        return edit(alloc, buffers, directory, user, name, kill, mask, change);
+    if !is_edit(change, kill.len()) {
+        return Ok(change.from);
     }
-    Ok(change.from)
+    let from = change.from;
+    let to = change.to;
+    // One character is the common case, and takes no room beside the text's.
+    if let Put::Character { put, times: 1 } = change.put {
+        edit_by(buffers, directory, user, name, mask, from, to, &[put])?;
+        return Ok(from + 1);
+    }
+    let chars = put_chars(alloc, buffers.text(name), kill, &change.put)?;
+    edit_by(buffers, directory, user, name, mask, from, to, &chars)?;
+    Ok(from + chars.len())
 }
 
 /// What the edit of a serial took out, or nothing where it is not kept. `Short`: memory was refused.
@@ -293,7 +270,7 @@ fn change_text<T: Marked + Drop>(
     let made = killed_if(buffers, name, &mut session.kill, &change.finish.kill)?;
     // What the edit puts in is of the kill buffer as it was.
     let kill = &session.kill.as_slice()[..held];
-    match edit_if(
+    match edit(
         alloc,
         buffers,
         directory,
