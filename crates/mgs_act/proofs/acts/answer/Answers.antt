@@ -1,7 +1,4 @@
-use Rattle.std.proofs.Common.{get_or}
-use Rattle.std.proofs.lemmas.Option.{slice_get-get_or}
 use Rattle.mgs_buffers.proofs.MarkedLemmas.{OnErr-map}
-use Rattle.mgs_plan.proofs.Deeds.{fresh_state}
 use Rattle.mgs_plan.specs.Searching.{answer_act}
 use Rattle.mgs_world.specs.Worlds.{state_at}
 use Rattle.mgs_act.proofs.Done.{asked_at, can_here, did, marks_here, may_decided}
@@ -10,12 +7,6 @@ use Rattle.mgs_act.proofs.acts.answer.Goals as goal
 
 pub plan_answer-outcome-requires-clause-marks : goal.plan_answer-outcome-requires-clause-marks
 plan_answer-outcome-requires-clause-marks g c = marks_here c.args.buffers.now c.args.sessions.now c.args.at c.index-sessions-at.result c.requires.within c.requires.sound
-
-pub plan_answer-outcome-requires-clause-fresh : goal.plan_answer-outcome-requires-clause-fresh
-plan_answer-outcome-requires-clause-fresh g c =
-    let xs = c.args.sessions.now in
-    let r = c.index-sessions-at.result in
-    fresh_state xs c.args.at (get_or xs c.args.at r) (slice_get-get_or xs c.args.at r c.requires.within) c.requires.fresh
 
 pub do_decided-requires : goal.do_decided-requires
 do_decided-requires g c = record {

@@ -14,12 +14,11 @@ use Rattle.mgs_world.proofs.Soundness.{sound_set}
 use Rattle.mgs_plan.proofs.Commands.{asked_done, outcome_answered, set_done}
 use Rattle.mgs_plan.proofs.Deeds.{failed_so, fresh_state}
 use Rattle.mgs_plan.proofs.Quiet.{arrangement_quiet, question_quiet, setting_quiet}
-use Rattle.mgs_act.specs.Doing.{CanDo, IsReady, TakesMemory}
-use Rattle.mgs_act.proofs.Done.{done_as, got, quiet_done, written_done}
+use Rattle.mgs_act.specs.Doing.{CanDo, TakesMemory}
+use Rattle.mgs_act.proofs.Done.{quiet_done, written_done}
 use Rattle.mgs_act.proofs.Scrolls.{rows_quiet, rows_uses, scrolled_so}
 use Rattle.mgs_act.proofs.Settings.{set_uses}
-use Rattle.mgs_act.proofs.Switches.{listed_done, may_show, shown_done, when_ok}
-use Rattle.mgs_act.proofs.Through.{copy_takes}
+use Rattle.mgs_act.proofs.Switches.{listed_done, may_show, shown_done}
 use Rattle.mgs_act.proofs.Marked.{when_refused}
 use Rattle.mgs_buffers.proofs.MarkedLemmas.{OnErr-map}
 use Rattle.mgs_act.proofs.doing.do_decided.Goals as goal
@@ -40,37 +39,9 @@ returns-in-Fails-clause-done g c =
       refl,
     ))
 
-pub perform-requires : goal.perform-requires
-perform-requires g c = subst (IsReady c.args.directory.now c.args.at c.args.buffers.now c.args.sessions.now) c.in-Acts.is c.requires
-
-pub returns-in-Acts-clause-done : goal.returns-in-Acts-clause-done
-returns-in-Acts-clause-done g c =
-    when_ok c.perform.result (λ touched done. done_as c.args.directory.now c.args.at c.args.outcome.now _ c.args.buffers.now _ c.args.sessions.now _ _ _ touched c.in-Acts.is (done _)) c.perform.ensures.done
-
 pub returns-in-Acts-clause-may : goal.returns-in-Acts-clause-may
 returns-in-Acts-clause-may g c =
     OnErr-map c.perform.result (λ may. subst (λ o. TakesMemory c.args.at o c.args.buffers.now c.args.sessions.now) (sym c.in-Acts.is) (may)) c.perform.ensures.may
-
-pub kill-requires : goal.kill-requires
-kill-requires g c = subst (IsReady c.args.directory.now c.args.at c.args.buffers.now c.args.sessions.now) c.in-Kills.is c.requires
-
-pub returns-in-Kills-clause-done : goal.returns-in-Kills-clause-done
-returns-in-Kills-clause-done g c =
-    done_as c.args.directory.now c.args.at c.args.outcome.now _ c.args.buffers.now _ c.args.sessions.now _ _ _ _ c.in-Kills.is (c.kill.ensures.done _)
-
-pub assign-requires : goal.assign-requires
-assign-requires g c = subst (IsReady c.args.directory.now c.args.at c.args.buffers.now c.args.sessions.now) c.in-SetsOwners.is c.requires
-
-pub returns-in-SetsOwners-clause-done : goal.returns-in-SetsOwners-clause-done
-returns-in-SetsOwners-clause-done g c =
-    done_as c.args.directory.now c.args.at c.args.outcome.now _ c.args.buffers.now _ c.args.sessions.now _ _ _ _ c.in-SetsOwners.is (c.assign.ensures.done _)
-
-pub set_list-requires : goal.set_list-requires
-set_list-requires g c = subst (IsReady c.args.directory.now c.args.at c.args.buffers.now c.args.sessions.now) c.in-SetsList.is c.requires
-
-pub returns-in-SetsList-clause-done : goal.returns-in-SetsList-clause-done
-returns-in-SetsList-clause-done g c =
-    done_as c.args.directory.now c.args.at c.args.outcome.now _ c.args.buffers.now _ c.args.sessions.now _ _ _ _ c.in-SetsList.is (c.set_list.ensures.done _)
 
 pub returns-in-Lists-clause-done : goal.returns-in-Lists-clause-done
 returns-in-Lists-clause-done g c =
@@ -81,11 +52,6 @@ returns-in-Lists-clause-done g c =
       listed_done d ks xs next id c.args.at h found place c.requires.within c.requires.fresh _ c.in-Lists.name c.show_entries.ensures.selected (λ x. c.show_entries.ensures.world d id next x),
       refl,
     ))
-
-pub show-requires-clause-kept : goal.show-requires-clause-kept
-show-requires-clause-kept g c =
-    let there = got c.args.sessions.now c.args.at c.requires.within in
-    subst (CanDo c.args.directory.now c.args.at c.args.buffers.now c.args.sessions.now) c.in-Shows.is c.requires.can there.0 there.1
 
 pub returns-in_ok-show-in-Shows-clause-done : goal.returns-in_ok-show-in-Shows-clause-done
 returns-in_ok-show-in-Shows-clause-done g c =
@@ -101,39 +67,6 @@ pub returns-in_err-show-in-Shows-clause-may : goal.returns-in_err-show-in-Shows-
 returns-in_err-show-in-Shows-clause-may g c =
     when_refused _ (subst (λ o. TakesMemory c.args.at o c.args.buffers.now c.args.sessions.now) (sym c.in-Shows.is)
     (λ d id next h place found. may_show d c.args.buffers.now c.args.sessions.now next id c.args.at h found c.in-Shows.name c.show.ensures.selected))
-
-pub show_created-requires : goal.show_created-requires
-show_created-requires g c = subst (IsReady c.args.directory.now c.args.at c.args.buffers.now c.args.sessions.now) c.in-Creates.is c.requires
-
-pub returns-in-Creates-clause-done : goal.returns-in-Creates-clause-done
-returns-in-Creates-clause-done g c =
-    when_ok c.show_created.result (λ touched done. done_as c.args.directory.now c.args.at c.args.outcome.now _ c.args.buffers.now _ c.args.sessions.now _ _ _ touched c.in-Creates.is (done _)) c.show_created.ensures.done
-
-pub returns-in-Creates-clause-may : goal.returns-in-Creates-clause-may
-returns-in-Creates-clause-may g c =
-    OnErr-map c.show_created.result (λ may. subst (λ o. TakesMemory c.args.at o c.args.buffers.now c.args.sessions.now) (sym c.in-Creates.is) (λ d id next h place found. refl)) c.show_created.ensures.err
-
-pub insert_copy-requires : goal.insert_copy-requires
-insert_copy-requires g c = subst (IsReady c.args.directory.now c.args.at c.args.buffers.now c.args.sessions.now) c.in-Copies.is c.requires
-
-pub returns-in-Copies-clause-done : goal.returns-in-Copies-clause-done
-returns-in-Copies-clause-done g c =
-    when_ok c.insert_copy.result (λ touched done. done_as c.args.directory.now c.args.at c.args.outcome.now _ c.args.buffers.now _ c.args.sessions.now _ _ _ touched c.in-Copies.is (done _)) c.insert_copy.ensures.done
-
-pub returns-in-Copies-clause-may : goal.returns-in-Copies-clause-may
-returns-in-Copies-clause-may g c =
-    OnErr-map c.insert_copy.result (λ may. subst (λ o. TakesMemory c.args.at o c.args.buffers.now c.args.sessions.now) (sym c.in-Copies.is) (copy_takes c.args.at c.args.buffers.now c.args.sessions.now c.in-Copies.marks c.in-Copies.source c.in-Copies.place)) c.insert_copy.ensures.err
-
-pub save-requires : goal.save-requires
-save-requires g c = subst (IsReady c.args.directory.now c.args.at c.args.buffers.now c.args.sessions.now) c.in-Saves.is c.requires
-
-pub returns-in-Saves-clause-done : goal.returns-in-Saves-clause-done
-returns-in-Saves-clause-done g c =
-    when_ok c.save.result (λ touched done. done_as c.args.directory.now c.args.at c.args.outcome.now _ c.args.buffers.now _ c.args.sessions.now _ _ _ touched c.in-Saves.is done) c.save.ensures.done
-
-pub returns-in-Saves-clause-may : goal.returns-in-Saves-clause-may
-returns-in-Saves-clause-may g c =
-    OnErr-map c.save.result (λ may. subst (λ o. TakesMemory c.args.at o c.args.buffers.now c.args.sessions.now) (sym c.in-Saves.is) (λ d id next h place found. refl)) c.save.ensures.err
 
 pub returns-in-Scrolls-clause-sound : goal.returns-in-Scrolls-clause-sound
 returns-in-Scrolls-clause-sound g c =

@@ -14,7 +14,7 @@ use Rattle.mgs_plan.specs.Inserting.{CanPut, insertion_of, put_outcome}
 use Rattle.mgs_plan.proofs.Followed.{sound_kept}
 use Rattle.mgs_act.proofs.Done.{got}
 use Rattle.mgs_act.proofs.Insertions.{inserted_so, inserted_sound}
-use Rattle.mgs_act.proofs.Marked.{dropped_so, dropped_sound, selected_marks, when_refused}
+use Rattle.mgs_act.proofs.Marked.{dropped_so, selected_marks, when_refused}
 use Rattle.mgs_act.proofs.Through.{copy_done}
 use Rattle.mgs_act.proofs.inserting.insert_copy.Goals as goal
 
@@ -52,12 +52,6 @@ insert_marked-requires-clause-granted g c =
     let xs = c.args.sessions.now in
     let r = c.index-sessions-at.result in
     (c.requires.can (get_or xs c.args.at r) (slice_get-get_or xs c.args.at r c.requires.within)).granted
-
-pub returns-in_err-insert_marked-clause-sound : goal.returns-in_err-insert_marked-clause-sound
-returns-in_err-insert_marked-clause-sound g c =
-    let xs = c.args.sessions.now in
-    let r = c.index-sessions-at.result in
-    dropped_sound c.args.buffers.now c.insert_marked.new.buffers xs c.args.at (get_or xs c.args.at r) c.insert_marked.new.session (slice_get-get_or xs c.args.at r c.requires.within) c.in_err-insert_marked.ensures.err c.in_err-insert_marked.ensures.same c.requires.sound
 
 pub returns-in_err-insert_marked-clause-err : goal.returns-in_err-insert_marked-clause-err
 returns-in_err-insert_marked-clause-err g c =

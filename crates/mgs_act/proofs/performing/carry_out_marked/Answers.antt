@@ -4,8 +4,8 @@ use Rattle.mgs_model.specs.World.{Buffer}
 use Rattle.mgs_buffers.specs.MarkedBuffer.{marked_at, marked_named, marked_placed}
 use Rattle.mgs_world.specs.Marking.{session_marked}
 use Rattle.mgs_world.proofs.Soundness.{mark_is_kept}
-use Rattle.mgs_plan.specs.Actions.{CanDo, IsMarked, mark_told, marked_after, session_acted}
-use Rattle.mgs_act.proofs.Marked.{granted_still, mark_after_action, dropped_then, kept_then, mark_then, marks_then, plain_so, reserved_buffer, within_after}
+use Rattle.mgs_plan.specs.Actions.{CanDo, IsMarked, marked_after, session_acted}
+use Rattle.mgs_act.proofs.Marked.{granted_still, mark_after_action, dropped_then, kept_then, mark_then, marks_then, reserved_buffer, within_after}
 use Rattle.mgs_act.specs.Performing.{IsCarriedOutBy}
 use Rattle.mgs_act.proofs.performing.carry_out_marked.Goals as goal
 
@@ -76,7 +76,3 @@ returns-in-Ok-clause-ok g c =
 pub returns-in-Err-clause-err : goal.returns-in-Err-clause-err
 returns-in-Err-clause-err g c =
     dropped_then c.args.window_marks.now c.args.buffers.now c.reserve_mark.new.buffers c.in_ok-mark.mark c.requires.marks c.in_ok-mark.ensures.ok c.carry_out-2.new.buffers c.give_up_mark.new.buffers c.in-Err.ensures.err c.give_up_mark.ensures
-
-pub returns-in-None-clause-ok : goal.returns-in-None-clause-ok
-returns-in-None-clause-ok g c =
-    plain_so c.carry_out.result (mark_told c.args.action.now) c.args.window_marks.now c.args.action.now c.args.buffers.now c.carry_out.new.buffers c.args.session.now c.carry_out.new.session (sym c.mark_of.ensures ∙ c.in-None.is) c.carry_out.ensures.ok c.carry_out.ensures.acted

@@ -9,7 +9,7 @@ use Rattle.mgs_plan.specs.Following.{edit_through, followed}
 use Rattle.mgs_plan.specs.Actions.{kill_or_none}
 use Rattle.mgs_plan.proofs.Followed.{sound_kept}
 use Rattle.mgs_act.proofs.Done.{here_is}
-use Rattle.mgs_act.proofs.Marked.{carried_so, carried_sound, dropped_so, dropped_sound, selected_marks, when_refused}
+use Rattle.mgs_act.proofs.Marked.{carried_so, carried_sound, dropped_so, selected_marks, when_refused}
 use Rattle.mgs_act.proofs.Through.{through_done, through_takes}
 use Rattle.mgs_act.proofs.performing.perform.Goals as goal
 
@@ -46,12 +46,6 @@ carry_out_marked-requires-clause-granted g c =
     let xs = c.args.sessions.now in
     let r = c.index-sessions-at-2.result in
     (c.requires.can (get_or xs c.args.at r) (slice_get-get_or xs c.args.at r c.requires.within)).granted
-
-pub returns-in_err-carry_out_marked-clause-sound : goal.returns-in_err-carry_out_marked-clause-sound
-returns-in_err-carry_out_marked-clause-sound g c =
-    let xs = c.args.sessions.now in
-    let r = c.index-sessions-at-2.result in
-    dropped_sound c.args.buffers.now c.carry_out_marked.new.buffers xs c.args.at (get_or xs c.args.at r) c.carry_out_marked.new.session (slice_get-get_or xs c.args.at r c.requires.within) c.in_err-carry_out_marked.ensures.err c.in_err-carry_out_marked.ensures.same c.requires.sound
 
 pub returns-in_err-carry_out_marked-clause-err : goal.returns-in_err-carry_out_marked-clause-err
 returns-in_err-carry_out_marked-clause-err g c =

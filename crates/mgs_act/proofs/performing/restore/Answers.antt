@@ -2,11 +2,9 @@ use Rattle.std.proofs.Common.{◌≡◌, ℕ, ◌+◌, Bool, true, false, cond, 
 use Rattle.mgs_model.specs.Acts.{is_full}
 use Rattle.mgs_model.specs.Text.{is_edit}
 use Rattle.mgs_model.specs.Apply.{change_first}
-use Rattle.mgs_buffers.specs.Changing.{writes}
 use Rattle.mgs_buffers.specs.MarkedBuffer.{marked_at, marked_edited, marked_named}
 use Rattle.mgs_edit.specs.Reading.{undone_read}
 use Rattle.mgs_plan.specs.Actions.{removed_by}
-use Rattle.mgs_plan.specs.Deciding.{IsGranted}
 use Rattle.mgs_plan.proofs.Leaving.{has_room, no_edit}
 use Rattle.mgs_act.proofs.Marked.{when_refused}
 use Rattle.mgs_act.proofs.performing.restore.Goals as goal
@@ -32,12 +30,6 @@ returns-in_err-back-clause-may g c =
 
 pub overflow_add-to : goal.overflow_add-to
 overflow_add-to g c = omega (arith, (c.requires.can []).within)
-
-pub edit_by-requires-clause-writes : goal.edit_by-requires-clause-writes
-edit_by-requires-clause-writes g c = ap writes c.read_and_write-mask.ensures
-
-pub edit_by-requires-clause-granted : goal.edit_by-requires-clause-granted
-edit_by-requires-clause-granted g c = subst (IsGranted c.args.directory.now c.args.buffers.now c.args.user.now c.args.name.now) (sym c.read_and_write-mask.ensures) c.requires.granted
 
 pub edit_by-requires-clause-within : goal.edit_by-requires-clause-within
 edit_by-requires-clause-within g c = (c.requires.can []).within
