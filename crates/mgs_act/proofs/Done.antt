@@ -70,12 +70,6 @@ asked_at directory ks xs at r q n typed o within planned =
 
 -- RESULTS
 
-pub ok_same : {A E : Type 0} {a b : A} → Path (Result A E) (Ok a) (Ok b) → a ≡ b
-ok_same e = cc
-
-pub no_failure : {A E : Type 0} {e : E} {a : A} → Path (Result A E) (Err e) (Ok a) → ⊥
-no_failure e = cc
-
 -- what is granted is done
 pub granted_done : {P : Type 0} (r : Result (Unit {0}) Decision) (due : Decision) → PermitAnswers r due → due ≡ Granted → OnOk r P → P
 granted_done (Ok done) due answer granted ok = ok

@@ -1,5 +1,5 @@
 -- What is done where a text is inserted into a window's buffer, and the mark set.
-use Rattle.std.proofs.Common.{◌≡◌, ℕ, ◌+◌, ◌<◌, ◌≤◌, ◌==◌, Bool, true, false, cond, List, [], length, Option, Some, refl, sym, ap, ◌∙◌, arith}
+use Rattle.std.proofs.Common.{◌≡◌, ℕ, ◌+◌, ◌<◌, ◌≤◌, List, [], length, Option, Some, refl, sym, ap, ◌∙◌, arith}
 use Rattle.std.specs.Prelude.{slice_get, slice_set}
 use Rattle.std.specs.List.{position_or_len}
 use Rattle.mgs_model.specs.Access.{Directory}
@@ -8,10 +8,9 @@ use Rattle.mgs_buffers.specs.MarkedBuffer.{HasBuffer, IsMark, MarkedBuffer, mark
 use Rattle.mgs_windows.specs.declared.WindowMarks.{WindowMarks}
 use Rattle.mgs_session.specs.Sessions.{window_marks_of}
 use Rattle.mgs_session.specs.declared.Session.{Session}
-use Rattle.mgs_buffers.specs.Changing.{writes}
 use Rattle.mgs_edit.specs.declared.plan.Finish.{Finish}
 use Rattle.mgs_act.specs.Performing.{marks_left}
-use Rattle.mgs_plan.specs.Actions.{AreMarks, edited_by, insertion_mask}
+use Rattle.mgs_plan.specs.Actions.{AreMarks, edited_by}
 use Rattle.mgs_plan.specs.Following.{edit_told, followed}
 use Rattle.mgs_plan.specs.Inserting.{IsInserted, buffers_inserted, insertion_of, leaving, put_outcome}
 use Rattle.mgs_world.specs.Sound.{IsSound}
@@ -38,14 +37,6 @@ mark_inserted x mid place put ks mark marks = mark_there x mid (insertion_of pla
 pub left_there : (x : WindowMarks) (place : ℕ) (put : List ℕ) (f : Finish) (ks ls ms : List MarkedBuffer) → f ≡ leaving place → ls ≡ edited_by x.name (insertion_of place put) ks → ms ≡ marks_left x f (place + length put) ls → ms ≡ buffers_inserted x place put ks
 left_there x place put f ks ls ms is edits left =
     left ∙ ap (λ (g : Finish). marks_left x g (place + length put) ls) is ∙ ap (marks_left x (leaving place) (place + length put)) edits
-
--- an insertion writes
-pub insertion_writes : (mask place size : ℕ) → mask ≡ insertion_mask place size → writes mask ≡ true
-insertion_writes mask place size is = ap writes is ∙ by (place == size)
-  where
-    by : (b : Bool) → writes (cond b 4 2) ≡ true
-    by true = refl
-    by false = refl
 
 -- THE WORLD
 

@@ -1,5 +1,5 @@
 -- What is done for the session at an index, by what was decided for it.
-use Rattle.std.specs.Prelude.{◌≡◌, ◌<◌, ℕ, Bool, true, false, List, length, Option, Some, Ok, slice_get}
+use Rattle.std.specs.Prelude.{◌≡◌, ◌<◌, ℕ, Bool, true, false, List, length, Option, Some, Result, Ok, IfOk, slice_get}
 use Rattle.std.specs.List.{flat_map, position_or_len}
 use Rattle.mgs_model.specs.Access.{Directory}
 use Rattle.mgs_laws.specs.Apart.{touched_by}
@@ -48,9 +48,9 @@ pub record IsDone (directory : Directory) (at : ℕ) (o : Outcome) (ks : List Ma
   pub fault : stored ≡ false → IsCounted before.failed after.failed
   pub does : (id : ℕ) (next : Option ℕ) (h : Session) → at ≡ position_or_len (session_id id) xs → slice_get xs at ≡ Some h → Does (world_of directory ks xs next) (world_of directory ls ys next) before after id (outcome_read ks (view_at directory ks xs next h) o stored) touched
 
--- by what a store tells
-abbrev pub IsDoneIn : {S : Type 0} → (S → ℕ) → (S → Option (List Saved)) → Directory → ℕ → Outcome → List MarkedBuffer → List Session → S → List MarkedBuffer → List Session → S → Touched → Type 0
-IsDoneIn failed accepted directory at o ks xs s ls ys t touched = IsDone directory at o ks xs (store_told failed accepted s) ls ys (store_told failed accepted t) touched
+-- by what a store tells, where it was not refused
+abbrev pub IsDoneIn : {S E : Type 0} → (S → ℕ) → (S → Option (List Saved)) → Directory → ℕ → Outcome → List MarkedBuffer → List Session → S → List MarkedBuffer → List Session → S → Result Touched E → Type 0
+IsDoneIn failed accepted directory at o ks xs s ls ys t result = IfOk result (IsDone directory at o ks xs (store_told failed accepted s) ls ys (store_told failed accepted t))
 
 -- without a store that is asked
 abbrev pub IsQuietlyDone : Directory → ℕ → Outcome → List MarkedBuffer → List Session → List MarkedBuffer → List Session → Touched → Type 0

@@ -1,5 +1,5 @@
 // What was decided is done: whole, or not at all.
-ghost use Rattle.std.specs.Prelude.{◌≡◌, Some, IfOk, OnErr};
+ghost use Rattle.std.specs.Prelude.{◌≡◌, Some, OnErr};
 ghost use Rattle.mgs_model.specs.Apply.{change_first};
 ghost use Rattle.mgs_buffers.specs.MarkedBuffer.{HasBuffer, marked_named, marked_owners_set};
 ghost use Rattle.mgs_plan.specs.Deciding.{CanList, IsGranted};
@@ -138,8 +138,8 @@ fn save<T: Marked + Drop, S: Store>(
 ) -> Result<Touched, Short>
     requires { IsReady directory.now at buffers.old sessions.old (Saves name.now) }
     ensures sound { IsSound buffers.new sessions.new }
-    ensures done { IfOk result (IsDoneIn S.failed S.accepted directory.now at (Saves name.now)
-        buffers.old sessions.old store.old buffers.new sessions.new store.new) }
+    ensures done { IsDoneIn S.failed S.accepted directory.now at (Saves name.now)
+        buffers.old sessions.old store.old buffers.new sessions.new store.new result }
     ensures err { OnErr result (IsUnchanged buffers.old sessions.old buffers.new sessions.new) }
     ensures unasked { OnErr result (store.new ≡ store.old) }
 {
@@ -174,8 +174,8 @@ pub fn do_decided<T: Marked + Drop, S: Store>(
 ) -> Result<Touched, Short>
     requires { IsReady directory.now at buffers.old sessions.old outcome.now }
     ensures sound { IsSound buffers.new sessions.new }
-    ensures done { IfOk result (IsDoneIn S.failed S.accepted directory.now at outcome.now
-        buffers.old sessions.old store.old buffers.new sessions.new store.new) }
+    ensures done { IsDoneIn S.failed S.accepted directory.now at outcome.now
+        buffers.old sessions.old store.old buffers.new sessions.new store.new result }
     ensures err { OnErr result (IsUnchanged buffers.old sessions.old buffers.new sessions.new) }
     ensures unasked { OnErr result (store.new ≡ store.old) }
     ensures may { OnErr result (TakesMemory at outcome.now buffers.old sessions.old) }
