@@ -152,13 +152,6 @@ fn removed_by<T: Marked + Drop>(
     }
 }
 
-/// READ_DATA and WRITE_DATA, which an undo needs.
-fn read_and_write() -> Mask
-    ensures { result ≡ 3 }
-{
-    Mask::from_bits(Right::ReadData.bit() + Right::WriteData.bit())
-}
-
 /// Takes an edit back, where that takes out or puts in anything, and tells where what comes back ends. `Short`: memory was
 /// refused, and nothing was done.
 fn restore<T: Marked + Drop>(
@@ -185,7 +178,7 @@ fn restore<T: Marked + Drop>(
     let back = removed_by(alloc, buffers, name, undone.serial)?;
     let from = undone.from;
     let to = from + undone.gone;
-    let mask = read_and_write();
+    let mask = Mask::from_bits(Right::ReadData.bit() + Right::WriteData.bit());
     edit_by(buffers, directory, user, name, mask, from, to, &back)?;
     Ok(from + back.len())
 }
@@ -213,16 +206,6 @@ fn top_target(window_marks: &WindowMarks, top: &Option<usize>) -> Option<(MarkId
     }
 }
 
-/// The session holds the kill buffer that was made, if one was.
-fn hold_kill(session: &mut Session, kill: Option<Vec<char>>)
-    ensures { session.new ≡ record session.old { kill = kill_set kill session.old.kill } }
-{
-    match kill {
-        None => {}
-        Some(text) => set_kill(session, text),
-    }
-}
-
 /// Leaves what a command is to leave.
 pub fn leave<T: Marked + Drop>(
     buffers: &mut Buffers<T>,
@@ -242,8 +225,11 @@ pub fn leave<T: Marked + Drop>(
     let point = point_target(window_marks, &left.point, behind);
     let top = top_target(window_marks, &left.top);
     buffers.place_both(&window_marks.name, point, top);
-    hold_kill(session, kill);
     finish(session, left.kind, left.told);
+    match kill {
+        None => {}
+        Some(text) => set_kill(session, text),
+    }
 }
 
 /// A change is done. `Short`: memory was refused, and nothing was done.
@@ -315,26 +301,6 @@ fn take_back<T: Marked + Drop>(
     Ok(())
 }
 
-/// A motion is done. `Short`: memory was refused, and nothing was done.
-fn move_point<T: Marked + Drop>(
-    buffers: &mut Buffers<T>,
-    session: &mut Session,
-    window_marks: &WindowMarks,
-    left: &Finish,
-) -> Result<(), Short>
-    requires marks { AreMarks buffers.old window_marks.now }
-    requires can { CanBeDone buffers.old window_marks.now session.old.kill (Moves left.now) }
-    ensures ok { OnOk result (buffers.new ≡ buffers_acted window_marks.now session.old.kill (Moves left.now) buffers.old) }
-    ensures acted { OnOk result (session.new ≡ acted_in window_marks.now buffers.old (Moves left.now) session.old) }
-    ensures err { OnErr result (buffers.new ≡ buffers.old) }
-    ensures same { OnErr result (session.new ≡ session.old) }
-    ensures may { OnErr result (MayBeShort window_marks.now buffers.old session.old.kill (Moves left.now)) }
-{
-    let made = killed_if(buffers, &window_marks.name, &mut session.kill, &left.kill)?;
-    leave(buffers, session, window_marks, left, 0, made);
-    Ok(())
-}
-
 /// Does what was planned: in the buffers, and to the acting session. `Short`: memory was refused, and nothing was done.
 fn carry_out<T: Marked + Drop>(
     alloc: Global,
@@ -372,7 +338,11 @@ fn carry_out<T: Marked + Drop>(
         Action::Undoes(undone) => {
             take_back(alloc, buffers, directory, session, window_marks, undone)
         }
-        Action::Moves(left) => move_point(buffers, session, window_marks, left),
+        Action::Moves(left) => {
+            let made = killed_if(buffers, &window_marks.name, &mut session.kill, &left.kill)?;
+            leave(buffers, session, window_marks, left, 0, made);
+            Ok(())
+        }
         Action::Clears => {
             // It was granted when it was planned.
             let _done = buffers.unmodify_as(directory, &session.user, &window_marks.name);
