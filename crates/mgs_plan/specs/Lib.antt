@@ -1,6 +1,5 @@
 pub mod Actions
 pub mod Following
-pub mod Beginning
 pub mod Inserting
 pub mod Rows
 pub mod Setting

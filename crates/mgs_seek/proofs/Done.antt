@@ -26,7 +26,7 @@ use Rattle.mgs_session.specs.declared.search.Aim.TheVariants.{Replace}
 use Rattle.mgs_session.specs.declared.search.Edited.{Edited}
 use Rattle.mgs_session.specs.declared.search.Search.{Search}
 use Rattle.mgs_plan.specs.Actions.{edited_by, mark_gone}
-use Rattle.mgs_plan.specs.Beginning.{search_held, search_or_none}
+use Rattle.mgs_seek.specs.Beginning.{search_held, search_or_none}
 use Rattle.mgs_plan.specs.Following.{edit_told, followed}
 use Rattle.mgs_plan.specs.Tells.{touched_in}
 use Rattle.mgs_world.specs.Only.{OnlyThis, nothing_held}

@@ -24,7 +24,7 @@ use Rattle.mgs_session.specs.Sessions.{failed, window_marks_of}
 use Rattle.mgs_session.specs.declared.State as held
 use Rattle.mgs_session.specs.declared.Session.{Session}
 use Rattle.mgs_session.specs.declared.search.Search.{Search}
-use Rattle.mgs_plan.specs.Beginning.{search_held, search_or_none}
+use Rattle.mgs_seek.specs.Beginning.{search_held, search_or_none}
 use Rattle.mgs_plan.specs.Actions.{AreMarks, mark_gone}
 use Rattle.mgs_world.specs.Sound.{IsSessionSound, IsSound, session_uses, uses, window_marks_uses, window_uses}
 use Rattle.mgs_world.specs.Worlds.{state_at, idle, buffers_of, state_of, search_of, session_of, session_id, world_of}

@@ -28,7 +28,7 @@ use Rattle.mgs_session.specs.Sessions.{failed, acted, resting}
 use Rattle.mgs_session.specs.declared.Session.{Session}
 use Rattle.mgs_session.specs.declared.search.Search.{Search}
 use Rattle.mgs_plan.specs.Actions.{mark_gone}
-use Rattle.mgs_plan.specs.Beginning.{searching_state}
+use Rattle.mgs_seek.specs.Beginning.{searching_state}
 use Rattle.mgs_world.specs.Sound.{IsSessionSound}
 use Rattle.mgs_world.specs.Worlds.{buffers_of, idle, state_of, session_of, size_named, world_of}
 use Rattle.mgs_world.proofs.Edits.{size_kept}

@@ -30,7 +30,7 @@ use Rattle.mgs_session.specs.declared.search.Edited.{Edited}
 use Rattle.mgs_session.specs.declared.search.Search.{Search}
 use Rattle.mgs_windows.specs.declared.WindowMarks.{WindowMarks}
 use Rattle.mgs_plan.specs.Actions.{edited_by, mark_gone}
-use Rattle.mgs_plan.specs.Beginning.{search_held}
+use Rattle.mgs_seek.specs.Beginning.{search_held}
 use Rattle.mgs_plan.specs.Following.{edit_told, followed}
 use Rattle.mgs_plan.specs.Inserting.{rights_decision}
 use Rattle.mgs_plan.specs.Tells.{touched_in}

@@ -18,7 +18,7 @@ use Rattle.mgs_session.specs.declared.Session.{Session}
 use Rattle.mgs_session.specs.declared.search.Aim.{Aim}
 use Rattle.mgs_session.specs.declared.search.Aim.TheVariants.{Find, Replace}
 use Rattle.mgs_session.specs.declared.search.Search.{Search}
-use Rattle.mgs_plan.specs.Beginning.{search_held}
+use Rattle.mgs_seek.specs.Beginning.{search_held}
 use Rattle.mgs_world.specs.Worlds.{aim_count, buffers_of, size_named}
 
 -- it begins with this text, which comes in the place of that one

@@ -11,7 +11,7 @@ use Rattle.mgs_model.specs.declared.search.Direction.{Direction}
 use Rattle.mgs_model.specs.declared.session.Command.TheVariants.{LeaveSearch, Seek}
 use Rattle.mgs_model.specs.declared.session.Seeking.TheVariants.{SearchOn, StartSearch}
 use Rattle.mgs_search.specs.Planned.{IsStepPlan}
-use Rattle.mgs_plan.specs.Beginning.{search_held, searching_state}
+use Rattle.mgs_seek.specs.Beginning.{search_held, searching_state}
 use Rattle.mgs_seek.specs.Acting.{Does, as_is}
 use Rattle.mgs_model.specs.declared.search.SearchPlaces.{SearchPlaces}
 use Rattle.mgs_model.specs.declared.search.SearchStep.{SearchStep}

@@ -10,7 +10,7 @@ ghost use Rattle.mgs_session.specs.declared.search.Aim.TheVariants.{Replace};
 ghost use Rattle.mgs_session.specs.Replacing.{Replacing};
 ghost use Rattle.mgs_session.specs.declared.search.Search.{Search};
 ghost use Rattle.mgs_plan.specs.Actions.{edited_by, mark_gone};
-ghost use Rattle.mgs_plan.specs.Beginning.{search_held};
+ghost use Rattle.mgs_seek.specs.Beginning.{search_held};
 ghost use Rattle.mgs_plan.specs.Following.{CanFollow, edit_told};
 ghost use Rattle.mgs_seek.specs.Replacing.{if_replaces, point_met, replacing_of, search_counted, session_met, session_over, taken};
 ghost use Rattle.mgs_seek.specs.Planning.{CanPerform, FullAt, IsDoneAt, IsFurther, IsLeft, IsRefusable, IsReplaced, IsSkipped, IsStarted, IsToldBy, IsUnsought, MayWrite, NextFits, IsPlan, IsPlanned, PlannedAt, ReplacementFails, SkipDone, counted_if, edit_planned, is_full_in, put_of, touched_edit};

@@ -1,7 +1,7 @@
 use Rattle.std.proofs.Common.{◌≤◌, ℕ, length, subst, [], refl}
 use Rattle.mgs_buffers.specs.MarkedBuffer.{mark_at, marked_at}
 use Rattle.mgs_model.specs.declared.session.Seeking.TheVariants.{StartSearch}
-use Rattle.mgs_plan.specs.Beginning.{searching_state}
+use Rattle.mgs_seek.specs.Beginning.{searching_state}
 use Rattle.mgs_seek.proofs.Starts.{begin_does, start_fails}
 use Rattle.mgs_seek.proofs.seeking.begin_in.Goals as goal
 
