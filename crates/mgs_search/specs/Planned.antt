@@ -8,13 +8,18 @@ use Rattle.mgs_model.specs.declared.search.Direction.{Direction}
 use Rattle.mgs_model.specs.declared.search.SearchPlaces.{SearchPlaces}
 use Rattle.mgs_model.specs.declared.search.SearchStep.{SearchStep}
 use Rattle.mgs_model.specs.declared.session.Replacement.{Replacement}
-use Rattle.mgs_model.specs.declared.session.Seeking.TheVariants.{SearchOn, StartReplace, SkipMatch}
+use Rattle.mgs_model.specs.declared.session.Seeking.TheVariants.{SearchFor, SearchOn, StartReplace, SkipMatch}
 use Rattle.mgs_search.specs.declared.replacing.MatchPlan.{MatchPlan}
 
 -- a search by a prompt: the point goes there
 abbrev pub went : Result ℕ Message → Result SearchFinish Message
 went (Ok p) = Ok (record { point = At p; sought = Keep_search; mode = Keep_mode })
 went (Err message) = Err message
+
+-- what a search by a prompt finds from a place on is the command's plan
+abbrev pub IsSearchPlan : Direction → List ℕ → List ℕ → ℕ → Result ℕ Message → Type 0
+IsSearchPlan d pattern text p found =
+    (rest : AroundSearch) → went found ≡ seek (SearchFor d) text (record rest { places = record rest.places { point = p }; typed = pattern })
 
 -- a step of an incremental search: point and anchor go there, and where it looked for its pattern it may be failing
 abbrev pub stepped : SearchStep → SearchPlaces → Bool → SearchFinish

@@ -1,9 +1,7 @@
 // A search for what was typed at a prompt.
 ghost use Rattle.std.specs.Prelude.{◌≡◌, ◌+◌, ◌≤◌, length, IfSome, IfOk};
 ghost use Rattle.mgs_model.specs.Searching.{match_once};
-ghost use Rattle.mgs_model.specs.Seeking.{AroundSearch, seek};
-ghost use Rattle.mgs_model.specs.declared.session.Seeking.TheVariants.{SearchFor};
-ghost use Rattle.mgs_search.specs.Planned.{went};
+ghost use Rattle.mgs_search.specs.Planned.{IsSearchPlan};
 
 use crate::incremental::match_point;
 use crate::{find_forward, find_past};
@@ -31,7 +29,7 @@ pub fn search_for<T: Text>(
     pattern: &[char],
 ) -> Result<usize, Message>
     requires { p ≤ length (T.text text.now) }
-    ensures plan { (rest : AroundSearch) → went result ≡ seek (SearchFor direction) (T.text text.now) (record rest { places = record rest.places { point = p }; typed = pattern.now }) }
+    ensures plan { IsSearchPlan direction pattern.now (T.text text.now) p result }
     ensures within { IfOk result (λ q. q ≤ length (T.text text.now)) }
 {
     if pattern.is_empty() {
