@@ -187,10 +187,6 @@ pub record CanUndo (text : List ℕ) (items : List Item) (kill : List ℕ) (seri
   pub finish : LeavesBehind u.finish
   pub room : is_full (length text) serial u.from (u.from + u.gone) (removed_by u.serial items) ≡ false
 
--- of a buffer
-abbrev pub CanUndoIn : model.Buffer → List ℕ → Undone → Type 0
-CanUndoIn b kill u = CanUndo b.text b.items kill b.serial u
-
 abbrev pub CanDo : List ℕ → List Item → List ℕ → ℕ → Action → Type 0
 CanDo text items kill serial (Fails message) = Unit {0}
 CanDo text items kill serial (Edits mask c) = CanChange text kill serial c

@@ -1,12 +1,9 @@
 -- Positions of searches go by what an action does to a text.
-use Rattle.std.specs.Prelude.{ℕ, ◌+◌, ◌<◌, ◌≤◌, ◌^◌, List, length, map, Option, Some, None, cond}
-use Rattle.mgs_model.specs.Text.{is_edit}
-use Rattle.mgs_model.specs.World.{Buffer, Item}
+use Rattle.std.specs.Prelude.{ℕ, ◌+◌, ◌<◌, ◌≤◌, ◌^◌, ◌||◌, nat_lt, List, length, map, Option, Some, None, cond}
+use Rattle.mgs_model.specs.World.{Item}
 use Rattle.mgs_model.specs.Plans as plans
 use Rattle.mgs_buffers.specs.MarkedBuffer.{MarkedBuffer, marked_at}
 use Rattle.mgs_edit.specs.Reading.{change_read, undone_read}
-use Rattle.mgs_edit.specs.declared.plan.Change.{Change}
-use Rattle.mgs_edit.specs.declared.plan.Undone.{Undone}
 use Rattle.mgs_windows.specs.declared.WindowMarks.{WindowMarks}
 use Rattle.mgs_session.specs.Seeking.{session_edited}
 use Rattle.mgs_session.specs.declared.Session.{Session}
@@ -15,16 +12,13 @@ use Rattle.mgs_plan.specs.Actions.{removed_by}
 use Rattle.mgs_plan.specs.declared.action.Action.{Action}
 use Rattle.mgs_plan.specs.declared.action.Action.TheVariants.{Fails, Edits, Undoes, Moves, Clears}
 
+-- an edit, if it takes something out or puts something in
+abbrev pub if_edit : Edited → Option Edited
+if_edit e = cond (nat_lt e.from e.to || nat_lt 0 e.added) (Some e) None
+
 -- the edit that a change of a text of so many characters is, if it is one
 abbrev pub edit_told : ℕ → plans.Change → Option Edited
-edit_told size c = cond (is_edit c.a c.b c.put) (Some (record { size = size; from = c.a; to = c.b; added = length c.put })) None
-
--- the edit that a change of a buffer's text is, and that taking an edit back is
-abbrev pub change_told : Buffer → List ℕ → Change → Option Edited
-change_told b kill c = edit_told (length b.text) (change_read b.text kill c)
-
-abbrev pub undo_told : Buffer → List ℕ → Undone → Option Edited
-undo_told b kill u = edit_told (length b.text) (undone_read b.text kill (removed_by u.serial b.items) u)
+edit_told size c = if_edit (record { size = size; from = c.a; to = c.b; added = length c.put })
 
 -- the edit that an action is
 abbrev pub action_edit : List ℕ → List Item → List ℕ → Action → Option Edited

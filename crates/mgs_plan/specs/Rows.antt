@@ -42,14 +42,6 @@ abbrev pub scrolled_to : Option RowPane → Session → Session
 scrolled_to None h = failed NoBuffer h
 scrolled_to (Some rows) h = acted Other (session_rows rows h)
 
-abbrev pub scrolled_at : Scrolling → Option Window → Session → Session
-scrolled_at c o h = scrolled_to (pane_scrolled c (height_or_none o) (rows_in o)) h
-
--- the selected window shows no text
-abbrev pub without_text : Option Scrolling → Session → Session
-without_text None h = failed NoBuffer h
-without_text (Some c) h = scrolled_at c (slice_get h.windows.windows h.windows.selected) h
-
 -- that the selected window shows no text, and comes to these rows by some scrolling
 pub record CanScroll (h : Session) (rows : RowPane) : Type 0 where
   pub by : Option Scrolling

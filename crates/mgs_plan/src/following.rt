@@ -1,66 +1,27 @@
 // The positions of searches go by an edit.
-ghost use Rattle.std.specs.Prelude.{◌≡◌, ◌+◌, length};
+ghost use Rattle.std.specs.Prelude.{◌≡◌, length};
 ghost use Rattle.mgs_buffers.specs.MarkedBuffer.{HasBuffer, marked_at};
-ghost use Rattle.mgs_plan.specs.Actions.{CanChange, CanDoIn, CanUndoIn};
-ghost use Rattle.mgs_plan.specs.Following.{CanFollow, action_edit, change_told, edit_told, followed, undo_told};
+ghost use Rattle.mgs_plan.specs.Actions.{CanDoIn};
+ghost use Rattle.mgs_plan.specs.Following.{CanFollow, action_edit, edit_told, followed, if_edit};
 ghost use Rattle.mgs_plan.specs.Inserting.{CanPut, insertion_of};
 
 use crate::action::Action;
 use mgs_buffers::Buffers;
-use mgs_edit::{Change, Undone, is_edit, is_undo_an_edit, put_len};
+use mgs_edit::put_len;
 use mgs_marks::Marked;
 use mgs_model::Name;
 use mgs_session::{Edited, Session};
 use mgs_world::follow_edit_in_all;
 
-/// The edit that a change is, by a session that has this kill buffer, if it is one.
-fn edit_of_change<T: Marked + Drop>(
-    buffers: &Buffers<T>,
-    name: &Name,
-    kill: &[char],
-    change: &Change,
-) -> Option<Edited>
-    requires kept { HasBuffer name.now buffers.now }
-    requires can { CanChange (marked_at name.now buffers.now).buffer.text kill.now (marked_at name.now buffers.now).buffer.serial change.now }
-    ensures { result ≡ change_told (marked_at name.now buffers.now).buffer kill.now change.now }
+/// An edit, if it takes something out or puts something in.
+pub fn if_edit(edit: Edited) -> Option<Edited>
+    ensures { result ≡ if_edit edit }
 {
-    let killed = kill.len();
-    if !is_edit(change, killed) {
-        return None;
+    if edit.from < edit.to || edit.added > 0 {
+        Some(edit)
+    } else {
+        None
     }
-    let size = buffers.text_len(name);
-    match put_len(&change.put, killed) {
-        None => None,
-        Some(added) => Some(Edited {
-            size,
-            from: change.from,
-            to: change.to,
-            added,
-        }),
-    }
-}
-
-/// The edit that an undo is, if it is one.
-fn edit_of_undo<T: Marked + Drop>(
-    buffers: &Buffers<T>,
-    name: &Name,
-    kill: &[char],
-    undone: &Undone,
-) -> Option<Edited>
-    requires kept { HasBuffer name.now buffers.now }
-    requires can { CanUndoIn (marked_at name.now buffers.now).buffer kill.now undone.now }
-    ensures { result ≡ undo_told (marked_at name.now buffers.now).buffer kill.now undone.now }
-{
-    if !is_undo_an_edit(undone) {
-        return None;
-    }
-    let size = buffers.text_len(name);
-    Some(Edited {
-        size,
-        from: undone.from,
-        to: undone.from + undone.gone,
-        added: undone.len,
-    })
 }
 
 /// The edit that an action is, by a session that has this kill buffer, if it is one.
@@ -75,11 +36,20 @@ pub fn edit_of<T: Marked + Drop>(
     ensures value { result ≡ action_edit (marked_at name.now buffers.now).buffer.text (marked_at name.now buffers.now).buffer.items kill.now action.now }
     ensures can { CanFollow result }
 {
-    // For the limit of a text.
-    let _size = buffers.text_len(name);
+    let size = buffers.text_len(name);
     match action {
-        Action::Edits(_, change) => edit_of_change(buffers, name, kill, change),
-        Action::Undoes(undone) => edit_of_undo(buffers, name, kill, undone),
+        Action::Edits(_, change) => if_edit(Edited {
+            size,
+            from: change.from,
+            to: change.to,
+            added: put_len(&change.put, kill.len())?,
+        }),
+        Action::Undoes(undone) => if_edit(Edited {
+            size,
+            from: undone.from,
+            to: undone.from + undone.gone,
+            added: undone.len,
+        }),
         Action::Fails(_) => None,
         Action::Moves(_) => None,
         Action::Clears => None,
@@ -98,12 +68,8 @@ pub fn edit_of_insertion<T: Marked + Drop>(
     ensures value { result ≡ edit_told (length (marked_at name.now buffers.now).buffer.text) (insertion_of place put.now) }
     ensures can { CanFollow result }
 {
-    let size = buffers.text_len(name);
-    if put.is_empty() {
-        return None;
-    }
-    Some(Edited {
-        size,
+    if_edit(Edited {
+        size: buffers.text_len(name),
         from: place,
         to: place,
         added: put.len(),

@@ -25,7 +25,7 @@ mod switching;
 pub use action::Action;
 pub use acts::plan_act;
 pub use answering::plan_answer;
-pub use following::{edit_of, edit_of_insertion, follow};
+pub use following::{edit_of, edit_of_insertion, follow, if_edit};
 pub use key_act::KeyAct;
 pub use outcome::{EntryPlan, Outcome};
 pub use planning::{denial, insertion_mask};
