@@ -1,5 +1,5 @@
 -- A replacement that is done is its act, and what is left to search becomes less.
-use Rattle.std.proofs.Common.{◌≡◌, ℕ, ◌+◌, ◌-◌, ◌<◌, ◌≤◌, ◌^◌, min, Bool, true, false, cond, List, length, map, get_or, Option, Some, None, refl, sym, ap, subst, ◌∙◌, arith}
+use Rattle.std.proofs.Common.{◌≡◌, ℕ, ◌+◌, ◌-◌, ◌<◌, ◌≤◌, ◌^◌, ◌||◌, nat_lt, min, Bool, true, false, cond, List, length, map, get_or, Option, Some, None, refl, sym, ap, subst, ◌∙◌, arith}
 use Rattle.std.specs.Prelude.{IfSome, slice_get, slice_set}
 use Rattle.std.specs.List.{position_or_len}
 use Rattle.std.proofs.lemmas.Option.{get_or_from_slice_get}
@@ -25,9 +25,9 @@ use Rattle.mgs_session.specs.declared.Session.{Session}
 use Rattle.mgs_session.specs.declared.search.Aim.TheVariants.{Replace}
 use Rattle.mgs_session.specs.declared.search.Edited.{Edited}
 use Rattle.mgs_session.specs.declared.search.Search.{Search}
-use Rattle.mgs_plan.specs.Actions.{edited_by, mark_gone}
+use Rattle.mgs_plan.specs.Actions.{mark_gone}
 use Rattle.mgs_seek.specs.Beginning.{search_held, search_or_none}
-use Rattle.mgs_plan.specs.Following.{edit_told, followed}
+use Rattle.mgs_plan.specs.Following.{CanFollow, edit_told, followed, if_edit}
 use Rattle.mgs_plan.specs.Tells.{touched_in}
 use Rattle.mgs_world.specs.Only.{OnlyThis, nothing_held}
 use Rattle.mgs_world.specs.Sound.{IsSound}
@@ -41,8 +41,8 @@ use Rattle.mgs_plan.proofs.Commands.{outcome_known}
 use Rattle.mgs_plan.proofs.Deeds.{edited_buffers, edited_sound, gone_buffers, no_quit}
 use Rattle.mgs_plan.proofs.Followed.{place_followed, sessions_went, sound_kept, within_followed}
 use Rattle.mgs_plan.proofs.Leaving.{length_edited_by, mark_edited_by}
-use Rattle.mgs_seek.specs.Planning.{CanPerform, IsDone, IsPlanned, change_planned, counted_if, edit_of_plan, edit_planned_in, left_at, old_of, one_met, search_after, session_after, size_then, IsTyped, ReplacementFails, IsLeft, put_of, touched_edit}
-use Rattle.mgs_seek.specs.Replacing.{point_met, remaining_at, remaining_in, replacement, session_met, taken}
+use Rattle.mgs_seek.specs.Planning.{CanPerform, IsDone, IsPlanned, buffers_edited, change_planned, counted_if, edit_planned_in, left_at, old_of, one_met, search_after, session_after, size_then, IsTyped, ReplacementFails, IsLeft, touched_edit}
+use Rattle.mgs_seek.specs.Replacing.{point_met, remaining_at, remaining_in, replacement, session_met}
 use Rattle.mgs_seek.specs.declared.replacing.Planned.{Planned}
 use Rattle.mgs_seek.proofs.Lifts.{acts_sound, found_at, in_this, acts, does_fail, held_at, only_state}
 use Rattle.mgs_seek.proofs.Meets.{counts, met_does, only_met, replaces}
@@ -53,6 +53,10 @@ use Rattle.mgs_model.specs.declared.touched.Touched.TheVariants.{Nowhere}
 use Rattle.mgs_session.specs.Sessions.{failed}
 use Rattle.mgs_seek.specs.Acting.{as_is}
 use Rattle.std.specs.Option.{option_map}
+
+is_told : (b : Bool) (e q : Edited) → Path (Option Edited) (cond b (Some e) None) (Some q) → b ≡ true
+is_told true e q is = refl
+is_told false e q is = cc
 
 some_same : {A : Type 0} (x y : A) → Path (Option A) (Some x) (Some y) → x ≡ y
 some_same x y e = cc
@@ -78,18 +82,18 @@ touched_is n size c = by (is_edit c.a c.b c.put)
     by true = refl
     by false = refl
 
-module _ {d : Directory} (ks ls : List MarkedBuffer) (h : Session) (p : Planned) (can : CanPerform d ks h p) (put : List ℕ) (put_is : put ≡ put_of p.plan.replaces h.state.search) (edit : ls ≡ edited_by p.window_marks.name (taken p.edit.from p.edit.to put) ks) where
+-- the edit that is told is the one of the plan
+told_is : (d : Directory) (ks : List MarkedBuffer) (h : Session) (p : Planned) → CanPerform d ks h p → if_edit p.edit ≡ edit_told (length (marked_at p.window_marks.name ks).buffer.text) (change_planned p h.state.search)
+told_is d ks h p can =
+    ap (λ (n : ℕ). if_edit (record p.edit { size = n })) can.size
+    ∙ ap (λ (n : ℕ). if_edit (record p.edit { size = length (marked_at p.window_marks.name ks).buffer.text; added = n })) (sym can.added)
+
+module _ {d : Directory} (ks ls : List MarkedBuffer) (h : Session) (p : Planned) (can : CanPerform d ks h p) (edit_is : ls ≡ buffers_edited p h.state.search ks) where
   abbrev called : List ℕ
   called = p.window_marks.name
 
   abbrev edit_done : Change
   edit_done = change_planned p h.state.search
-
-  pub edit_is : ls ≡ edited_by called edit_done ks
-  edit_is = edit ∙ ap (λ (k : List ℕ). edited_by called (taken p.edit.from p.edit.to k) ks) put_is
-
-  pub put_len : length put ≡ p.edit.added
-  put_len = ap (λ (k : List ℕ). length k) put_is ∙ can.added
 
   pub mark_then : IsMark called p.window_marks.point ls
   mark_then = subst (λ (k : List MarkedBuffer). IsMark called p.window_marks.point k) (sym edit_is) (mark_edited_by called edit_done ks p.window_marks.point can.mark)
@@ -103,12 +107,16 @@ module _ {d : Directory} (ks ls : List MarkedBuffer) (h : Session) (p : Planned)
   pub behind_then : p.edit.from + p.edit.added ≤ length (marked_at called ls).buffer.text
   behind_then = omega (arith, can.order, can.within, length_then)
 
-  module _ (e : Option Edited) (e_is : e ≡ edit_told p.edit.size (taken p.edit.from p.edit.to put)) (y : Session) (y_is : y ≡ session_after called e h) where
-    e_so : e ≡ edit_of_plan p h
-    e_so = e_is ∙ ap (λ (k : List ℕ). edit_told p.edit.size (taken p.edit.from p.edit.to k)) put_is
+  pub follows : (e : Option Edited) → e ≡ if_edit p.edit → CanFollow e
+  follows e is = subst CanFollow (sym is) (by (nat_lt p.edit.from p.edit.to || nat_lt 0 p.edit.added))
+    where
+      by : (q : Bool) → CanFollow (cond q (Some p.edit) None)
+      by true = (can.order, can.fits)
+      by false = tt
 
-    y_so : y ≡ session_after called (edit_of_plan p h) h
-    y_so = y_is ∙ ap (λ (q : Option Edited). session_after called q h) e_so
+  module _ (e : Option Edited) (e_is : e ≡ if_edit p.edit) (y : Session) (y_is : y ≡ session_after called e h) where
+    y_so : y ≡ session_after called (if_edit p.edit) h
+    y_so = y_is ∙ ap (λ (q : Option Edited). session_after called q h) e_is
 
     pub next_then : IfSome p.plan.next (λ m. m + length (old_of y.state.search) ≤ length (marked_at called ls).buffer.text)
     next_then = by p.plan.next can.next
@@ -125,11 +133,11 @@ module _ {d : Directory} (ks ls : List MarkedBuffer) (h : Session) (p : Planned)
       left = left;
       done =
           λ s held.
-          let s1 = search_after called (edit_of_plan p h) s in
-          subst (λ (k : List MarkedBuffer). IsLeft p s1 k ks2 (session_after called (edit_of_plan p h) h) left) edit_is
-          (subst (λ (z : Session). IsLeft p s1 ls ks2 z left) y_so (leave s1 (ap (λ (z : Session). z.state.search) y_so ∙ after_held called (edit_of_plan p h) h s held)));
-      sessions = ap (λ (zs : List Session). slice_set zs at left) (follow ∙ ap (λ (q : Option Edited). followed called q xs) e_so);
-      tells = told ∙ ap (touched_edit called) e_so ∙ touched_is called p.edit.size edit_done;
+          let s1 = search_after called (if_edit p.edit) s in
+          subst (λ (k : List MarkedBuffer). IsLeft p s1 k ks2 (session_after called (if_edit p.edit) h) left) edit_is
+          (subst (λ (z : Session). IsLeft p s1 ls ks2 z left) y_so (leave s1 (ap (λ (z : Session). z.state.search) y_so ∙ after_held called (if_edit p.edit) h s held)));
+      sessions = ap (λ (zs : List Session). slice_set zs at left) (follow ∙ ap (λ (q : Option Edited). followed called q xs) e_is);
+      tells = told ∙ ap (touched_edit called) (e_is ∙ told_is d ks h p can) ∙ touched_is called (length (marked_at called ks).buffer.text) edit_done;
     }
 
 -- WHERE IT IS DONE
@@ -158,9 +166,12 @@ pub session_is : (n : List ℕ) (e : Option Edited) (h : Session) (s : Search) (
 session_is n None h s r held = held_so h (replaces s r) held
 session_is n (Some e) h s r held = ap (session_after n (Some e)) (held_so h (replaces s r) held)
 
-pub after_at : (n : List ℕ) (e : Option Edited) (xs : List Session) (at : ℕ) (h : Session) → slice_get xs at ≡ Some h → slice_get (followed n e xs) at ≡ Some (session_after n e h)
+after_at : (n : List ℕ) (e : Option Edited) (xs : List Session) (at : ℕ) (h : Session) → slice_get xs at ≡ Some h → slice_get (followed n e xs) at ≡ Some (session_after n e h)
 after_at n None xs at h found = found
 after_at n (Some e) xs at h found = followed_get n e xs at h found
+
+pub went_at : (n : List ℕ) (e : Option Edited) (xs ys : List Session) (at : ℕ) (h other : Session) → ys ≡ followed n e xs → slice_get xs at ≡ Some h → get_or ys at other ≡ session_after n e h
+went_at n e xs ys at h other went found = get_or_from_slice_get ys at (session_after n e h) other (ap (λ (zs : List Session). slice_get zs at) went ∙ after_at n e xs at h found)
 
 module _ (d : Directory) (ks : List MarkedBuffer) (xs : List Session) (at : ℕ) (h : Session) (last : Bool) (p : Planned) (planned : IsPlanned d ks h last p) (sound : IsSound ks xs) (is : h ≡ get_or xs at h) (within : at < length xs) where
   abbrev x : WindowMarks
@@ -176,10 +187,10 @@ module _ (d : Directory) (ks : List MarkedBuffer) (xs : List Session) (at : ℕ)
   c = change_planned p h.state.search
 
   abbrev e : Option Edited
-  e = edit_of_plan p h
+  e = if_edit p.edit
 
   abbrev ks1 : List MarkedBuffer
-  ks1 = edited_by x.name c ks
+  ks1 = buffers_edited p h.state.search ks
 
   abbrev xs1 : List Session
   xs1 = followed x.name e xs
@@ -257,7 +268,7 @@ module _ (d : Directory) (ks : List MarkedBuffer) (xs : List Session) (at : ℕ)
         (met_does ks1 h1 x s1 r (session_sound ks1 xs1 at h1 sound1 is1 within1) planned.sought.target.sel name1 (length r.pattern) (left_at p) (count_met b r.count) (one_met b) (count_is b r.count planned.count) p.plan.next next1)
         ∙ same_world d _ _ _ _ (id_after next) (edited_buffers x.name c ks)
         (ap (change_first (has_id id) (session_arranged g))
-        (ap (λ (n : ℕ). map (session_of ks1) (followed x.name (edit_told n c) xs)) planned.can.size ∙ sessions_went x.name c ks xs planned.can.order planned.can.within kept)
+        (ap (λ (q : Option Edited). map (session_of ks1) (followed x.name q xs)) (told_is d ks h p planned.can) ∙ sessions_went x.name c ks xs planned.can.order planned.can.within kept)
         ∙ sym (no_quit x.name c id _))
         ∙ ap (λ (state : State). apply w id (search_finished state f (edit_planned_in p h.state.search))) (sym state_is)
 
@@ -278,8 +289,10 @@ module _ (d : Directory) (ks : List MarkedBuffer) (xs : List Session) (at : ℕ)
       put_tells : touched_by (edit_planned_in p h.state.search) ≡ touched_in (outcome_in w id (Run (commands.Replace (replacement last)) None u.put) true)
       put_tells = sym (ap touched_in known_held)
 
-      pub put_may : is_edit c.a c.b c.put ≡ true → may_be_refused (outcome_in w id (Run (commands.Replace (replacement last)) None u.put) true) ≡ true
-      put_may change = ap may_be_refused known_held ∙ ap (λ (q : Bool). takes_memory (search_finished (state_of h.state) f (cond q (Edit x.name c.a c.b c.put) No_effect))) change
+      pub put_may : if_edit p.edit ≡ Some p.edit → may_be_refused (outcome_in w id (Run (commands.Replace (replacement last)) None u.put) true) ≡ true
+      put_may edits =
+          ap may_be_refused known_held
+          ∙ ap (λ (q : Bool). takes_memory (search_finished (state_of h.state) f (cond q (Edit x.name c.a c.b c.put) No_effect))) (is_told (is_edit c.a c.b c.put) _ _ (sym (told_is d ks h p planned.can) ∙ edits))
 
   abbrev text : List ℕ
   text = (marked_at x.name ks).buffer.text

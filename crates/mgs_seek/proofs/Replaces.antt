@@ -131,7 +131,7 @@ plans_it d ks h s r last p sought held planned =
         within = omega (arith, to, within_text last (anchor_at x ks s.anchor) r (marked_at x.name ks).buffer.text p.plan (anchored d ks h x s r last sought held) planned.plan);
         size = ap (λ (q : Edited). q.size) planned.edit;
         added = ap (λ (put : List ℕ). length put) (put_is d ks h x s r last sought held p planned p.plan.replaces) ∙ sym (ap (λ (q : Edited). q.added) planned.edit);
-        few = planned.few;
+        fits = planned.fits;
         room = ap (λ (put : List ℕ). is_full size (marked_at x.name ks).buffer.serial p.edit.from p.edit.to put) (put_is d ks h x s r last sought held p planned p.plan.replaces) ∙ planned.room;
         next = subst (λ (o : Option Search). IfSome p.plan.next (λ m. m + length (old_of o) ≤ size_then p size)) (sym held) (fits d ks h x s r last sought held p planned p.edit planned.edit p.plan.next refl);
       };

@@ -9,7 +9,6 @@ use Rattle.mgs_model.specs.Seeking.{AroundSearch, SearchFinish, seek}
 use Rattle.mgs_model.specs.View.{view}
 use Rattle.mgs_model.specs.World.{State}
 use Rattle.mgs_model.specs.World as model
-use Rattle.mgs_model.specs.declared.entry.Decision.TheVariants.{Granted}
 use Rattle.mgs_model.specs.declared.message.Message.{Message}
 use Rattle.mgs_model.specs.declared.message.Message.TheVariants.{NoBuffer}
 use Rattle.mgs_model.specs.declared.session.Command.{Command}
@@ -23,7 +22,7 @@ use Rattle.mgs_session.specs.Seeking.{is_search_in}
 use Rattle.mgs_session.specs.Sessions.{window_marks_of}
 use Rattle.mgs_session.specs.declared.Session.{Session}
 use Rattle.mgs_plan.specs.Actions.{AreMarks}
-use Rattle.mgs_plan.specs.Inserting.{rights_decision}
+use Rattle.mgs_plan.specs.Deciding.{IsGranted}
 use Rattle.mgs_seek.specs.Replacing.{replacement, replacing_state}
 use Rattle.mgs_world.specs.Worlds.{state_of, session_of, world_of}
 
@@ -57,7 +56,7 @@ command_of true c k = Replace k
 pub record IsTarget (d : Directory) (ks : List MarkedBuffer) (h : Session) (writes : Bool) (x : WindowMarks) : Type 0 where
   pub sel : window_marks_of h ≡ Some x
   pub marks : AreMarks ks x
-  pub granted : rights_decision d ks h.user x.name (text_mask writes) ≡ Granted
+  pub granted : IsGranted d ks h.user x.name (text_mask writes)
 
 -- its search is there
 pub record IsSought (d : Directory) (ks : List MarkedBuffer) (h : Session) (writes : Bool) (x : WindowMarks) : Type 0 where

@@ -9,9 +9,9 @@ use Rattle.mgs_model.specs.Events.{with_state}
 use Rattle.mgs_laws.specs.Refusals.{may_be_refused}
 use Rattle.mgs_model.specs.Outcome.{Effect, Run}
 use Rattle.mgs_model.specs.Plans as plans
+use Rattle.mgs_model.specs.Plans.{stays}
 use Rattle.mgs_model.specs.Seeking.{met}
 use Rattle.mgs_model.specs.View.{view}
-use Rattle.mgs_model.specs.declared.entry.Decision.TheVariants.{Granted}
 use Rattle.mgs_model.specs.declared.message.Message.{Message}
 use Rattle.mgs_model.specs.declared.message.Message.TheVariants.{BufferFull}
 use Rattle.mgs_model.specs.declared.session.Command.TheVariants as commands
@@ -31,12 +31,12 @@ use Rattle.mgs_session.specs.declared.search.Search.{Search}
 use Rattle.mgs_windows.specs.declared.WindowMarks.{WindowMarks}
 use Rattle.mgs_plan.specs.Actions.{edited_by, mark_gone}
 use Rattle.mgs_seek.specs.Beginning.{search_held}
-use Rattle.mgs_plan.specs.Following.{edit_told, followed}
-use Rattle.mgs_plan.specs.Inserting.{rights_decision}
+use Rattle.mgs_plan.specs.Deciding.{IsGranted}
+use Rattle.mgs_plan.specs.Following.{followed, if_edit}
 use Rattle.mgs_plan.specs.Tells.{touched_in}
 use Rattle.mgs_world.specs.Worlds.{aim_input, aim_old, state_of, session_id, session_of, world_of}
 use Rattle.mgs_seek.specs.Acting.{Does, IsSought, as_is}
-use Rattle.mgs_seek.specs.Replacing.{point_met, remaining_at, replacement, replacing_state, search_counted, session_met, taken}
+use Rattle.mgs_seek.specs.Replacing.{point_met, remaining_at, replacement, replacing_state, search_counted, session_met}
 use Rattle.mgs_seek.specs.declared.replacing.Planned.{Planned}
 
 -- WHAT IS TAKEN OUT, AND PUT IN, where there is a match or none
@@ -64,7 +64,11 @@ abbrev pub put_of : Bool → Option Search → List ℕ
 put_of replaces o = put_by replaces (put_in o)
 
 abbrev pub change_planned : Planned → Option Search → plans.Change
-change_planned p o = taken p.edit.from p.edit.to (put_of p.plan.replaces o)
+change_planned p o = record { a = p.edit.from; b = p.edit.to; put = put_of p.plan.replaces o; finish = stays }
+
+-- and the buffers then
+abbrev pub buffers_edited : Planned → Option Search → List MarkedBuffer → List MarkedBuffer
+buffers_edited p o ks = edited_by p.window_marks.name (change_planned p o) ks
 
 abbrev pub edit_planned_in : Planned → Option Search → Effect
 edit_planned_in p o = edit_of p.window_marks.name p.edit.from p.edit.to (put_of p.plan.replaces o)
@@ -88,7 +92,7 @@ pub record PlannedAt (ks : List MarkedBuffer) (x : WindowMarks) (anchor : ℕ) (
   pub edit : p.edit ≡ edit_planned (length (marked_at x.name ks).buffer.text) (anchor_at x ks anchor) r p.plan.replaces
   pub plan : IsPlan (marked_at x.name ks).buffer.text (anchor_at x ks anchor) r last p.plan
   pub room : is_full_in ks x.name p.edit.from p.edit.to (put_by p.plan.replaces r.put) ≡ false
-  pub few : p.edit.added ≤ 120
+  pub fits : p.edit.size + p.edit.added < 2 ^ 64
   pub count : r.count < 2 ^ 64
 
 -- the buffer is full
@@ -102,19 +106,15 @@ pub record FullAt (ks : List MarkedBuffer) (x : WindowMarks) (anchor : ℕ) (r :
 abbrev pub size_then : Planned → ℕ → ℕ
 size_then p size = size - (p.edit.to - p.edit.from) + p.edit.added
 
--- a user may read and write a buffer
-abbrev pub MayWrite : Directory → List MarkedBuffer → List ℕ → List ℕ → Type 0
-MayWrite d ks user name = rights_decision d ks user name 3 ≡ Granted
-
 -- it can be done
 pub record CanPerform (d : Directory) (ks : List MarkedBuffer) (h : Session) (p : Planned) : Type 0 where
-  pub granted : MayWrite d ks h.user p.window_marks.name
+  pub granted : IsGranted d ks h.user p.window_marks.name 3
   pub mark : IsMark p.window_marks.name p.window_marks.point ks
   pub order : p.edit.from ≤ p.edit.to
   pub within : p.edit.to ≤ length (marked_at p.window_marks.name ks).buffer.text
   pub size : p.edit.size ≡ length (marked_at p.window_marks.name ks).buffer.text
   pub added : length (put_of p.plan.replaces h.state.search) ≡ p.edit.added
-  pub few : p.edit.added ≤ 120
+  pub fits : p.edit.size + p.edit.added < 2 ^ 64
   pub room : is_full_in ks p.window_marks.name p.edit.from p.edit.to (put_of p.plan.replaces h.state.search) ≡ false
   pub next : IfSome p.plan.next (λ m. m + length (old_of h.state.search) ≤ size_then p (length (marked_at p.window_marks.name ks).buffer.text))
 
@@ -186,13 +186,10 @@ abbrev pub touched_edit : List ℕ → Option Edited → Touched
 touched_edit name None = Nowhere
 touched_edit name (Some e) = In name
 
-abbrev pub edit_of_plan : Planned → Session → Option Edited
-edit_of_plan p h = edit_told p.edit.size (change_planned p h.state.search)
-
 pub record IsDone (at : ℕ) (p : Planned) (h : Session) (ks ls : List MarkedBuffer) (xs ys : List Session) (touched : Touched) : Type 0 where
   pub left : Session
-  pub done : (s : Search) → h.state.search ≡ Some s → IsLeft p (search_after p.window_marks.name (edit_of_plan p h) s) (edited_by p.window_marks.name (change_planned p h.state.search) ks) ls (session_after p.window_marks.name (edit_of_plan p h) h) left
-  pub sessions : ys ≡ slice_set (followed p.window_marks.name (edit_of_plan p h) xs) at left
+  pub done : (s : Search) → h.state.search ≡ Some s → IsLeft p (search_after p.window_marks.name (if_edit p.edit) s) (buffers_edited p h.state.search ks) ls (session_after p.window_marks.name (if_edit p.edit) h) left
+  pub sessions : ys ≡ slice_set (followed p.window_marks.name (if_edit p.edit) xs) at left
   pub tells : touched ≡ touched_by (edit_planned_in p h.state.search)
 
 -- and the same of the session at an index

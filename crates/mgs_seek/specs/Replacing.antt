@@ -2,8 +2,6 @@
 use Rattle.std.specs.Prelude.{ℕ, ◌+◌, ◌-◌, min, Bool, true, false, List, Option, Some, None}
 use Rattle.mgs_model.specs.Acts.{counted, without_all}
 use Rattle.mgs_model.specs.Outcome.{At, PointPlan}
-use Rattle.mgs_model.specs.Plans as plans
-use Rattle.mgs_model.specs.Plans.{stays}
 use Rattle.mgs_model.specs.World.{State}
 use Rattle.mgs_model.specs.declared.message.Message.TheVariants.{Replaced}
 use Rattle.mgs_model.specs.declared.session.Kind.TheVariants.{Other}
@@ -55,10 +53,6 @@ aim_counted (Replace r) = Replace (record r { count = counted r.count 1 })
 
 abbrev pub search_counted : Search → Search
 search_counted s = record s { aim = aim_counted s.aim }
-
--- what is taken out and put in, as the buffers and the positions of searches go by it
-abbrev pub taken : ℕ → ℕ → List ℕ → plans.Change
-taken a b put = record { a = a; b = b; put = put; finish = stays }
 
 -- A MATCH, or none
 

@@ -1,7 +1,5 @@
 // A query-replace: it begins, a match is skipped or replaced, and it is over where no match is left.
 ghost use Rattle.std.specs.Prelude.{IfErr, Ok, ◌≡◌, ℕ, ◌+◌, ◌<◌, ◌≤◌, ◌^◌, List, length, Option, Some, None, IfOk, IfSome, OnOk, OnErr, true, false, slice_get};
-ghost use Rattle.mgs_model.specs.Acts.{is_full};
-ghost use Rattle.mgs_model.specs.Text.{is_edit};
 ghost use Rattle.mgs_model.specs.declared.touched.Touched.TheVariants.{Nowhere};
 ghost use Rattle.mgs_buffers.specs.MarkedBuffer.{HasBuffer, IsMark, marked_at};
 ghost use Rattle.mgs_session.specs.Seeking.{unsearched};
@@ -9,11 +7,11 @@ ghost use Rattle.mgs_session.specs.declared.Session.{Session};
 ghost use Rattle.mgs_session.specs.declared.search.Aim.TheVariants.{Replace};
 ghost use Rattle.mgs_session.specs.Replacing.{Replacing};
 ghost use Rattle.mgs_session.specs.declared.search.Search.{Search};
-ghost use Rattle.mgs_plan.specs.Actions.{edited_by, mark_gone};
+ghost use Rattle.mgs_plan.specs.Actions.{mark_gone};
 ghost use Rattle.mgs_seek.specs.Beginning.{search_held};
-ghost use Rattle.mgs_plan.specs.Following.{CanFollow, edit_told};
-ghost use Rattle.mgs_seek.specs.Replacing.{if_replaces, point_met, replacing_of, search_counted, session_met, session_over, taken};
-ghost use Rattle.mgs_seek.specs.Planning.{CanPerform, FullAt, IsDoneAt, IsFurther, IsLeft, IsRefusable, IsReplaced, IsSkipped, IsStarted, IsToldBy, IsUnsought, MayWrite, NextFits, IsPlan, IsPlanned, PlannedAt, ReplacementFails, SkipDone, counted_if, edit_planned, is_full_in, put_of, touched_edit};
+ghost use Rattle.mgs_plan.specs.Following.{if_edit};
+ghost use Rattle.mgs_seek.specs.Replacing.{if_replaces, point_met, replacing_of, search_counted, session_met, session_over};
+ghost use Rattle.mgs_seek.specs.Planning.{CanPerform, FullAt, IsDoneAt, IsFurther, IsLeft, IsRefusable, IsReplaced, IsSkipped, IsStarted, IsToldBy, IsUnsought, NextFits, IsPlan, IsPlanned, PlannedAt, ReplacementFails, SkipDone, buffers_edited, counted_if, edit_planned, is_full_in, put_of, touched_edit};
 ghost use Rattle.mgs_seek.specs.Acting.{DoesStart, IsSameWorld};
 ghost use Rattle.mgs_world.specs.Only.{OnlyThis, nothing_held};
 ghost use Rattle.mgs_world.specs.Sound.{IsSessionSound, IsSound};
@@ -23,7 +21,7 @@ use crate::target::{go_on, mask, sought, target};
 use mgs_buffers::{Buffers, EditFault};
 use mgs_marks::Marked;
 use mgs_model::{Kind, Message, Name, Short, TEXT_LIMIT, Touched};
-use mgs_plan::follow;
+use mgs_plan::{follow, if_edit};
 use mgs_policy::Directory;
 use mgs_search::{MatchPlan, begin_replacing, replace_last, replace_match, skip_match};
 use mgs_session::{
@@ -261,53 +259,6 @@ fn plan_in<T: Marked + Drop>(
     }
 }
 
-/// Edits a buffer for a user, if that is an edit. `Short`: memory was refused, and nothing was done.
-fn edit<T: Marked + Drop>(
-    buffers: &mut Buffers<T>,
-    directory: &Directory,
-    user: &Name,
-    name: &Name,
-    from: usize,
-    to: usize,
-    put: &[char],
-) -> Result<(), Short>
-    requires kept { HasBuffer name.now buffers.old }
-    requires granted { MayWrite directory.now buffers.old user.now name.now }
-    requires order { from ≤ to }
-    requires within { to ≤ length (marked_at name.now buffers.old).buffer.text }
-    requires room { is_full_in buffers.old name.now from to put.now ≡ false }
-    ensures ok { OnOk result (buffers.new ≡ edited_by name.now (taken from to put.now) buffers.old) }
-    ensures err { OnErr result (buffers.new ≡ buffers.old) }
-    ensures may { OnErr result (is_edit from to put.now ≡ true) }
-{
-    // For the ranges of a serial and of a place.
-    let _serial = buffers.serial(name);
-    let _size = buffers.text_len(name);
-    if from == to && put.is_empty() {
-        return Ok(());
-    }
-    match buffers.edit_as(directory, user, name, mask(true), from, to, put) {
-        Ok(()) => Ok(()),
-        Err(EditFault::Short) => Err(Short),
-        // It was planned where that is granted.
-        Err(EditFault::Denied(_)) => unreachable!(),
-    }
-}
-
-/// An edit, if it is one.
-fn if_edit(edit: Edited) -> Option<Edited>
-    requires order { edit.from ≤ edit.to }
-    requires fits { edit.size + edit.added < 2 ^ 64 }
-    ensures can { CanFollow result }
-    ensures value { (put : List ℕ) → length put ≡ edit.added → result ≡ edit_told edit.size (taken edit.from edit.to put) }
-{
-    if edit.from < edit.to || edit.added > 0 {
-        Some(edit)
-    } else {
-        None
-    }
-}
-
 /// What comes in: what the query-replace of a session puts, where there was a match.
 fn put_of(session: &Session, replaces: bool) -> &[char]
     ensures { result.now ≡ put_of replaces session.now.state.search }
@@ -315,6 +266,34 @@ fn put_of(session: &Session, replaces: bool) -> &[char]
     match &session.state.search {
         Some(search) => { if replaces { put_text(search) } else { &[] } }
         None => &[],
+    }
+}
+
+/// Does the edit that a session planned, if it is one. `Short`: memory was refused, and nothing was done.
+fn edit<T: Marked + Drop>(
+    buffers: &mut Buffers<T>,
+    directory: &Directory,
+    session: &Session,
+    planned: &Planned,
+) -> Result<(), Short>
+    requires { CanPerform directory.now buffers.old session.now planned.now }
+    ensures ok { OnOk result (buffers.new ≡ buffers_edited planned.now session.now.state.search buffers.old) }
+    ensures err { OnErr result (buffers.new ≡ buffers.old) }
+    ensures may { OnErr result (if_edit planned.now.edit ≡ Some planned.now.edit) }
+{
+    let name = &planned.window_marks.name;
+    // For the ranges of a serial and of a place.
+    let _serial = buffers.serial(name);
+    let _size = buffers.text_len(name);
+    let Some(Edited { from, to, .. }) = if_edit(planned.edit) else {
+        return Ok(());
+    };
+    let put = put_of(session, planned.plan.replaces);
+    match buffers.edit_as(directory, &session.user, name, mask(true), from, to, put) {
+        Ok(()) => Ok(()),
+        Err(EditFault::Short) => Err(Short),
+        // It was planned where that is granted.
+        Err(EditFault::Denied(_)) => unreachable!(),
     }
 }
 
@@ -370,25 +349,14 @@ fn perform<T: Marked + Drop>(
     planned: &Planned,
 ) -> Result<Touched, Short>
     requires within { at < length sessions.old }
-    requires mark { IsMark planned.now.window_marks.name planned.now.window_marks.point buffers.old }
-    requires order { planned.now.edit.from ≤ planned.now.edit.to }
-    requires inside { planned.now.edit.to ≤ length (marked_at planned.now.window_marks.name buffers.old).buffer.text }
     requires can { (h : Session) → slice_get sessions.old at ≡ Some h → CanPerform directory.now buffers.old h planned.now }
     ensures done { IfOk result (IsDoneAt at planned.now buffers.old buffers.new sessions.old sessions.new) }
     ensures err { OnErr result ((buffers.new ≡ buffers.old) × (sessions.new ≡ sessions.old)) }
-    ensures may { OnErr result ((h : Session) → slice_get sessions.old at ≡ Some h → is_edit planned.now.edit.from planned.now.edit.to (put_of planned.now.plan.replaces h.state.search) ≡ true) }
+    ensures may { OnErr result (if_edit planned.now.edit ≡ Some planned.now.edit) }
 {
-    let name = &planned.window_marks.name;
-    // For the limit of a text.
-    let _size = buffers.text_len(name);
-    let session = &sessions[at];
-    let put = put_of(session, planned.plan.replaces);
-    let (from, to) = (planned.edit.from, planned.edit.to);
-    match edit(buffers, directory, &session.user, name, from, to, put) {
-        Ok(()) => {}
-        Err(short) => return Err(short),
-    }
+    edit(buffers, directory, &sessions[at], planned)?;
     let edit = if_edit(planned.edit);
+    let name = &planned.window_marks.name;
     follow(sessions, name, &edit);
     leave(buffers, &mut sessions[at], planned);
     Ok(touched(name, &edit))

@@ -30,6 +30,6 @@ returns-clause-ok g c =
           subst (λ (n : ℕ). IsPlan text n r c.args.last c.plan-plan.result) anchor
           (subst (λ (t : List ℕ). IsPlan t c.min-anchor.result r c.args.last c.plan-plan.result) c.text.ensures.text c.plan-plan.ensures);
       room = sym (c.is_full.ensures (put_by b r.put) (sym (ap (λ (q : Edited). q.added) c.edit_planned-edit.ensures.value))) ∙ c.if-is_full.false;
-      few = c.edit_planned-edit.ensures.few;
+      fits = omega (arith, c.edit_planned-edit.ensures.few, ap (λ (q : Edited). q.size) c.edit_planned-edit.ensures.value, c.text_len-size.ensures.limit);
       count = subst (λ (n : ℕ). n < 2 ^ 64) c.count-count.ensures.value c.count-count.ensures.small;
     }

@@ -39,7 +39,7 @@ returns-in-Ok-perform-clause-further g c =
 
 pub returns-in-Err-perform-clause-may : goal.returns-in-Err-perform-clause-may
 returns-in-Err-perform-clause-may g c = λ id next s r place held aim.
-    put_may c.args.directory.now c.args.buffers.now c.args.sessions.now c.args.at _ c.args.last c.in-Ok.planned c.in-Ok.ensures.ok c.requires.sound (ap (get_or c.args.sessions.now c.args.at) c.index-sessions-at.is) c.requires.within next id place s r held aim (c.in-Err-perform.ensures.may _ (found_at c.args.sessions.now c.args.at _ (ap (get_or c.args.sessions.now c.args.at) c.index-sessions-at.is) c.requires.within))
+    put_may c.args.directory.now c.args.buffers.now c.args.sessions.now c.args.at _ c.args.last c.in-Ok.planned c.in-Ok.ensures.ok c.requires.sound (ap (get_or c.args.sessions.now c.args.at) c.index-sessions-at.is) c.requires.within next id place s r held aim c.in-Err-perform.ensures.may
 
 pub returns-in-Err-perform-clause-held : goal.returns-in-Err-perform-clause-held
 returns-in-Err-perform-clause-held g c = unsought_never c.args.directory.now c.args.buffers.now c.args.sessions.now c.args.at _ c.args.last c.in-Ok.planned c.in-Ok.ensures.ok c.requires.sound (ap (get_or c.args.sessions.now c.args.at) c.index-sessions-at.is) c.requires.within
