@@ -47,12 +47,6 @@ denied_first state Granted e message told o = told (permitted state e o)
 denied_first state (DeniedBy n right) e message told o = told o
 denied_first state (NotGranted right) e message told o = told o
 
-pub denied_second : (state : State) (d e : Decision) (message : Message) → d ≡ Granted → ((o : Outcome) → permitted state e o ≡ fails state message) → (o : Outcome) → permitted state (or_else d e) o ≡ fails state message
-denied_second state d e message granted told o = ap (λ k. permitted state (or_else k e) o) granted ∙ told o
-
-pub granted_second : (d e : Decision) → d ≡ Granted → e ≡ Granted → or_else d e ≡ Granted
-granted_second d e first second = ap (λ k. or_else k e) first ∙ second
-
 -- WHAT IS TOLD SUFFICES
 
 -- an insertion at a place, in a buffer of which so much is told

@@ -9,12 +9,13 @@ ghost use Rattle.mgs_model.specs.declared.session.ByName.TheVariants.{InsertBuff
 ghost use Rattle.mgs_model.specs.declared.session.Command.TheVariants.{Named};
 ghost use Rattle.mgs_session.specs.Sessions.{window_marks_of};
 ghost use Rattle.mgs_plan.specs.Actions.{AreMarks};
-ghost use Rattle.mgs_plan.specs.Deciding.{CanPerform, IsGranted, IsPlanned, Refuses};
+ghost use Rattle.mgs_plan.specs.Deciding.{CanPerform, IsPlanned, Refuses};
 ghost use Rattle.mgs_plan.specs.Inserting.{CanInsert, IsCopyDecided, IsInsertionDecided, IsInsertionGranted, KeepsGrant};
-ghost use Rattle.mgs_plan.specs.Inserting.{acting_place, copied_at, copy_decision, decided_outcome, is_copy_full, rights_decision, target_decision};
+ghost use Rattle.mgs_plan.specs.Inserting.{acting_place, copied_at, copy_decision, decided_outcome, is_copy_full, target_decision};
 
+use crate::judging::refusal;
 use crate::outcome::Outcome;
-use crate::planning::{denial, insertion_mask};
+use crate::planning::insertion_mask;
 use mgs_buffers::Buffers;
 use mgs_marks::Marked;
 use mgs_model::{Mask, Message, Name, Right, TEXT_LIMIT};
@@ -32,39 +33,8 @@ pub enum Inserted {
     Copies(Name, usize),
 }
 
-/// Why a user may not read the buffer whose text is to come in, if there is a reason.
-fn source_refusal<T: Marked + Drop>(
-    buffers: &Buffers<T>,
-    directory: &Directory,
-    user: &Name,
-    source: &Name,
-) -> Option<Message>
-    requires { HasBuffer source.now buffers.now }
-    ensures refused { IfSome result (Refuses (rights_decision directory.now buffers.now user.now source.now 1)) }
-    ensures none { result ≡ None → IsGranted directory.now buffers.now user.now source.now 1 }
-{
-    let mask = Mask::from_bits(Right::ReadData.bit());
-    denial(buffers.decide_all(directory, source, user, mask))
-}
-
-/// Why a user may not insert at a place of a buffer, if there is a reason.
-fn target_refusal<T: Marked + Drop>(
-    buffers: &Buffers<T>,
-    directory: &Directory,
-    user: &Name,
-    name: &Name,
-    place: usize,
-) -> Option<Message>
-    requires { HasBuffer name.now buffers.now }
-    ensures refused { IfSome result (Refuses (target_decision directory.now buffers.now user.now name.now place)) }
-    ensures none { result ≡ None → target_decision directory.now buffers.now user.now name.now place ≡ Granted }
-{
-    let mask = insertion_mask(place, buffers.text_len(name));
-    denial(buffers.decide_all(directory, name, user, mask))
-}
-
 /// Why a user may not insert one buffer's text at a place of another, if there is a reason: the source is judged first.
-fn refusal<T: Marked + Drop>(
+fn copy_refusal<T: Marked + Drop>(
     buffers: &Buffers<T>,
     directory: &Directory,
     user: &Name,
@@ -78,9 +48,12 @@ fn refusal<T: Marked + Drop>(
     ensures none { result ≡ None → copy_decision directory.now buffers.now user.now source.now name.now place ≡ Granted }
     ensures target { result ≡ None → target_decision directory.now buffers.now user.now name.now place ≡ Granted }
 {
-    match source_refusal(buffers, directory, user, source) {
+    match refusal(buffers, directory, user, source, Mask::of(Right::ReadData)) {
         Some(message) => Some(message),
-        None => target_refusal(buffers, directory, user, name, place),
+        None => {
+            let mask = insertion_mask(place, buffers.text_len(name));
+            refusal(buffers, directory, user, name, mask)
+        }
     }
 }
 
@@ -151,7 +124,7 @@ fn copied<T: Marked + Drop>(
 {
     let name = &window_marks.name;
     let place = acting_place(buffers, directory, user, window_marks);
-    match refusal(buffers, directory, user, &source, name, place) {
+    match copy_refusal(buffers, directory, user, &source, name, place) {
         Some(message) => Inserted::Fails(message),
         None => copied_at(buffers, source, name, place),
     }

@@ -12,7 +12,7 @@ use mgs_model::{Mask, Message, Name};
 use mgs_policy::Directory;
 
 /// Why a user may not act on a buffer by these rights, if there is a reason.
-fn refusal<T: Marked + Drop>(
+pub(crate) fn refusal<T: Marked + Drop>(
     buffers: &Buffers<T>,
     directory: &Directory,
     user: &Name,
