@@ -18,7 +18,6 @@ pub mod Stored
 pub mod Named
 pub mod Questions
 pub mod Saves
-pub mod Scrolls
 pub mod Unbound
 pub mod Granted
 pub mod Searches

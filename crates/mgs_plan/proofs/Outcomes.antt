@@ -30,11 +30,10 @@ use Rattle.mgs_windows.specs.declared.WindowMarks.{WindowMarks}
 use Rattle.mgs_windows.specs.declared.Window.{Window}
 use Rattle.mgs_windows.specs.declared.RowPane.{RowPane}
 use Rattle.mgs_windows.specs.declared.RowPane.TheVariants.{NoRows, Buffers, Entries}
-use Rattle.mgs_windows.specs.Panes.{rows_in}
 use Rattle.mgs_session.specs.Sessions.{window_marks_of}
 use Rattle.mgs_session.specs.declared.Session.{Session}
 use Rattle.mgs_model.specs.declared.session.Scrolling.{Scrolling}
-use Rattle.mgs_plan.specs.Rows.{outcome_without, scroll_in, scroll_outcome}
+use Rattle.mgs_plan.specs.Rows.{outcome_without, pane_scrolled, rows_scrolled, scroll_in}
 use Rattle.mgs_plan.specs.Actions.{edit_outcome, granted_outcome, height_or_none, is_on_text, mark_if, outcome_at, place_in, plan_in, replaced_outcome, seek_in, selected_height, sought_at}
 use Rattle.mgs_world.specs.Worlds.{buffers_of, state_of, session_of, window_of, window_shown, world_of}
 use Rattle.mgs_world.proofs.Found.{found_buffer, found_seen, name_kept}
@@ -397,18 +396,18 @@ replaced_off_target v c n typed none =
 
 -- the rows of the selected window, as the session sees them
 rows_off : (state : State) (s : Scrolling) (can : List ℕ → Bool) (ks : List MarkedBuffer) (o : Option Window) → option_and_then (λ (w : Window). w.shows) o ≡ None
-    → (let seen = option_map (window_seen can) (option_map (window_of ks) o) in cond (has_rows seen) (scrolls_rows state (row_in s seen)) (fails state NoBuffer) ≡ scroll_outcome state s (height_or_none o) (rows_in o))
+    → (let seen = option_map (window_seen can) (option_map (window_of ks) o) in cond (has_rows seen) (scrolls_rows state (row_in s seen)) (fails state NoBuffer) ≡ outcome_without state (rows_scrolled (Some s) o))
 rows_off state s can ks None none = refl
 rows_off state s can ks (Some w) none =
     ap (λ (o : Option WindowMarks). let seen : Option WindowSeen = Some (window_seen can (window_shown ks w.height o w.rows)) in cond (has_rows seen) (scrolls_rows state (row_in s seen)) (fails state NoBuffer)) none
     ∙ by w.height w.rows
   where
-    by : (height : ℕ) (rows : RowPane) → (let seen : Option WindowSeen = Some (window_seen can (window_shown ks height None rows)) in cond (has_rows seen) (scrolls_rows state (row_in s seen)) (fails state NoBuffer)) ≡ scroll_outcome state s height rows
+    by : (height : ℕ) (rows : RowPane) → (let seen : Option WindowSeen = Some (window_seen can (window_shown ks height None rows)) in cond (has_rows seen) (scrolls_rows state (row_in s seen)) (fails state NoBuffer)) ≡ outcome_without state (pane_scrolled s height rows)
     by height NoRows = refl
     by height (Buffers row) = refl
     by height (Entries name row) = refl
 
-off_seen : (directory : Directory) (ks : List MarkedBuffer) (xs : List Session) (next : Option ℕ) (h : Session) (s : Option Scrolling) → window_marks_of h ≡ None → off_outcome (view (world_of directory ks xs next) (session_of ks h)) s ≡ outcome_without (state_of h.state) s (slice_get h.windows.windows h.windows.selected)
+off_seen : (directory : Directory) (ks : List MarkedBuffer) (xs : List Session) (next : Option ℕ) (h : Session) (s : Option Scrolling) → window_marks_of h ≡ None → off_outcome (view (world_of directory ks xs next) (session_of ks h)) s ≡ outcome_without (state_of h.state) (rows_scrolled s (slice_get h.windows.windows h.windows.selected))
 off_seen directory ks xs next h None none = refl
 off_seen directory ks xs next h (Some s) none =
     let can = reads directory (buffers_of ks) h.user in
@@ -417,6 +416,6 @@ off_seen directory ks xs next h (Some s) none =
     (slice_get-map (window_seen can) (map (window_of ks) ws) h.windows.selected ∙ ap (option_map (window_seen can)) (slice_get-map (window_of ks) ws h.windows.selected))
     ∙ rows_off (state_of h.state) s can ks (slice_get ws h.windows.selected) none
 
-pub outcome_none : (directory : Directory) (ks : List MarkedBuffer) (xs : List Session) (next : Option ℕ) (h : Session) (c : Command) (n : Option ℕ) (typed : List ℕ) → is_on_text c ≡ true → window_marks_of h ≡ None → outcome (view (world_of directory ks xs next) (session_of ks h)) (outcomes.Run c n typed) true ≡ outcome_without (state_of h.state) (scroll_in c) (slice_get h.windows.windows h.windows.selected)
+pub outcome_none : (directory : Directory) (ks : List MarkedBuffer) (xs : List Session) (next : Option ℕ) (h : Session) (c : Command) (n : Option ℕ) (typed : List ℕ) → is_on_text c ≡ true → window_marks_of h ≡ None → outcome (view (world_of directory ks xs next) (session_of ks h)) (outcomes.Run c n typed) true ≡ outcome_without (state_of h.state) (rows_scrolled (scroll_in c) (slice_get h.windows.windows h.windows.selected))
 outcome_none directory ks xs next h c n typed on none =
     off_target (view (world_of directory ks xs next) (session_of ks h)) c n typed on (selected_none directory ks xs next h none) ∙ off_seen directory ks xs next h (scroll_in c) none

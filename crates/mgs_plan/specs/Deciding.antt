@@ -20,7 +20,7 @@ use Rattle.mgs_plan.specs.Actions.{CanBeDone, insertion_mask, is_setting_done, o
 use Rattle.mgs_plan.specs.Inserting.{CanCopy, put_outcome, rights_decision}
 use Rattle.mgs_plan.specs.Listed.{CanSetList, entries_planned}
 use Rattle.mgs_plan.specs.Listing.{lists_named}
-use Rattle.mgs_plan.specs.Rows.{CanScroll, outcome_without, rows_outcome}
+use Rattle.mgs_plan.specs.Rows.{CanScroll, outcome_without, rows_outcome, rows_scrolled}
 use Rattle.mgs_plan.specs.Saving.{save_answered}
 use Rattle.mgs_plan.specs.declared.action.Action.{Action}
 use Rattle.mgs_plan.specs.declared.action.Action.TheVariants as actions
@@ -149,4 +149,4 @@ IsCreation ks typed o = (v : View) (stored : Bool) → length v.buffers ≡ leng
 -- that it is what scrolling comes to, or any other command on a text, in a session whose selected window shows none
 abbrev pub IsUnshown : Session → Option Scrolling → Outcome → Type 0
 IsUnshown h scrolling o =
-    (ks : List MarkedBuffer) (v : View) (stored : Bool) → outcome_without v.session.state scrolling (slice_get h.windows.windows h.windows.selected) ≡ outcome_read ks v o stored
+    (ks : List MarkedBuffer) (v : View) (stored : Bool) → outcome_without v.session.state (rows_scrolled scrolling (slice_get h.windows.windows h.windows.selected)) ≡ outcome_read ks v o stored

@@ -56,11 +56,7 @@ rows_outcome state NoRows = fails state NoBuffer
 rows_outcome state (Buffers row) = scrolls_rows state (Some row)
 rows_outcome state (Entries name row) = scrolls_rows state (Some row)
 
-abbrev pub scroll_outcome : State → Scrolling → ℕ → RowPane → Outcome
-scroll_outcome state c height NoRows = fails state NoBuffer
-scroll_outcome state c height (Buffers row) = scrolls_rows state (Some (row_scrolled c row height))
-scroll_outcome state c height (Entries name row) = scrolls_rows state (Some (row_scrolled c row height))
-
-abbrev pub outcome_without : State → Option Scrolling → Option Window → Outcome
-outcome_without state None o = fails state NoBuffer
-outcome_without state (Some c) o = scroll_outcome state c (height_or_none o) (rows_in o)
+-- or to none
+abbrev pub outcome_without : State → Option RowPane → Outcome
+outcome_without state None = fails state NoBuffer
+outcome_without state (Some rows) = rows_outcome state rows

@@ -1,23 +1,17 @@
 use Rattle.std.proofs.Common.{ap, sym, ◌∙◌}
 use Rattle.std.specs.Prelude.{slice_get}
-use Rattle.mgs_plan.specs.Rows.{rows_scrolled, scroll_in}
-use Rattle.mgs_plan.proofs.Scrolls.{scrolled_none, scrolled_some}
+use Rattle.mgs_plan.specs.Rows.{outcome_without, rows_scrolled}
 use Rattle.mgs_plan.proofs.rows.plan_rows.Goals as goal
 
 pub returns-in-Some-clause-value : goal.returns-in-Some-clause-value
 returns-in-Some-clause-value c = λ ks v stored.
     let ws = c.args.session.now.windows in
-    let o = slice_get ws.windows ws.selected in
-    scrolled_some v.session.state (scroll_in c.args.command) o c.in-Some.rows (sym (c.rows_scrolled.ensures ∙ ap (λ s. rows_scrolled s o) c.scroll_in.ensures) ∙ c.in-Some.is)
+    ap (outcome_without v.session.state) (sym (c.rows_scrolled.ensures ∙ ap (λ s. rows_scrolled s (slice_get ws.windows ws.selected)) c.scroll_in.ensures) ∙ c.in-Some.is)
 
 pub returns-in-Some-clause-can : goal.returns-in-Some-clause-can
-returns-in-Some-clause-can c = λ directory ks none.
-    let ws = c.args.session.now.windows in
-    let o = slice_get ws.windows ws.selected in
-    record { by = c.scroll_in.result; unshown = none; scrolled = sym c.rows_scrolled.ensures ∙ c.in-Some.is }
+returns-in-Some-clause-can c = λ directory ks none. record { by = c.scroll_in.result; unshown = none; scrolled = sym c.rows_scrolled.ensures ∙ c.in-Some.is }
 
 pub returns-in-None-clause-value : goal.returns-in-None-clause-value
 returns-in-None-clause-value c = λ ks v stored.
     let ws = c.args.session.now.windows in
-    let o = slice_get ws.windows ws.selected in
-    scrolled_none v.session.state (scroll_in c.args.command) o (sym (c.rows_scrolled.ensures ∙ ap (λ s. rows_scrolled s o) c.scroll_in.ensures) ∙ c.in-None.is)
+    ap (outcome_without v.session.state) (sym (c.rows_scrolled.ensures ∙ ap (λ s. rows_scrolled s (slice_get ws.windows ws.selected)) c.scroll_in.ensures) ∙ c.in-None.is)
