@@ -5,26 +5,21 @@ use Rattle.std.specs.List.{position_or_len}
 use Rattle.std.specs.Option.{option_map}
 use Rattle.std.proofs.lemmas.List.{length-map, map-id}
 use Rattle.mgs_model.specs.Text.{is_edit}
-use Rattle.mgs_model.specs.World.{Item}
 use Rattle.mgs_model.specs.Outcome.{Edit, No_effect}
 use Rattle.mgs_model.specs.Plans as plans
-use Rattle.mgs_model.specs.Acts.{edit_of, is_full}
+use Rattle.mgs_model.specs.Acts.{edit_of}
 use Rattle.mgs_model.specs.Apply.{change_first, session_after}
 use Rattle.mgs_model.proofs.Firsts.{position_or_len-map}
 use Rattle.mgs_buffers.specs.MarkedBuffer.{HasBuffer, MarkedBuffer, marked_at, marked_edited, marked_named}
-use Rattle.mgs_edit.specs.Reading.{change_read, undone_read}
 use Rattle.mgs_session.specs.Seeking.{search_edited, session_edited}
 use Rattle.mgs_session.specs.declared.Session.{Session}
 use Rattle.mgs_session.specs.declared.search.Edited.{Edited}
 use Rattle.mgs_session.specs.declared.search.Search.{Search}
-use Rattle.mgs_plan.specs.Actions.{CanDo, edited_by, removed_by}
-use Rattle.mgs_plan.specs.Following.{CanFollow, action_edit, edit_told, followed}
-use Rattle.mgs_plan.specs.declared.action.Action.{Action}
-use Rattle.mgs_plan.specs.declared.action.Action.TheVariants.{Fails, Edits, Undoes, Moves, Clears}
+use Rattle.mgs_plan.specs.Actions.{edited_by}
+use Rattle.mgs_plan.specs.Following.{edit_told, followed}
 use Rattle.mgs_world.specs.Sound.{IsSound, uses}
 use Rattle.mgs_world.specs.Worlds.{session_id, session_of}
 use Rattle.mgs_world.proofs.Edits.{followed_get, followed_set, sessions_edited, sound_followed, uses_followed}
-use Rattle.mgs_plan.proofs.Leaving.{has_room}
 
 -- A SESSION THAT SEARCHES NOTHING stays as it is
 
@@ -67,20 +62,3 @@ sessions_went name c ks xs order within kept = go (is_edit c.a c.b c.put)
     go : (f : Bool) → map (session_of (cond f (change_first (marked_named name) (marked_edited c.a c.b c.put) ks) ks)) (followed name (cond f (Some (record { size = length (marked_at name ks).buffer.text; from = c.a; to = c.b; added = length c.put })) None) xs) ≡ map (session_after (cond f (Edit name c.a c.b c.put) No_effect)) (map (session_of ks) xs)
     go true = sessions_edited name c.a c.b c.put ks xs order within kept
     go false = sym (map-id (map (session_of ks) xs))
-
--- WHAT THE WALK ASKS FOR
-
-pub told_follows : (size serial : ℕ) (c : plans.Change) → c.a ≤ c.b → c.b ≤ size → size ≤ 1048576 → is_full size serial c.a c.b c.put ≡ false → CanFollow (edit_told size c)
-told_follows size serial c order within small room = go (is_edit c.a c.b c.put) refl
-  where
-    go : (f : Bool) → is_edit c.a c.b c.put ≡ f → CanFollow (cond f (Some (record { size = size; from = c.a; to = c.b; added = length c.put })) None)
-    go true e = (order, omega (arith, order, within, small, (has_room size serial c e room).0))
-    go false e = tt
-
-pub action_follows : (text : List ℕ) (items : List Item) (kill : List ℕ) (serial : ℕ) (action : Action) → CanDo text items kill serial action → length text ≤ 1048576 → CanFollow (action_edit text items kill action)
-action_follows text items kill serial (Fails message) can small = tt
-action_follows text items kill serial (Edits mask c) can small = told_follows (length text) serial (change_read text kill c) can.within.order can.within.within small can.room
-action_follows text items kill serial (Undoes u) can small =
-    told_follows (length text) serial (undone_read text kill (removed_by u.serial items) u) (omega arith) can.within small can.room
-action_follows text items kill serial (Moves f) can small = tt
-action_follows text items kill serial Clears can small = tt

@@ -1,11 +1,10 @@
 -- Marks and texts where marks are placed, and where a text is edited.
-use Rattle.std.proofs.Common.{◌≡◌, ℕ, ◌+◌, ◌-◌, ◌≤◌, ◌&&◌, ◌||◌, nat_lt, ◌==◌, Bool, true, false, cond, List, length, Option, Some, None, refl, ap, ◌∙◌, arith, ltb-false}
+use Rattle.std.proofs.Common.{◌≡◌, ℕ, ◌+◌, ◌-◌, ◌≤◌, ◌||◌, nat_lt, Bool, true, false, cond, List, length, Option, Some, None, refl, ap, ◌∙◌, arith, ltb-false}
 use Rattle.std.specs.Prelude.{find}
 use Rattle.std.specs.Option.{option_map}
 use Rattle.mgs_model.specs.Text.{is_edit}
 use Rattle.mgs_model.specs.Outcome.{PointPlan, Keep_position, At, At_origin}
 use Rattle.mgs_model.specs.Plans as plans
-use Rattle.mgs_model.specs.Acts.{is_full}
 use Rattle.mgs_model.specs.Apply.{change_first}
 use Rattle.mgs_buffers.specs.MarkedBuffer.{HasBuffer, IsMark, MarkedBuffer, marked_at, marked_edited, marked_named, marked_or_none, marked_placed}
 use Rattle.mgs_windows.specs.declared.WindowMarks.{WindowMarks}
@@ -23,18 +22,6 @@ parts a b n false false p q r = (ltb-false a b p, omega (arith, ltb-false 0 n q)
 
 pub no_edit : (a b : ℕ) (put : List ℕ) → is_edit a b put ≡ false → (b ≤ a) × (length put ≡ 0)
 no_edit a b put e = parts a b (length put) (nat_lt a b) (nat_lt 0 (length put)) refl refl e
-
-room_parts : (f g h : Bool) → f ≡ true → (f && (g || h)) ≡ false → (g ≡ false) × (h ≡ false)
-room_parts true true h e r = cc
-room_parts true false true e r = cc
-room_parts true false false e r = (refl, refl)
-room_parts false g h e r = cc
-
--- an edit that is not too much
-pub has_room : (size serial : ℕ) (c : plans.Change) → is_edit c.a c.b c.put ≡ true → is_full size serial c.a c.b c.put ≡ false → (size - (c.b - c.a) + length c.put ≤ 1048576) × ((serial == 18446744073709551615) ≡ false)
-has_room size serial c e r =
-    let p = room_parts (is_edit c.a c.b c.put) (nat_lt 1048576 (size - (c.b - c.a) + length c.put)) (serial == 18446744073709551615) e r in
-    (ltb-false 1048576 (size - (c.b - c.a) + length c.put) p.0, p.1)
 
 -- WHERE MARKS ARE PLACED
 
