@@ -1,8 +1,7 @@
 // What an act of a session comes to.
-ghost use Rattle.std.specs.Prelude.{◌≡◌, [], IfSome, true};
-ghost use Rattle.mgs_model.specs.Outcome as outcomes;
+ghost use Rattle.std.specs.Prelude.{◌≡◌, IfSome, true};
 ghost use Rattle.mgs_session.specs.Sessions.{window_marks_of};
-ghost use Rattle.mgs_plan.specs.Actions.{AreMarks, act_of, is_command_done, is_done_here};
+ghost use Rattle.mgs_plan.specs.Actions.{AreMarks, act_of, is_done_here};
 ghost use Rattle.mgs_plan.specs.Deciding.{CanPerform, IsPlanned};
 ghost use Rattle.mgs_world.specs.Worlds.{idle, state_of};
 
@@ -17,34 +16,6 @@ use mgs_marks::Marked;
 use mgs_model::{Command, Message};
 use mgs_policy::Directory;
 use mgs_session::Session;
-
-/// What a command comes to.
-fn plan_command<T: Marked + Drop>(
-    buffers: &Buffers<T>,
-    directory: &Directory,
-    session: &Session,
-    command: Command,
-    argument: Option<usize>,
-) -> Outcome
-    requires marks { IfSome (window_marks_of session.now) (AreMarks buffers.now) }
-    requires fresh { state_of session.now.state ≡ idle (state_of session.now.state) }
-    requires here { is_command_done command ≡ true }
-    ensures value { IsPlanned directory.now buffers.now session.now (outcomes.Run command argument []) result }
-    ensures can { CanPerform directory.now buffers.now session.now result }
-{
-    match command {
-        Command::Set(setting) => Outcome::Sets(setting, argument),
-        Command::Ask(question) => Outcome::Asks(question, argument),
-        Command::Rearrange(arrangement) => Outcome::Arranges(arrangement, argument),
-        Command::Entries(change) => {
-            let ruling = Ruling::Entries(change);
-            plan_rule(buffers, directory, session, ruling, argument, &[])
-        }
-        Command::ListEntries => plan_list(buffers, directory, session),
-        Command::SaveBuffer => plan_save(buffers, directory, session),
-        _ => plan_text(buffers, directory, session, command, argument),
-    }
-}
 
 /// What an act comes to for a session that has nothing half read and an empty echo line: a command on the text that it shows, an
 /// arrangement of its windows, a setting, a question, an entry that is deleted, a list that is shown, a save, or a word that runs no
@@ -61,10 +32,19 @@ pub fn plan_act<T: Marked + Drop>(
     ensures value { IsPlanned directory.now buffers.now session.now (act_of done) result }
     ensures can { CanPerform directory.now buffers.now session.now result }
 {
-    match done {
-        KeyAct::Unbound => Outcome::Fails(Message::KeyNotBound),
-        KeyAct::Run(command, argument) => {
-            plan_command(buffers, directory, session, command, argument)
+    let KeyAct::Run(command, argument) = done else {
+        return Outcome::Fails(Message::KeyNotBound);
+    };
+    match command {
+        Command::Set(setting) => Outcome::Sets(setting, argument),
+        Command::Ask(question) => Outcome::Asks(question, argument),
+        Command::Rearrange(arrangement) => Outcome::Arranges(arrangement, argument),
+        Command::Entries(change) => {
+            let ruling = Ruling::Entries(change);
+            plan_rule(buffers, directory, session, ruling, argument, &[])
         }
+        Command::ListEntries => plan_list(buffers, directory, session),
+        Command::SaveBuffer => plan_save(buffers, directory, session),
+        _ => plan_text(buffers, directory, session, command, argument),
     }
 }
