@@ -50,26 +50,19 @@ fn around<T: Marked + Drop>(
     ensures place { result.place ≤ length (marked_at found.now.name found.now.all).buffer.text }
     ensures mark { IsWithin (length (marked_at found.now.name found.now.all).buffer.text) result.mark }
 {
-    if found.grants(directory, user, Right::ReadData) {
-        Around {
-            place: found.pos(window_marks.point),
-            mark: mark(found, window_marks),
-            argument: given.argument,
-            killed,
-            kind: given.kind,
-            height: given.height,
-            fill: given.fill,
-        }
+    let (place, mark) = if found.grants(directory, user, Right::ReadData) {
+        (found.pos(window_marks.point), mark(found, window_marks))
     } else {
-        Around {
-            place: found.text_len(),
-            mark: None,
-            argument: given.argument,
-            killed,
-            kind: given.kind,
-            height: given.height,
-            fill: given.fill,
-        }
+        (found.text_len(), None)
+    };
+    Around {
+        place,
+        mark,
+        argument: given.argument,
+        killed,
+        kind: given.kind,
+        height: given.height,
+        fill: given.fill,
     }
 }
 

@@ -16,7 +16,7 @@ use mgs_marks::Marked;
 use mgs_model::{Direction, Kind, Mask, Message, Name, Right};
 use mgs_policy::Directory;
 use mgs_search::search_for;
-use mgs_session::{SearchString, Session, selected_window_marks};
+use mgs_session::{Session, selected_window_marks};
 use mgs_windows::WindowMarks;
 
 /// What a search comes to from a place, where reading is granted: the point goes to where it ends.
@@ -76,26 +76,18 @@ fn plan_meant<T: Marked + Drop>(
     direction: Direction,
     typed: &[char],
 ) -> Action
-    requires marks { AreMarks buffers.now window_marks.now }
-    requires few { length typed.now ≤ 120 }
+    requires { AreMarks buffers.now window_marks.now }
     ensures value { IsSearchFor directory.now buffers.now session.now.user window_marks.now direction (sought session.now.state.pattern typed.now) result }
     ensures can { (kill : List ℕ) → CanDoIn buffers.now window_marks.now.name kill result }
     ensures granted { IsActionGranted directory.now buffers.now session.now.user window_marks.now.name result }
 {
     let user = &session.user;
-    if typed.is_empty() {
-        let last = session.state.pattern.as_slice();
-        return plan(buffers, directory, user, window_marks, direction, last);
-    }
-    let pattern = SearchString::of(typed);
-    plan(
-        buffers,
-        directory,
-        user,
-        window_marks,
-        direction,
-        pattern.as_slice(),
-    )
+    let pattern = if typed.is_empty() {
+        session.state.pattern.as_slice()
+    } else {
+        typed
+    };
+    plan(buffers, directory, user, window_marks, direction, pattern)
 }
 
 /// What a search comes to for a session at rest, whatever its argument: for what was typed, or for the search string where nothing was.
@@ -108,7 +100,6 @@ pub(crate) fn plan_search<T: Marked + Drop>(
 ) -> Outcome
     requires marks { IfSome (window_marks_of session.now) (AreMarks buffers.now) }
     requires fresh { state_of session.now.state ≡ idle (state_of session.now.state) }
-    requires few { length typed.now ≤ 120 }
     ensures value { (n : Option ℕ) → IsPlanned directory.now buffers.now session.now (searches session.now direction n typed.now) result }
     ensures can { CanPerform directory.now buffers.now session.now result }
 {

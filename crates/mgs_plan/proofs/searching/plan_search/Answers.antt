@@ -10,8 +10,8 @@ pub returns-in_default-clause-value : goal.returns-in_default-clause-value
 returns-in_default-clause-value g c = λ n xs next.
     search_unshown c.args.directory.now c.args.buffers.now xs next c.args.session.now c.args.direction n (sought (state_of c.args.session.now.state).pattern c.args.typed.now) (sym c.selected_window_marks.ensures ∙ c.in_default.is)
 
-pub plan_meant-action-requires-clause-marks : goal.plan_meant-action-requires-clause-marks
-plan_meant-action-requires-clause-marks g c = subst (λ s. IfSome s (AreMarks c.args.buffers.now)) (sym c.selected_window_marks.ensures ∙ c.in-Some.is) c.requires.marks
+pub plan_meant-action-requires : goal.plan_meant-action-requires
+plan_meant-action-requires g c = subst (λ s. IfSome s (AreMarks c.args.buffers.now)) (sym c.selected_window_marks.ensures ∙ c.in-Some.is) c.requires.marks
 
 pub returns-clause-value : goal.returns-clause-value
 returns-clause-value g c = λ n xs next.
