@@ -152,16 +152,16 @@ module _ (d : Directory) (ks : List MarkedBuffer) (h : Session) (x : WindowMarks
   held_so_far : h.state.search ≡ Some (replaces s r)
   held_so_far = is ∙ ap (λ (a : Aim). let t : Search = record s { aim = a } in Some t) aim
 
-  pub planned_ok : IfOk result (λ p. p.window_marks ≡ x) → IfOk result (λ p. PlannedAt ks x s.anchor r last p) → IfOk result (λ p. IsPlanned d ks h last p)
+  pub planned_ok : IfOk result (λ p. p.window_marks ≡ x) → IfOk result (PlannedAt ks x s.anchor r last) → IfOk result (IsPlanned d ks h last)
   planned_ok window planned = by result window planned
     where
-      by : (o : Result Planned Message) → IfOk o (λ p. p.window_marks ≡ x) → IfOk o (λ p. PlannedAt ks x s.anchor r last p) → IfOk o (λ p. IsPlanned d ks h last p)
+      by : (o : Result Planned Message) → IfOk o (λ p. p.window_marks ≡ x) → IfOk o (PlannedAt ks x s.anchor r last) → IfOk o (IsPlanned d ks h last)
       by (Ok p) same planned = plans_it d ks h s r last p (subst (λ (v : WindowMarks). IsSought d ks h true v) (sym same) sought) held_so_far (subst (λ (v : WindowMarks). PlannedAt ks v s.anchor r last p) (sym same) planned)
       by (Err m) same planned = tt
 
-  pub planned_err : IfErr result (λ message. FullAt ks x s.anchor r last message) → IfErr result (λ message. ReplacementFails d ks h last message)
+  pub planned_err : IfErr result (FullAt ks x s.anchor r last) → IfErr result (ReplacementFails d ks h last)
   planned_err full = by result full
     where
-      by : (o : Result Planned Message) → IfErr o (λ message. FullAt ks x s.anchor r last message) → IfErr o (λ message. ReplacementFails d ks h last message)
+      by : (o : Result Planned Message) → IfErr o (FullAt ks x s.anchor r last) → IfErr o (ReplacementFails d ks h last)
       by (Ok p) full = tt
       by (Err m) full = full_fails d ks h x s r last sought held_so_far m full

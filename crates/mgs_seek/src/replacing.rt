@@ -214,8 +214,8 @@ fn plan_at<T: Marked + Drop>(
 ) -> Result<Planned, Message>
     requires kept { HasBuffer window_marks.now.name buffers.now }
     ensures window { IfOk result (λ p. p.window_marks ≡ window_marks.now) }
-    ensures ok { IfOk result (λ p. PlannedAt buffers.now window_marks.now anchor replacing.now last p) }
-    ensures err { IfErr result (λ message. FullAt buffers.now window_marks.now anchor replacing.now last message) }
+    ensures ok { IfOk result (PlannedAt buffers.now window_marks.now anchor replacing.now last) }
+    ensures err { IfErr result (FullAt buffers.now window_marks.now anchor replacing.now last) }
 {
     // For the range of a count.
     let _count = replacing.count();
@@ -242,8 +242,8 @@ fn plan_in<T: Marked + Drop>(
     last: bool,
 ) -> Result<Planned, Message>
     requires { IsSessionSound buffers.now session.now }
-    ensures ok { IfOk result (λ p. IsPlanned directory.now buffers.now session.now last p) }
-    ensures err { IfErr result (λ message. ReplacementFails directory.now buffers.now session.now last message) }
+    ensures ok { IfOk result (IsPlanned directory.now buffers.now session.now last) }
+    ensures err { IfErr result (ReplacementFails directory.now buffers.now session.now last) }
 {
     match sought(buffers, directory, session, true) {
         Err(message) => Err(message),

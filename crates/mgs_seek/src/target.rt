@@ -21,7 +21,7 @@ pub(crate) fn mask(writes: bool) -> Mask
     if writes {
         Mask::from_bits(Right::ReadData.bit() + Right::WriteData.bit())
     } else {
-        Mask::from_bits(Right::ReadData.bit())
+        Mask::of(Right::ReadData)
     }
 }
 
@@ -33,8 +33,8 @@ pub(crate) fn target<T: Marked + Drop>(
     writes: bool,
 ) -> Result<WindowMarks, Message>
     requires { IsSessionSound buffers.now session.now }
-    ensures ok { IfOk result (λ x. IsTarget directory.now buffers.now session.now writes x) }
-    ensures err { IfErr result (λ message. Fails directory.now buffers.now session.now writes message) }
+    ensures ok { IfOk result (IsTarget directory.now buffers.now session.now writes) }
+    ensures err { IfErr result (Fails directory.now buffers.now session.now writes) }
 {
     let Some(window_marks) = selected_window_marks(session) else {
         return Err(Message::NoBuffer);
@@ -64,8 +64,8 @@ pub(crate) fn sought<T: Marked + Drop>(
     writes: bool,
 ) -> Result<WindowMarks, Message>
     requires { IsSessionSound buffers.now session.now }
-    ensures ok { IfOk result (λ x. IsSought directory.now buffers.now session.now writes x) }
-    ensures err { IfErr result (λ message. SearchFails directory.now buffers.now session.now writes message) }
+    ensures ok { IfOk result (IsSought directory.now buffers.now session.now writes) }
+    ensures err { IfErr result (SearchFails directory.now buffers.now session.now writes) }
 {
     match target(buffers, directory, session, writes) {
         Err(message) => Err(message),
