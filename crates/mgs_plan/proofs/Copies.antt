@@ -22,10 +22,9 @@ use Rattle.mgs_windows.specs.declared.WindowMarks.{WindowMarks}
 use Rattle.mgs_session.specs.Sessions.{window_marks_of}
 use Rattle.mgs_session.specs.declared.Session.{Session}
 use Rattle.mgs_plan.specs.Actions.{AreMarks, edit_outcome, insertion_mask, place_in}
-use Rattle.mgs_plan.specs.Inserting.{IsInsertionDecided, copy_outcome, decided_outcome, insertion_of, insertion_outcome, outcome_from}
+use Rattle.mgs_plan.specs.Inserting.{copy_outcome, insertion_of, insertion_outcome, outcome_from}
 use Rattle.mgs_model.specs.declared.message.Message.TheVariants.{NoBuffer}
 use Rattle.mgs_plan.specs.Deciding.{IsOutcome, outcome_read}
-use Rattle.mgs_plan.specs.declared.inserting.Inserted.{Inserted}
 use Rattle.mgs_plan.specs.declared.outcome.Outcome as code
 use Rattle.mgs_plan.specs.declared.outcome.Outcome.TheVariants.{Fails}
 use Rattle.mgs_world.proofs.Soundness.{mark_is_kept}
@@ -145,13 +144,11 @@ module _ (directory : Directory) (ks : List MarkedBuffer) (xs : List Session) (n
       unstored seen (Run (Named InsertBuffer) n typed) stored refl
       ∙ insertion_known (rw none tt) ∙ ap (insertion_outcome directory ks (state_of h.state) h.user typed) none
 
-  pub insert_planned : (x : WindowMarks) (inserted : Inserted) (o : code.Outcome) → window_marks_of h ≡ Some x → AreMarks ks x
-      → IsInsertionDecided directory ks h.user typed x inserted
-      → ((v : View) (stored : Bool) → decided_outcome ks v.session.state x.name inserted ≡ outcome_read ks v o stored)
+  pub insert_planned : (x : WindowMarks) (o : code.Outcome) → window_marks_of h ≡ Some x → AreMarks ks x
+      → ((v : View) (stored : Bool) → outcome_from directory ks v.session.state h.user typed x (has_buffer typed ks) ≡ outcome_read ks v o stored)
       → IsOutcome directory ks xs next h (Run (Named InsertBuffer) n typed) o
-  insert_planned x inserted o sel marks decided read = λ stored.
+  insert_planned x o sel marks read = λ stored.
       unstored seen (Run (Named InsertBuffer) n typed) stored refl
       ∙ insertion_known (rw sel (mark_is_kept x.name x.point ks marks.point))
       ∙ ap (insertion_outcome directory ks (state_of h.state) h.user typed) sel
-      ∙ sym (decided (state_of h.state))
       ∙ read seen stored

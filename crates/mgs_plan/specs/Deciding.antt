@@ -17,7 +17,7 @@ use Rattle.mgs_session.specs.Sessions.{window_marks_of}
 use Rattle.mgs_session.specs.declared.Session.{Session}
 use Rattle.mgs_windows.specs.declared.WindowMarks.{WindowMarks}
 use Rattle.mgs_plan.specs.Actions.{CanBeDone, insertion_mask, is_setting_done, outcome_through}
-use Rattle.mgs_plan.specs.Inserting.{CanCopy, put_outcome, rights_decision}
+use Rattle.mgs_plan.specs.Inserting.{CanCopy, copy_outcome, put_outcome, rights_decision, target_decision}
 use Rattle.mgs_plan.specs.Listed.{CanSetList, entries_planned}
 use Rattle.mgs_plan.specs.Listing.{lists_named}
 use Rattle.mgs_plan.specs.Rows.{CanScroll, outcome_without, rows_outcome, rows_scrolled}
@@ -118,6 +118,10 @@ CanPerformJudged directory ks user name mask granted o = (h : Session) → MayPe
 abbrev pub CanWhereGranted : Directory → List MarkedBuffer → List ℕ → ℕ → Outcome → Type 0
 CanWhereGranted directory ks name mask o = (h : Session) → IsGranted directory ks h.user name mask → CanPerform directory ks h o
 
+-- whoever is granted an insertion at a place, through the marks of the window that he has selected, can perform it
+abbrev pub CanWhereInserted : List MarkedBuffer → WindowMarks → ℕ → Outcome → Type 0
+CanWhereInserted ks x place o = (directory : Directory) (h : Session) → window_marks_of h ≡ Some x → target_decision directory ks h.user x.name place ≡ Granted → CanPerform directory ks h o
+
 -- THAT IT IS WHAT AN ACT COMES TO
 
 -- by a session, whatever the store answers
@@ -145,6 +149,10 @@ IsRuled ks effect o = (v : View) (stored : Bool) → outcome_read ks v o stored 
 -- that it is what it comes to that a buffer is made of this name
 abbrev pub IsCreation : List MarkedBuffer → List ℕ → Outcome → Type 0
 IsCreation ks typed o = (v : View) (stored : Bool) → length v.buffers ≡ length ks → creates_buffer v typed ≡ outcome_read ks v o stored
+
+-- that it is what it comes to for a user that the text of a buffer that is there comes in, through a window's marks
+abbrev pub IsCopy : Directory → List MarkedBuffer → List ℕ → List ℕ → WindowMarks → Outcome → Type 0
+IsCopy directory ks user source x o = (v : View) (stored : Bool) → copy_outcome directory ks v.session.state user source x ≡ outcome_read ks v o stored
 
 -- that it is what scrolling comes to, or any other command on a text, in a session whose selected window shows none
 abbrev pub IsUnshown : Session → Option Scrolling → Outcome → Type 0

@@ -7,7 +7,6 @@ use Rattle.mgs_model.specs.Plans as plans
 use Rattle.mgs_model.specs.Acts.{edit_of, fails, finished, is_full, or_else, permitted}
 use Rattle.mgs_model.specs.Apply.{change_first}
 use Rattle.mgs_model.specs.declared.entry.Decision.{Decision}
-use Rattle.mgs_model.specs.declared.entry.Decision.TheVariants.{Granted}
 use Rattle.mgs_model.specs.declared.message.Message.TheVariants.{NoBuffer, NoSuchBuffer, Silent}
 use Rattle.mgs_model.specs.declared.right.Right.TheVariants.{ReadData}
 use Rattle.mgs_model.specs.declared.session.Kind.TheVariants.{Other}
@@ -19,8 +18,6 @@ use Rattle.mgs_edit.specs.declared.plan.Finish.{Finish}
 use Rattle.mgs_edit.specs.declared.plan.Goes.TheVariants.{Behind}
 use Rattle.mgs_world.specs.Marking.{IsReserved, session_marked}
 use Rattle.mgs_plan.specs.Actions.{edit_outcome, edited_by, insertion_mask, marks_gone, place_in, session_finished}
-use Rattle.mgs_plan.specs.declared.inserting.Inserted.{Inserted}
-use Rattle.mgs_plan.specs.declared.inserting.Inserted.TheVariants.{Fails, Copies}
 
 -- the mark goes to the place, and the point behind what comes in
 abbrev pub leaving : ℕ → Finish
@@ -79,10 +76,6 @@ is_copy_full ks source name place =
 abbrev pub put_outcome : State → List ℕ → ℕ → List ℕ → Outcome
 put_outcome state name place put = finished state (insertion_of place put).finish (edit_of name place place put)
 
-abbrev pub decided_outcome : List MarkedBuffer → State → List ℕ → Inserted → Outcome
-decided_outcome ks state name (Fails message) = fails state message
-decided_outcome ks state name (Copies source place) = put_outcome state name place (marked_at source ks).buffer.text
-
 -- what it asks of a buffer
 pub record CanPut (b : Buffer) (put : List ℕ) (place : ℕ) : Type 0 where
   pub within : place ≤ length b.text
@@ -92,26 +85,6 @@ pub record CanPut (b : Buffer) (put : List ℕ) (place : ℕ) : Type 0 where
 pub record CanCopy (ks : List MarkedBuffer) (name source : List ℕ) (place : ℕ) : Type 0 where
   pub kept : HasBuffer source ks
   pub put : CanPut (marked_at name ks).buffer (marked_at source ks).buffer.text place
-
-abbrev pub CanInsert : List MarkedBuffer → List ℕ → Inserted → Type 0
-CanInsert ks name (Fails message) = Unit {0}
-CanInsert ks name (Copies source place) = CanCopy ks name source place
-
--- that the right of an insertion at its place is granted
-abbrev pub IsInsertionGranted : Directory → List MarkedBuffer → List ℕ → List ℕ → Inserted → Type 0
-IsInsertionGranted directory ks user name (Fails message) = Unit {0}
-IsInsertionGranted directory ks user name (Copies source place) = target_decision directory ks user name place ≡ Granted
-
--- whoever is granted an insertion at the place is granted this
-abbrev pub KeepsGrant : List MarkedBuffer → List ℕ → ℕ → Inserted → Type 0
-KeepsGrant ks name place i = (directory : Directory) (user : List ℕ) → target_decision directory ks user name place ≡ Granted → IsInsertionGranted directory ks user name i
-
--- that it is what an insertion comes to, whatever the session holds: of a buffer that is there, and by the name that was typed
-abbrev pub IsCopyDecided : Directory → List MarkedBuffer → List ℕ → List ℕ → WindowMarks → Inserted → Type 0
-IsCopyDecided directory ks user source x i = (state : State) → decided_outcome ks state x.name i ≡ copy_outcome directory ks state user source x
-
-abbrev pub IsInsertionDecided : Directory → List MarkedBuffer → List ℕ → List ℕ → WindowMarks → Inserted → Type 0
-IsInsertionDecided directory ks user typed x i = (state : State) → decided_outcome ks state x.name i ≡ outcome_from directory ks state user typed x (has_buffer typed ks)
 
 -- WHAT IS DONE, but for the mark
 abbrev pub buffers_inserted : WindowMarks → ℕ → List ℕ → List MarkedBuffer → List MarkedBuffer

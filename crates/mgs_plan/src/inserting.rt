@@ -1,17 +1,15 @@
 // What the insertion of a buffer's text into the one that is shown comes to.
-ghost use Rattle.std.specs.Prelude.{◌≡◌, ◌<◌, ◌≤◌, ℕ, length, Option, Some, None, IfSome};
+ghost use Rattle.std.specs.Prelude.{◌≡◌, ◌<◌, ◌≤◌, ℕ, Bool, length, Option, Some, None, IfSome};
 ghost use Rattle.mgs_model.specs.Outcome.{Run};
-ghost use Rattle.mgs_model.specs.World.{State};
+ghost use Rattle.mgs_model.specs.View.{View};
 ghost use Rattle.mgs_model.specs.declared.entry.Decision.TheVariants.{Granted};
 ghost use Rattle.mgs_buffers.specs.MarkedBuffer.{HasBuffer, marked_at};
-ghost use Rattle.mgs_plan.specs.declared.inserting.Inserted.TheVariants.{Copies};
 ghost use Rattle.mgs_model.specs.declared.session.ByName.TheVariants.{InsertBuffer};
 ghost use Rattle.mgs_model.specs.declared.session.Command.TheVariants.{Named};
 ghost use Rattle.mgs_session.specs.Sessions.{window_marks_of};
 ghost use Rattle.mgs_plan.specs.Actions.{AreMarks};
-ghost use Rattle.mgs_plan.specs.Deciding.{CanPerform, IsPlanned, Refuses};
-ghost use Rattle.mgs_plan.specs.Inserting.{CanInsert, IsCopyDecided, IsInsertionDecided, IsInsertionGranted, KeepsGrant};
-ghost use Rattle.mgs_plan.specs.Inserting.{acting_place, copied_at, copy_decision, decided_outcome, is_copy_full, target_decision};
+ghost use Rattle.mgs_plan.specs.Deciding.{CanPerform, CanWhereInserted, IsCopy, IsPlanned, Refuses, outcome_read};
+ghost use Rattle.mgs_plan.specs.Inserting.{acting_place, copied_at, copy_decision, is_copy_full, target_decision};
 
 use crate::judging::refusal;
 use crate::outcome::Outcome;
@@ -23,15 +21,6 @@ use mgs_policy::Directory;
 use mgs_session::{Session, selected_window_marks};
 use mgs_text::Text;
 use mgs_windows::WindowMarks;
-
-/// What an insertion comes to, once it is decided.
-#[derive(Clone, Copy)]
-pub enum Inserted {
-    /// It fails, and this is told.
-    Fails(Message),
-    /// The text of the buffer of a name comes in at a place.
-    Copies(Name, usize),
-}
 
 /// Why a user may not insert one buffer's text at a place of another, if there is a reason: the source is judged first.
 fn copy_refusal<T: Marked + Drop>(
@@ -87,70 +76,50 @@ fn is_full<T: Marked + Drop>(buffers: &Buffers<T>, source: &Name, name: &Name) -
     put > 0 && (buffers.text_len(name) + put > TEXT_LIMIT || buffers.serial(name) == u64::MAX)
 }
 
-/// What it comes to at a place of a buffer, where the rights are granted.
+/// What it comes to at a place of a window's buffer, where the rights are granted.
 fn copied_at<T: Marked + Drop>(
     buffers: &Buffers<T>,
     source: Name,
-    name: &Name,
+    window_marks: &WindowMarks,
     place: usize,
-) -> Inserted
+) -> Outcome
     requires source { HasBuffer source buffers.now }
-    requires target { HasBuffer name.now buffers.now }
-    requires within { place ≤ length (marked_at name.now buffers.now).buffer.text }
-    ensures value { (state : State) → decided_outcome buffers.now state name.now result ≡ copied_at buffers.now state source name.now place }
-    ensures can { CanInsert buffers.now name.now result }
-    ensures granted { KeepsGrant buffers.now name.now place result }
+    requires target { HasBuffer window_marks.now.name buffers.now }
+    requires within { place ≤ length (marked_at window_marks.now.name buffers.now).buffer.text }
+    ensures value { (v : View) (stored : Bool) → copied_at buffers.now v.session.state source window_marks.now.name place ≡ outcome_read buffers.now v result stored }
+    ensures can { CanWhereInserted buffers.now window_marks.now place result }
 {
-    if is_full(buffers, &source, name) {
-        return Inserted::Fails(Message::BufferFull);
+    if is_full(buffers, &source, &window_marks.name) {
+        return Outcome::Fails(Message::BufferFull);
     }
-    Inserted::Copies(source, place)
+    Outcome::Copies(*window_marks, source, place)
 }
 
-/// What it comes to for a user.
+/// What it comes to for a session, through the marks of its selected window.
 fn copied<T: Marked + Drop>(
     buffers: &Buffers<T>,
     directory: &Directory,
-    user: &Name,
+    session: &Session,
     source: Name,
     window_marks: &WindowMarks,
-) -> Inserted
+) -> Outcome
     requires source { HasBuffer source buffers.now }
     requires target { HasBuffer window_marks.now.name buffers.now }
     requires marks { AreMarks buffers.now window_marks.now }
-    ensures value { IsCopyDecided directory.now buffers.now user.now source window_marks.now result }
-    ensures can { CanInsert buffers.now window_marks.now.name result }
-    ensures granted { IsInsertionGranted directory.now buffers.now user.now window_marks.now.name result }
+    requires shown { window_marks_of session.now ≡ Some window_marks.now }
+    ensures value { IsCopy directory.now buffers.now session.now.user source window_marks.now result }
+    ensures can { CanPerform directory.now buffers.now session.now result }
 {
     let name = &window_marks.name;
+    let user = &session.user;
     let place = acting_place(buffers, directory, user, window_marks);
     match copy_refusal(buffers, directory, user, &source, name, place) {
-        Some(message) => Inserted::Fails(message),
-        None => copied_at(buffers, source, name, place),
+        Some(message) => Outcome::Fails(message),
+        None => copied_at(buffers, source, window_marks, place),
     }
 }
 
-/// What it comes to by the name that was typed.
-fn decide_insertion<T: Marked + Drop>(
-    buffers: &Buffers<T>,
-    directory: &Directory,
-    user: &Name,
-    typed: &[char],
-    window_marks: &WindowMarks,
-) -> Inserted
-    requires target { HasBuffer window_marks.now.name buffers.now }
-    requires marks { AreMarks buffers.now window_marks.now }
-    ensures value { IsInsertionDecided directory.now buffers.now user.now typed.now window_marks.now result }
-    ensures can { CanInsert buffers.now window_marks.now.name result }
-    ensures granted { IsInsertionGranted directory.now buffers.now user.now window_marks.now.name result }
-{
-    match buffers.name_typed(typed) {
-        None => Inserted::Fails(Message::NoSuchBuffer),
-        Some(source) => copied(buffers, directory, user, source, window_marks),
-    }
-}
-
-/// What it comes to for a session.
+/// The same, by the name that was typed.
 pub(crate) fn plan_insertion<T: Marked + Drop>(
     buffers: &Buffers<T>,
     directory: &Directory,
@@ -164,8 +133,8 @@ pub(crate) fn plan_insertion<T: Marked + Drop>(
     let Some(window_marks) = selected_window_marks(session) else {
         return Outcome::Fails(Message::NoBuffer);
     };
-    match decide_insertion(buffers, directory, &session.user, typed, &window_marks) {
-        Inserted::Fails(message) => Outcome::Fails(message),
-        Inserted::Copies(source, place) => Outcome::Copies(window_marks, source, place),
+    match buffers.name_typed(typed) {
+        None => Outcome::Fails(Message::NoSuchBuffer),
+        Some(source) => copied(buffers, directory, session, source, &window_marks),
     }
 }
