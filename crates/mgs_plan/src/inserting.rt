@@ -86,7 +86,7 @@ fn copied_at<T: Marked + Drop>(
     requires source { HasBuffer source buffers.now }
     requires target { HasBuffer window_marks.now.name buffers.now }
     requires within { place ≤ length (marked_at window_marks.now.name buffers.now).buffer.text }
-    ensures value { (v : View) (stored : Bool) → copied_at buffers.now v.session.state source window_marks.now.name place ≡ outcome_read buffers.now v result stored }
+    ensures value { (v : View) (saved : Bool) → copied_at buffers.now v.session.state source window_marks.now.name place ≡ outcome_read buffers.now v result saved }
     ensures can { CanWhereInserted buffers.now window_marks.now place result }
 {
     if is_full(buffers, &source, &window_marks.name) {
