@@ -8,8 +8,8 @@ ghost use Rattle.mgs_model.specs.declared.session.ByName.TheVariants.{InsertBuff
 ghost use Rattle.mgs_model.specs.declared.session.Command.TheVariants.{Named};
 ghost use Rattle.mgs_session.specs.Sessions.{window_marks_of};
 ghost use Rattle.mgs_plan.specs.Actions.{AreMarks};
-ghost use Rattle.mgs_plan.specs.Deciding.{CanPerform, CanWhereInserted, IsCopy, IsPlanned, Refuses, outcome_read};
-ghost use Rattle.mgs_plan.specs.Inserting.{acting_place, copied_at, copy_decision, is_copy_full, target_decision};
+ghost use Rattle.mgs_plan.specs.Deciding.{CanPerform, CanWhereInserted, IsCopy, IsGranted, IsPlanned, Refuses, outcome_read};
+ghost use Rattle.mgs_plan.specs.Inserting.{acting_place, copied_at, copy_decision, is_copy_full, rights_decision, target_decision};
 
 use crate::judging::refusal;
 use crate::outcome::Outcome;
@@ -21,6 +21,20 @@ use mgs_policy::Directory;
 use mgs_session::{Session, selected_window_marks};
 use mgs_text::Text;
 use mgs_windows::WindowMarks;
+
+/// Why a user may not read the buffer whose text is to come in, if there is a reason.
+fn source_refusal<T: Marked + Drop>(
+    buffers: &Buffers<T>,
+    directory: &Directory,
+    user: &Name,
+    source: &Name,
+) -> Option<Message>
+    requires { HasBuffer source.now buffers.now }
+    ensures refused { IfSome result (Refuses (rights_decision directory.now buffers.now user.now source.now 1)) }
+    ensures none { result ≡ None → IsGranted directory.now buffers.now user.now source.now 1 }
+{
+    refusal(buffers, directory, user, source, Mask::of(Right::ReadData))
+}
 
 /// Why a user may not insert one buffer's text at a place of another, if there is a reason: the source is judged first.
 fn copy_refusal<T: Marked + Drop>(
@@ -37,7 +51,7 @@ fn copy_refusal<T: Marked + Drop>(
     ensures none { result ≡ None → copy_decision directory.now buffers.now user.now source.now name.now place ≡ Granted }
     ensures target { result ≡ None → target_decision directory.now buffers.now user.now name.now place ≡ Granted }
 {
-    match refusal(buffers, directory, user, source, Mask::of(Right::ReadData)) {
+    match source_refusal(buffers, directory, user, source) {
         Some(message) => Some(message),
         None => {
             let mask = insertion_mask(place, buffers.text_len(name));
