@@ -30,6 +30,7 @@ use Rattle.mgs_world.specs.Worlds.{buffers_of, window_shown, window_of, world_of
 use Rattle.mgs_screen.specs.Screens as screens
 use Rattle.mgs_screen.specs.Screens.{IsMeasured, window_to, windows_to, heading_to, window_marks_rows, window_marks_cursor}
 use Rattle.mgs_model.specs.declared.entry.Decision.{Decision}
+use Rattle.mgs_screen.proofs.Canvas.{IsPut, is_put}
 use Rattle.mgs_world.specs.Sound.{IsWindowSound, window_marks_uses}
 use Rattle.mgs_world.proofs.Soundness.{in_use_mark, mark_is_kept, shown_sound, top_used, window_point}
 use Rattle.mgs_grid.proofs.Pictures.{length-text_rows}
@@ -61,19 +62,23 @@ put_below first new more old fits =
     ∙ ap (λ (k : ℕ). take first old ++ (new ++ more) ++ drop k old) n
 
 -- a pane, and the mode line below it
-pub pane_put : (first height : ℕ) (pane : List Row) (text : List ℕ) (old between new : Picture) → first + height < old.rows → length old.lines ≡ old.rows → length pane ≡ height
+pub below_rows : (first h : ℕ) (pane : List Row) (text : List ℕ) (old between new : Picture) → first + h ≤ length old.lines → length pane ≡ h
     → between ≡ record old { lines = rows_put first pane old.lines }
-    → new ≡ record between { lines = rows_put (first + height) (mode_row between.cols text ∷ []) between.lines }
-    → new.lines ≡ rows_put first (pane ++ mode_row old.cols text ∷ []) old.lines
-pane_put first height pane text old between new room count size put below =
-    let lines : between.lines ≡ rows_put first pane old.lines = ap (λ (p : Picture). p.lines) put in
-    let wide : between.cols ≡ old.cols = ap (λ (p : Picture). p.cols) put in
-    let at : first + height ≡ first + length pane = omega (arith, size) in
-    ap (λ (p : Picture). p.lines) below
-    ∙ ap (λ (n : ℕ). rows_put (first + height) (mode_row n text ∷ []) between.lines) wide
-    ∙ ap (λ (ls : List Row). rows_put (first + height) (mode_row old.cols text ∷ []) ls) lines
-    ∙ ap (λ (n : ℕ). rows_put n (mode_row old.cols text ∷ []) (rows_put first pane old.lines)) at
-    ∙ put_below first pane (mode_row old.cols text ∷ []) old.lines (omega (arith, room, count, size))
+    → new ≡ record between { lines = rows_put (first + h) (mode_row between.cols text ∷ []) between.lines }
+    → new ≡ record old { lines = rows_put first (pane ++ mode_row old.cols text ∷ []) old.lines }
+below_rows first h pane text old between new fits n rows below =
+    below
+    ∙ ap (λ (p : Picture). record p { lines = rows_put (first + h) (mode_row p.cols text ∷ []) p.lines }) rows
+    ∙ ap (λ (i : ℕ). record old { lines = rows_put (first + i) (mode_row old.cols text ∷ []) (rows_put first pane old.lines) }) (sym n)
+    ∙ ap (λ (ls : List Row). record old { lines = ls }) (put_below first pane (mode_row old.cols text ∷ []) old.lines (omega (arith, n, fits)))
+
+pub pane_put : (first h : ℕ) (pane : List Row) (text : List ℕ) (old between new : Picture) → first + h < old.rows → length old.lines ≡ old.rows → length pane ≡ h
+    → between ≡ record old { lines = rows_put first pane old.lines }
+    → new ≡ record between { lines = rows_put (first + h) (mode_row between.cols text ∷ []) between.lines }
+    → IsPut first (pane ++ mode_row old.cols text ∷ []) old new
+pane_put first h pane text old between new room count size put below =
+    let mode : List Row = mode_row old.cols text ∷ [] in
+    is_put first (pane ++ mode) old new (below_rows first h pane text old between new (omega (arith, room, count)) size put below) (omega (arith, length-append pane mode, size, room, count))
 
 -- A TEXT THAT MAY BE READ
 

@@ -9,3 +9,4 @@ mod TabStops
 mod TabRows
 mod Blanks
 mod Granted
+pub mod Canvas

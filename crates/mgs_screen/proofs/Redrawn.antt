@@ -1,5 +1,5 @@
 -- Those rows of a text that changed are drawn, where the others stand.
-use Rattle.std.proofs.Common.{◌≡◌, ℕ, zero, suc, ◌+◌, ◌<◌, ◌≤◌, List, [], ◌∷◌, ◌++◌, Bool, length, drop, set, true, false, refl, sym, ap, subst, ◌∙◌, arith}
+use Rattle.std.proofs.Common.{◌≡◌, ℕ, zero, suc, ◌+◌, ◌<◌, ◌≤◌, List, [], ◌∷◌, ◌++◌, Bool, length, drop, set, true, false, refl, sym, ap, ◌∙◌, arith}
 use Rattle.std.specs.Prelude.{◌==◌, if◌then◌else◌}
 use Rattle.std.specs.List.{before_first, after_first}
 use Rattle.std.proofs.lemmas.Bool.{eq-eqb, ne_eqb}
@@ -10,8 +10,6 @@ use Rattle.mgs_model.specs.Picture.{Picture}
 use Rattle.mgs_model.specs.Rows.{Row, text_rows, shift_at, shown_row}
 use Rattle.mgs_grid.specs.Cells.{rows_put}
 use Rattle.mgs_grid.specs.Panes.{AreSameBut, IsDrawnBut, text_put}
-use Rattle.mgs_grid.specs.RowSets.{has_row, AreSameApart}
-use Rattle.mgs_grid.proofs.RowSets.{put_apart}
 use Rattle.mgs_grid.proofs.Edited.{edited_rows}
 use Rattle.mgs_grid.proofs.Panes.{put_again, same_put}
 use Rattle.mgs_grid.proofs.Pictures.{length-text_rows}
@@ -156,15 +154,3 @@ shown_over d row shift top from old new p q r begins first second =
     second
     ∙ ap (showing d top from new) first
     ∙ ap (λ (ls : List Row). record p { lines = ls }) (put_again d.first olds news p.lines size begins)
-
--- WHICH ROWS WERE DRAWN
-
-pub lines_apart : (rows : List Bool) (first count : ℕ) (new : List Row) (p q : Picture) → q.lines ≡ rows_put first new p.lines → length new ≡ count
-    → ((i : ℕ) → first ≤ i → i < first + count → has_row i rows ≡ true) → first + count ≤ length p.lines → AreSameApart rows p.lines q.lines
-lines_apart rows first count new p q put size in_set fits =
-    subst (λ (ls : List Row). AreSameApart rows p.lines ls) (sym put) (put_apart rows first count new p.lines size in_set fits)
-
-pub row_apart : (rows : List Bool) (at : ℕ) (new : List Row) (p q : Picture) → q.lines ≡ rows_put at new p.lines → length new ≡ 1
-    → has_row at rows ≡ true → at < length p.lines → AreSameApart rows p.lines q.lines
-row_apart rows at new p q put size in_set within =
-    lines_apart rows at 1 new p q put size (λ i from to. let same : i ≡ at = omega arith in ap (λ n. has_row n rows) same ∙ in_set) (omega arith)

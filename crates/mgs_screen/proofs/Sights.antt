@@ -9,7 +9,7 @@ use Rattle.mgs_model.specs.Draw.{rows_from}
 use Rattle.mgs_model.specs.Picture.{Picture}
 use Rattle.mgs_grid.proofs.Pictures.{length-rows_put}
 use Rattle.mgs_screen.specs.Listings.{place_in, past_sight, row_drawn, drawn}
-use Rattle.mgs_screen.proofs.Drawings.{put_below}
+use Rattle.mgs_screen.proofs.Drawings.{below_rows}
 
 -- A ROW IN A LIST OF ROWS
 
@@ -143,16 +143,6 @@ drawn_none first h row p new is =
     is ∙ with_rows first p (blank_rows p.cols h) (rows_from p.cols h row []) none
 
 -- the mode line below
-pub below_rows : (first h : ℕ) (pane : List Row) (text : List ℕ) (old between new : Picture) → first + h ≤ length old.lines → length pane ≡ h
-    → between ≡ record old { lines = rows_put first pane old.lines }
-    → new ≡ record between { lines = rows_put (first + h) (mode_row between.cols text ∷ []) between.lines }
-    → new ≡ record old { lines = rows_put first (pane ++ mode_row old.cols text ∷ []) old.lines }
-below_rows first h pane text old between new fits n rows below =
-    below
-    ∙ ap (λ (p : Picture). record p { lines = rows_put (first + h) (mode_row p.cols text ∷ []) p.lines }) rows
-    ∙ ap (λ (i : ℕ). record old { lines = rows_put (first + i) (mode_row old.cols text ∷ []) (rows_put first pane old.lines) }) (sym n)
-    ∙ ap (λ (ls : List Row). record old { lines = ls }) (put_below first pane (mode_row old.cols text ∷ []) old.lines (omega (arith, n, fits)))
-
 pub mode_below : (first h row : ℕ) (texts : List (List ℕ)) (text : List ℕ) (old between new : Picture) → first + h ≤ length old.lines
     → between ≡ drawn first h row texts old
     → new ≡ record between { lines = rows_put (first + h) (mode_row between.cols text ∷ []) between.lines }

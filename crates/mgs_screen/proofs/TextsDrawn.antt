@@ -13,10 +13,11 @@ use Rattle.mgs_laws.proofs.Follow.{follows_then, follows_same}
 use Rattle.mgs_grid.proofs.Panes.{above_put, below_put}
 use Rattle.mgs_grid.proofs.Pictures.{length-rows_put, length-text_rows}
 use Rattle.mgs_screen.specs.declared.drawn_texts.DrawnText.{DrawnText}
-use Rattle.mgs_screen.specs.TextsDrawn.{Stands, AreStanding, AreStandingAbove, AreStandingFrom, DoesShow, DoesShowMode, mode_text, rows_at, pushed, text_then}
+use Rattle.mgs_screen.specs.TextsDrawn.{Stands, AreStanding, AreStandingAbove, AreStandingAround, AreStandingFrom, DoesShow, DoesShowMode, mode_text, rows_at, pushed, text_then}
 use Rattle.mgs_screen.specs.TabStops.{IsTabStop}
 use Rattle.mgs_screen.specs.declared.drawn_texts.Earlier.{Earlier}
 use Rattle.mgs_screen.specs.declared.drawn_texts.ModeLine.{ModeLine}
+use Rattle.mgs_screen.proofs.Canvas.{IsPut}
 
 -- where there is no text
 pub standing_none : (bs : List Buffer) (p : Picture) → AreStanding bs p []
@@ -107,12 +108,6 @@ stands_moved bs p q d wide long same last s = record {
   follows = s.follows;
 }
 
--- rows put in a picture's lines
-pub record IsPut (first : ℕ) (new : List Row) (p q : Picture) : Type 0 where
-  pub lines : q.lines ≡ rows_put first new p.lines
-  pub wide : q.cols ≡ p.cols
-  pub fits : first + length new ≤ length p.lines
-
 put_long : (first : ℕ) (new : List Row) (p q : Picture) → IsPut first new p q → length q.lines ≡ length p.lines
 put_long first new p q put = ap length put.lines ∙ length-rows_put first new p.lines put.fits
 
@@ -140,11 +135,11 @@ from_stay bs p q first k new ds put below s = record {
 }
 
 -- all of them from the first row on
-pub from_all : (bs : List Buffer) (p : Picture) (ds : List (Option DrawnText)) → AreStanding bs p ds → AreStandingFrom 0 bs p ds
-from_all bs p ds s = record { each = λ i d is from. s.each i d is }
-
-pub above_none : (k : ℕ) (bs : List Buffer) (p : Picture) → AreStandingAbove k bs p []
-above_none k bs p = record { each = λ i d is. cc }
+pub all_before : (bs : List Buffer) (p : Picture) (ds : List (Option DrawnText)) → AreStanding bs p ds → AreStandingAround 0 bs p ds []
+all_before bs p ds s = record {
+  from = record { each = λ i d is from. s.each i d is };
+  above = record { each = λ i d is. cc };
+}
 
 pub above_all : (k : ℕ) (bs : List Buffer) (p : Picture) (ds : List (Option DrawnText)) → AreStandingAbove k bs p ds → AreStanding bs p ds
 above_all k bs p ds s = record { each = λ i d is. (s.each i d is).0 }
@@ -201,18 +196,20 @@ stands_drawn bs q d b found serial size start fits rows stop mode = record {
 -- A WINDOW THAT IS DRAWN
 
 -- it shows no text that is kept
-pub texts_passed : (bs : List Buffer) (p q : Picture) (first k : ℕ) (new : List Row) (ds es : List (Option DrawnText)) → IsPut first new p q → first ≤ k → es ≡ pushed None ds
-    → AreStandingAbove first bs p ds → AreStandingAbove k bs q es
-texts_passed bs p q first k new ds es put lower is s =
-    subst (λ (xs : List (Option DrawnText)). AreStandingAbove k bs q xs) (sym is) (
-    above_pushed first k bs q ds None lower (above_stay bs p q first first new ds put (omega arith) s) (λ d none. absurd (none-some d none)))
+pub texts_passed : (bs : List Buffer) (p q : Picture) (first k : ℕ) (new : List Row) (olds ds es : List (Option DrawnText)) → IsPut first new p q → first + length new ≤ k → es ≡ pushed None ds
+    → AreStandingAround first bs p olds ds → AreStandingAround k bs q olds es
+texts_passed bs p q first k new olds ds es put under is s = record {
+  from = from_stay bs p q first k new olds put under s.from;
+  above = subst (λ (xs : List (Option DrawnText)). AreStandingAbove k bs q xs) (sym is) (
+      above_pushed first k bs q ds None (omega (arith, under)) (above_stay bs p q first first new ds put (omega arith) s.above) (λ d none. absurd (none-some d none)));
+}
 
 -- it shows a text
-pub texts_kept : (bs : List Buffer) (p q : Picture) (d : DrawnText) (b : Buffer) (text : List ℕ) (ds es : List (Option DrawnText))
+pub texts_kept : (bs : List Buffer) (p q : Picture) (d : DrawnText) (b : Buffer) (text : List ℕ) (olds ds es : List (Option DrawnText))
     → IsPut d.first (text_rows p.cols (shift_at d.row d.shift) 0 d.height (drop d.start text) ++ mode_row p.cols (mode_text d.name d.mode) ∷ []) p q
     → find_buffer d.name bs ≡ Some b → d.serial ≡ b.serial → d.size ≡ length text → d.start ≤ length text → IsTabStop text d.stop d.stop_column → text ≡ b.text → es ≡ pushed (Some d) ds
-    → AreStandingAbove d.first bs p ds → AreStandingAbove (d.first + (d.height + 1)) bs q es
-texts_kept bs p q d b text ds es put found serial size start stop same is s =
+    → AreStandingAround d.first bs p olds ds → AreStandingAround (d.first + (d.height + 1)) bs q olds es
+texts_kept bs p q d b text olds ds es put found serial size start stop same is s =
     let pane : List Row = text_rows p.cols (shift_at d.row d.shift) 0 d.height (drop d.start text) in
     let mode : Row = mode_row p.cols (mode_text d.name d.mode) in
     let high : length pane ≡ d.height = length-text_rows p.cols (shift_at d.row d.shift) 0 d.height (drop d.start text) in
@@ -231,9 +228,12 @@ texts_kept bs p q d b text ds es put found serial size start stop same is s =
     (last ∙ ap (λ n. mode_row n (mode_text d.name d.mode) ∷ []) (sym put.wide)) in
     let k : ℕ = d.first + (d.height + 1) in
     let inside : d.first + d.height < k = omega arith in
-    subst (λ (xs : List (Option DrawnText)). AreStandingAbove k bs q xs) (sym is) (
-    above_pushed d.first k bs q ds (Some d) (omega arith) (above_stay bs p q d.first d.first (pane ++ mode ∷ []) ds put (omega arith) s)
-    (λ e kept. subst (λ (x : DrawnText). Stands bs q x × (x.first + x.height < k)) (same_Some d e kept) (now, inside)))
+    record {
+      from = from_stay bs p q d.first k (pane ++ mode ∷ []) olds put (omega (arith, length-append pane (mode ∷ []), high)) s.from;
+      above = subst (λ (xs : List (Option DrawnText)). AreStandingAbove k bs q xs) (sym is) (
+          above_pushed d.first k bs q ds (Some d) (omega arith) (above_stay bs p q d.first d.first (pane ++ mode ∷ []) ds put (omega arith) s.above)
+          (λ e kept. subst (λ (x : DrawnText). Stands bs q x × (x.first + x.height < k)) (same_Some d e kept) (now, inside)));
+    }
 
 -- THE MODE LINE
 

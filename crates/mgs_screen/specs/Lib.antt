@@ -3,3 +3,4 @@ pub mod Listings
 pub mod TextsDrawn
 pub mod Changes
 pub mod TabStops
+pub mod Canvas

@@ -18,7 +18,7 @@ use Rattle.mgs_model.specs.declared.right.Right.TheVariants.{ReadAttributes, Rea
 use Rattle.mgs_mini.specs.Typing.{PromptInput}
 use Rattle.mgs_marks.specs.Marks.{position_in}
 use Rattle.mgs_buffers.specs.Found.{Named}
-use Rattle.mgs_buffers.specs.MarkedBuffer.{MarkedBuffer, marked_at}
+use Rattle.mgs_buffers.specs.MarkedBuffer.{MarkedBuffer, IsMark, marked_at}
 use Rattle.mgs_windows.specs.declared.WindowMarks.{WindowMarks}
 use Rattle.mgs_windows.specs.declared.Window.{Window}
 use Rattle.mgs_session.specs.declared.search.Aim.{Aim}
@@ -49,6 +49,11 @@ heading_to directory user ks name =
 -- one who may read both its attributes and its text
 abbrev pub ReadsAll : Directory → List ℕ → Buffer → Type 0
 ReadsAll directory user b = (may directory user ReadAttributes b ≡ true) × (may directory user ReadData b ≡ true)
+
+-- a buffer that was found has the marks of a window: where its point is, and where its first row begins
+pub record AreMarksOf (f : Named) (x : WindowMarks) : Type 0 where
+  pub point : IsMark f.name x.point f.all
+  pub top : IsMark f.name x.top f.all
 
 -- the numbers that were taken from a text
 pub record IsMeasured (text : List ℕ) (point top line row place start : ℕ) : Type 0 where

@@ -90,6 +90,11 @@ pub record AreStandingAbove (k : ℕ) (bs : List Buffer) (p : Picture) (ds : Lis
 pub record AreStandingFrom (k : ℕ) (bs : List Buffer) (p : Picture) (ds : List (Option DrawnText)) : Type 0 where
   pub each : (i : ℕ) (d : DrawnText) → slice_get ds i ≡ Some (Some d) → k ≤ d.first → Stands bs p d
 
+-- the texts of the screen before from a row on, and the new ones above it
+pub record AreStandingAround (k : ℕ) (bs : List Buffer) (p : Picture) (olds news : List (Option DrawnText)) : Type 0 where
+  pub from : AreStandingFrom k bs p olds
+  pub above : AreStandingAbove k bs p news
+
 -- a place more, of which there are eight at most
 abbrev pub pushed : Option DrawnText → List (Option DrawnText) → List (Option DrawnText)
 pushed o ds = if length ds == 8 then ds else ds ++ o ∷ []

@@ -2,6 +2,7 @@
 ghost use Rattle.std.specs.Prelude.{◌≡◌, ℕ, ◌+◌, ◌≤◌, List, true, count_by};
 ghost use Rattle.mgs_model.specs.Lines.{is_feed, line_of};
 ghost use Rattle.mgs_buffers.specs.MarkedBuffer.{marked_at};
+ghost use Rattle.mgs_screen.specs.Canvas.{IsReadOf};
 ghost use Rattle.mgs_screen.specs.Changes.{IsChange, IsChangeBy, IsChangeSince, IsStopSince};
 ghost use Rattle.mgs_screen.specs.TabStops.{IsKnown, IsTabStop};
 
@@ -137,8 +138,7 @@ pub(crate) fn change_since<T: Marked + Drop>(
     above: usize,
     earlier: &Earlier,
 ) -> Change
-    requires text { T.text text.now ≡ (marked_at found.now.name found.now.all).buffer.text }
-    requires serial { drawn.now.serial ≡ (marked_at found.now.name found.now.all).buffer.serial }
+    requires read { IsReadOf found.now drawn.now (T.text text.now) }
     requires above { line_of (T.text text.now) drawn.now.start ≡ above }
     ensures { IsChangeSince earlier.now drawn.now.start (marked_at found.now.name found.now.all).buffer (T.text text.now) result }
 {

@@ -4,8 +4,8 @@ ghost use Rattle.mgs_model.specs.Rows.{is_silent, plain_row};
 ghost use Rattle.mgs_grid.specs.Cells.{rows_put};
 ghost use Rattle.mgs_model.specs.declared.message.Message.TheVariants.{Silent};
 ghost use Rattle.mgs_model.specs.declared.session.Mode.TheVariants.{Plain};
-ghost use Rattle.mgs_grid.specs.RowSets.{AreIn, AreSameApart};
 ghost use Rattle.mgs_world.specs.Worlds.{input_in, mode_in, state_of};
+ghost use Rattle.mgs_screen.specs.Canvas.{IsDrawnOn, IsLastRow};
 ghost use Rattle.mgs_screen.specs.Screens.{IsAtRest, is_ink, prompt_drawn, last_row_drawn, row_in_mode, search_drawn};
 
 use mgs_grid::{Grid, Line, RowSet};
@@ -33,9 +33,7 @@ fn draw_prompt(prompt: &Prompt, row: usize, grid: &mut Grid)
 
 /// Draws what is told, and puts the cursor at the point.
 fn draw_told(echo: &Message, row: usize, point: (usize, usize), grid: &mut Grid)
-    requires last { row < grid.old.rows }
-    requires row { point.0 < grid.old.rows }
-    requires col { point.1 < grid.old.cols }
+    requires { IsLastRow row point grid.old }
     ensures { grid.new ≡ row_in_mode Plain [] echo.now row point grid.old }
 {
     grid.draw_echo(row, echo);
@@ -44,9 +42,7 @@ fn draw_told(echo: &Message, row: usize, point: (usize, usize), grid: &mut Grid)
 
 /// Draws the line of a search, and puts the cursor at the point.
 fn draw_search(aim: &Aim, row: usize, point: (usize, usize), grid: &mut Grid)
-    requires last { row < grid.old.rows }
-    requires row { point.0 < grid.old.rows }
-    requires col { point.1 < grid.old.cols }
+    requires { IsLastRow row point grid.old }
     ensures { grid.new ≡ search_drawn aim.now row point grid.old }
 {
     let _column = match aim {
@@ -70,9 +66,7 @@ fn draw_prompted(
     point: (usize, usize),
     grid: &mut Grid,
 )
-    requires last { row + 1 ≡ grid.old.rows }
-    requires row { point.0 < grid.old.rows }
-    requires col { point.1 < grid.old.cols }
+    requires { IsLastRow row point grid.old }
     ensures { grid.new ≡ row_in_mode (mode_in None prompt.now) (input_in None prompt.now) echo.now row point grid.old }
 {
     match prompt {
@@ -84,9 +78,7 @@ fn draw_prompted(
 /// Draws the last row: where nothing is told, the line of the search that goes on, or of the prompt where there is one, and
 /// else the echo text. Puts the cursor behind the line of a prompt, and else at the point.
 fn draw_last_row(state: &State, row: usize, point: (usize, usize), grid: &mut Grid)
-    requires last { row + 1 ≡ grid.old.rows }
-    requires row { point.0 < grid.old.rows }
-    requires col { point.1 < grid.old.cols }
+    requires { IsLastRow row point grid.old }
     ensures { grid.new ≡ last_row_drawn (state_of state.now) row point grid.old }
 {
     match &state.search {
@@ -180,12 +172,9 @@ pub(crate) fn redraw_last_row(
     rows: &mut RowSet,
     grid: &mut Grid,
 )
-    requires last { row + 1 ≡ grid.old.rows }
-    requires row { point.0 < grid.old.rows }
-    requires col { point.1 < grid.old.cols }
+    requires { IsLastRow row point grid.old }
     ensures grid { grid.new ≡ last_row_drawn (state_of state.now) row point grid.old }
-    ensures rows { AreIn rows.old rows.new }
-    ensures apart { AreSameApart rows.new grid.old.lines grid.new.lines }
+    ensures drawn { IsDrawnOn rows.old rows.new grid.old grid.new }
 {
     let _rows = grid.rows();
     if is_at_rest(state) && is_blank_at(row, grid) {

@@ -1,13 +1,12 @@
 // The rows of a text, drawn where those of an earlier one stand.
-ghost use Rattle.std.specs.Prelude.{◌≡◌, ◌+◌, ◌≤◌, ◌<◌, ◌^◌, length};
-ghost use Rattle.mgs_model.specs.Lines.{line_of, start_of};
+ghost use Rattle.std.specs.Prelude.{◌≡◌, ◌<◌, ◌^◌};
+ghost use Rattle.mgs_model.specs.Lines.{line_of};
 ghost use Rattle.mgs_model.specs.Rows.{shift_at};
 ghost use Rattle.mgs_world.specs.Worlds.{buffers_of};
-ghost use Rattle.mgs_buffers.specs.MarkedBuffer.{HasBuffer, marked_at};
-ghost use Rattle.mgs_grid.specs.RowSets.{AreIn, AreSameApart};
+ghost use Rattle.mgs_buffers.specs.MarkedBuffer.{HasBuffer};
+ghost use Rattle.mgs_screen.specs.Canvas.{IsDrawnOn, IsPane, IsReadOf};
 ghost use Rattle.mgs_screen.specs.Changes.{CompletesChange, CompletesLine, CompletesRow, CompletesShifts};
 ghost use Rattle.mgs_screen.specs.TextsDrawn.{DoesShow, MayStand, showing};
-ghost use Rattle.mgs_screen.specs.TabStops.{IsTabStop};
 
 use crate::change::{Change, change_since};
 use crate::drawn_texts::{DrawnText, Earlier};
@@ -19,13 +18,9 @@ use mgs_text::Text;
 
 /// Draws all rows of a text.
 fn draw_rows_of<T: Text>(text: &T, drawn: &DrawnText, rows: &mut RowSet, grid: &mut Grid)
-    requires room { drawn.now.first + drawn.now.height ≤ grid.old.rows }
-    requires within { drawn.now.start ≤ length (T.text text.now) }
-    requires short { length (T.text text.now) < 2 ^ 32 }
-    requires shift { drawn.now.shift < 2 ^ 62 }
+    requires pane { IsPane (T.text text.now) drawn.now grid.old }
     ensures grid { grid.new ≡ showing drawn.now drawn.now.row drawn.now.shift (T.text text.now) grid.old }
-    ensures rows { AreIn rows.old rows.new }
-    ensures apart { AreSameApart rows.new grid.old.lines grid.new.lines }
+    ensures drawn { IsDrawnOn rows.old rows.new grid.old grid.new }
 {
     let _rows = grid.rows();
     grid.draw_text(
@@ -50,16 +45,11 @@ fn draw_row_of<T: Text>(
     rows: &mut RowSet,
     grid: &mut Grid,
 )
-    requires room { drawn.now.first + drawn.now.height ≤ grid.old.rows }
-    requires short { length (T.text text.now) < 2 ^ 32 }
-    requires few { above < 2 ^ 32 }
-    requires start { start_of above (T.text text.now) ≡ drawn.now.start }
-    requires stop { IsTabStop (T.text text.now) drawn.now.stop drawn.now.stop_column }
+    requires pane { IsPane (T.text text.now) drawn.now grid.old }
+    requires above { line_of (T.text text.now) drawn.now.start ≡ above }
     requires shift { shift < 2 ^ 62 }
     ensures grid { CompletesRow drawn.now row shift (T.text text.now) grid.old grid.new }
-    ensures size { grid.new.rows ≡ grid.old.rows }
-    ensures rows { AreIn rows.old rows.new }
-    ensures apart { AreSameApart rows.new grid.old.lines grid.new.lines }
+    ensures drawn { IsDrawnOn rows.old rows.new grid.old grid.new }
 {
     let _rows = grid.rows();
     if row >= drawn.height {
@@ -85,16 +75,11 @@ fn shift_row<T: Text>(
     rows: &mut RowSet,
     grid: &mut Grid,
 )
-    requires room { drawn.now.first + drawn.now.height ≤ grid.old.rows }
-    requires short { length (T.text text.now) < 2 ^ 32 }
-    requires few { above < 2 ^ 32 }
-    requires start { start_of above (T.text text.now) ≡ drawn.now.start }
-    requires stop { IsTabStop (T.text text.now) drawn.now.stop drawn.now.stop_column }
+    requires pane { IsPane (T.text text.now) drawn.now grid.old }
+    requires above { line_of (T.text text.now) drawn.now.start ≡ above }
     requires shift { to < 2 ^ 62 }
     ensures grid { DoesShow drawn.now row from (T.text text.now) grid.old → grid.new ≡ showing drawn.now row to (T.text text.now) grid.old }
-    ensures size { grid.new.rows ≡ grid.old.rows }
-    ensures rows { AreIn rows.old rows.new }
-    ensures apart { AreSameApart rows.new grid.old.lines grid.new.lines }
+    ensures drawn { IsDrawnOn rows.old rows.new grid.old grid.new }
 {
     let _rows = grid.rows();
     if from == to {
@@ -113,15 +98,10 @@ fn shift_rows<T: Text>(
     rows: &mut RowSet,
     grid: &mut Grid,
 )
-    requires room { drawn.now.first + drawn.now.height ≤ grid.old.rows }
-    requires short { length (T.text text.now) < 2 ^ 32 }
-    requires few { above < 2 ^ 32 }
-    requires start { start_of above (T.text text.now) ≡ drawn.now.start }
-    requires stop { IsTabStop (T.text text.now) drawn.now.stop drawn.now.stop_column }
-    requires shift { drawn.now.shift < 2 ^ 62 }
+    requires pane { IsPane (T.text text.now) drawn.now grid.old }
+    requires above { line_of (T.text text.now) drawn.now.start ≡ above }
     ensures grid { CompletesShifts drawn.now row shift (T.text text.now) grid.old grid.new }
-    ensures rows { AreIn rows.old rows.new }
-    ensures apart { AreSameApart rows.new grid.old.lines grid.new.lines }
+    ensures drawn { IsDrawnOn rows.old rows.new grid.old grid.new }
 {
     let _rows = grid.rows();
     if row == drawn.row {
@@ -153,16 +133,10 @@ fn draw_line_of<T: Text>(
     rows: &mut RowSet,
     grid: &mut Grid,
 ) -> usize
-    requires room { drawn.now.first + drawn.now.height ≤ grid.old.rows }
-    requires short { length (T.text text.now) < 2 ^ 32 }
-    requires few { above < 2 ^ 32 }
-    requires start { start_of above (T.text text.now) ≡ drawn.now.start }
-    requires stop { IsTabStop (T.text text.now) drawn.now.stop drawn.now.stop_column }
-    requires shift { drawn.now.shift < 2 ^ 62 }
+    requires pane { IsPane (T.text text.now) drawn.now grid.old }
+    requires above { line_of (T.text text.now) drawn.now.start ≡ above }
     ensures grid { CompletesLine drawn.now down row shift result (T.text text.now) grid.old grid.new }
-    ensures size { grid.new.rows ≡ grid.old.rows }
-    ensures rows { AreIn rows.old rows.new }
-    ensures apart { AreSameApart rows.new grid.old.lines grid.new.lines }
+    ensures drawn { IsDrawnOn rows.old rows.new grid.old grid.new }
 {
     if down != row {
         draw_row_of(text, drawn, above, down, 0, rows, grid);
@@ -183,16 +157,10 @@ fn redraw_rows<T: Text>(
     rows: &mut RowSet,
     grid: &mut Grid,
 )
-    requires room { drawn.now.first + drawn.now.height ≤ grid.old.rows }
-    requires within { drawn.now.start ≤ length (T.text text.now) }
-    requires short { length (T.text text.now) < 2 ^ 32 }
-    requires few { above < 2 ^ 32 }
-    requires start { start_of above (T.text text.now) ≡ drawn.now.start }
-    requires stop { IsTabStop (T.text text.now) drawn.now.stop drawn.now.stop_column }
-    requires shift { drawn.now.shift < 2 ^ 62 }
+    requires pane { IsPane (T.text text.now) drawn.now grid.old }
+    requires above { line_of (T.text text.now) drawn.now.start ≡ above }
     ensures grid { CompletesChange change earlier.now drawn.now (T.text text.now) grid.old grid.new }
-    ensures rows { AreIn rows.old rows.new }
-    ensures apart { AreSameApart rows.new grid.old.lines grid.new.lines }
+    ensures drawn { IsDrawnOn rows.old rows.new grid.old grid.new }
 {
     let _rows = grid.rows();
     match change {
@@ -227,19 +195,12 @@ pub(crate) fn redraw_pane<T: Marked + Drop>(
     grid: &mut Grid,
 )
     requires kept { HasBuffer found.now.name found.now.all }
-    requires text { T.text text.now ≡ (marked_at found.now.name found.now.all).buffer.text }
-    requires serial { drawn.now.serial ≡ (marked_at found.now.name found.now.all).buffer.serial }
-    requires room { drawn.now.first + drawn.now.height ≤ grid.old.rows }
-    requires within { drawn.now.start ≤ length (T.text text.now) }
-    requires short { length (T.text text.now) < 2 ^ 32 }
-    requires shift { drawn.now.shift < 2 ^ 62 }
+    requires read { IsReadOf found.now drawn.now (T.text text.now) }
+    requires pane { IsPane (T.text text.now) drawn.now grid.old }
     requires above { line_of (T.text text.now) drawn.now.start ≡ above }
-    requires start { start_of above (T.text text.now) ≡ drawn.now.start }
-    requires stop { IsTabStop (T.text text.now) drawn.now.stop drawn.now.stop_column }
     requires stands { MayStand (buffers_of found.now.all) grid.old found.now.name drawn.now.first drawn.now.height earlier.now }
     ensures grid { grid.new ≡ showing drawn.now drawn.now.row drawn.now.shift (T.text text.now) grid.old }
-    ensures rows { AreIn rows.old rows.new }
-    ensures apart { AreSameApart rows.new grid.old.lines grid.new.lines }
+    ensures drawn { IsDrawnOn rows.old rows.new grid.old grid.new }
 {
     let Some(earlier) = earlier else {
         draw_rows_of(text, drawn, rows, grid);

@@ -7,12 +7,14 @@ ghost use Rattle.mgs_session.specs.declared.Session.{Session};
 ghost use Rattle.mgs_world.specs.Worlds.{buffers_of};
 ghost use Rattle.mgs_world.specs.Sound.{IsSessionSound, IsWindowSound};
 ghost use Rattle.mgs_buffers.specs.Judging.{AreJudged, rules_kept};
-ghost use Rattle.mgs_buffers.specs.MarkedBuffer.{HasBuffer, IsMark, marked_at};
+ghost use Rattle.mgs_buffers.specs.MarkedBuffer.{HasBuffer, marked_at};
+ghost use Rattle.mgs_grid.specs.Panes.{with_rows};
 ghost use Rattle.mgs_grid.specs.RowSets.{has_row, AreIn, AreSameApart};
 ghost use Rattle.mgs_model.specs.World.{may};
 ghost use Rattle.mgs_model.specs.declared.right.Right.TheVariants.{ReadData};
-ghost use Rattle.mgs_screen.specs.Screens.{IsScreenOf, ReadsAll, found_rows, heading_to, window_lines, window_marks_cursor, window_to};
-ghost use Rattle.mgs_screen.specs.TextsDrawn.{AreStanding, AreStandingAbove, AreStandingFrom, DoesShowMode, IsStopOf, heading_of, mode_text, pushed, told_as};
+ghost use Rattle.mgs_screen.specs.Canvas.{IsCell, IsDrawnOn, IsRoom};
+ghost use Rattle.mgs_screen.specs.Screens.{AreMarksOf, IsScreenOf, ReadsAll, found_rows, heading_to, window_lines, window_marks_cursor, window_to};
+ghost use Rattle.mgs_screen.specs.TextsDrawn.{AreStanding, AreStandingAround, DoesShowMode, IsStopOf, heading_of, mode_text, pushed, told_as};
 
 use crate::change::stop_since;
 use crate::drawn_texts::{DrawnText, DrawnTexts, Earlier, ModeLine};
@@ -164,9 +166,8 @@ fn redraw_mode(
 )
     requires room { row < grid.old.rows }
     requires stands { IfSome earlier.now (λ e. DoesShowMode row name.now e.mode grid.old) }
-    ensures grid { grid.new ≡ record grid.old { lines = rows_put row (mode_row grid.old.cols (mode_text name.now mode.now) ∷ []) grid.old.lines } }
-    ensures more { AreIn rows.old rows.new }
-    ensures apart { AreSameApart rows.new grid.old.lines grid.new.lines }
+    ensures grid { grid.new ≡ with_rows row (mode_row grid.old.cols (mode_text name.now mode.now) ∷ []) grid.old }
+    ensures drawn { IsDrawnOn rows.old rows.new grid.old grid.new }
 {
     let _rows = grid.rows();
     if let Some(earlier) = earlier {
@@ -192,21 +193,14 @@ fn redraw_text<T: Marked + Drop>(
     rows: &mut RowSet,
     grid: &mut Grid,
 ) -> (usize, usize)
-    requires point { IsMark found.now.name window_marks.now.point found.now.all }
-    requires top { IsMark found.now.name window_marks.now.top found.now.all }
-    requires some { 1 ≤ height }
-    requires room { place.first + height < grid.old.rows }
-    requires stands { AreStandingFrom place.first (buffers_of found.now.all) grid.old drawn_texts.now }
-    requires above { AreStandingAbove place.first (buffers_of found.now.all) grid.old texts.old }
-    ensures rows { grid.new.rows ≡ grid.old.rows }
-    ensures cols { grid.new.cols ≡ grid.old.cols }
+    requires marks { AreMarksOf found.now window_marks.now }
+    requires room { IsRoom place.first height grid.old }
+    requires stands { AreStandingAround place.first (buffers_of found.now.all) grid.old drawn_texts.now texts.old }
     ensures lines { grid.new.lines ≡ rows_put place.first (found_rows place.selected grid.old.cols height found.now heading window_marks.now) grid.old.lines }
     ensures cursor { place.selected ≡ true → result ≡ window_marks_cursor grid.old.cols height (marked_at found.now.name found.now.all) window_marks.now }
-    ensures row { result.0 < height }
-    ensures col { result.1 < grid.old.cols }
-    ensures texts { AreStandingAbove (place.first + (height + 1)) (buffers_of found.now.all) grid.new texts.new }
-    ensures more { AreIn rows.old rows.new }
-    ensures apart { AreSameApart rows.new grid.old.lines grid.new.lines }
+    ensures cell { IsCell height grid.old.cols result }
+    ensures stands { AreStandingAround (place.first + (height + 1)) (buffers_of found.now.all) grid.new drawn_texts.now texts.new }
+    ensures drawn { IsDrawnOn rows.old rows.new grid.old grid.new }
 {
     let cols = grid.cols();
     let text = found.text();
@@ -238,7 +232,7 @@ fn redraw_text<T: Marked + Drop>(
 fn note_rows(first: usize, height: usize, texts: &mut DrawnTexts, rows: &mut RowSet)
     requires { first + height + 1 ≤ ROWS_MAX }
     ensures texts { texts.new ≡ pushed None texts.old }
-    ensures more { AreIn rows.old rows.new }
+    ensures kept { AreIn rows.old rows.new }
     ensures put { (i : ℕ) → first ≤ i → i < first + (height + 1) → has_row i rows.new ≡ true }
 {
     rows.insert_rows(first, height + 1);
@@ -260,21 +254,15 @@ fn redraw_window<T: Marked + Drop>(
     grid: &mut Grid,
 ) -> (usize, usize)
     requires sound { IsWindowSound buffers.now window.now }
-    requires some { 1 ≤ window.now.height }
-    requires room { place.first + window.now.height < grid.old.rows }
+    requires room { IsRoom place.first window.now.height grid.old }
     requires judged { AreJudged directory.now (rules_kept buffers.now) judge.old }
-    requires stands { AreStandingFrom place.first (buffers_of buffers.now) grid.old drawn_texts.now }
-    requires above { AreStandingAbove place.first (buffers_of buffers.now) grid.old texts.old }
+    requires stands { AreStandingAround place.first (buffers_of buffers.now) grid.old drawn_texts.now texts.old }
     ensures judged { AreJudged directory.now (rules_kept buffers.now) judge.new }
-    ensures rows { grid.new.rows ≡ grid.old.rows }
-    ensures cols { grid.new.cols ≡ grid.old.cols }
     ensures lines { grid.new.lines ≡ window_lines place.selected place.first directory.now user.now buffers.now window.now grid.old }
     ensures cursor { place.selected ≡ true → result ≡ window_cursor grid.old.cols (Some (window_to directory.now user.now buffers.now window.now)) }
-    ensures row { result.0 < window.now.height }
-    ensures col { result.1 < grid.old.cols }
-    ensures texts { AreStandingAbove (place.first + (window.now.height + 1)) (buffers_of buffers.now) grid.new texts.new }
-    ensures more { AreIn rows.old rows.new }
-    ensures apart { AreSameApart rows.new grid.old.lines grid.new.lines }
+    ensures cell { IsCell window.now.height grid.old.cols result }
+    ensures stands { AreStandingAround (place.first + (window.now.height + 1)) (buffers_of buffers.now) grid.new drawn_texts.now texts.new }
+    ensures drawn { IsDrawnOn rows.old rows.new grid.old grid.new }
 {
     let _cols = grid.cols();
     let height = window.height;

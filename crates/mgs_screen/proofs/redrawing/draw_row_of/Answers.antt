@@ -1,11 +1,12 @@
-use Rattle.std.proofs.Common.{◌+◌, ℕ, List, drop, ap, ◌∙◌, arith}
+use Rattle.std.proofs.Common.{◌≡◌, ◌+◌, ℕ, List, drop, length, sym, ap, ◌∙◌, arith}
 use Rattle.mgs_model.specs.Lines.{start_of}
 use Rattle.mgs_model.specs.Picture.{Picture}
 use Rattle.mgs_model.specs.Rows.{Row, text_rows, shift_at}
 use Rattle.mgs_grid.proofs.Pictures.{length-text_rows}
 use Rattle.mgs_grid.proofs.Panes.{text_by_row}
 use Rattle.mgs_screen.proofs.Changes.{start_down}
-use Rattle.mgs_screen.proofs.Redrawn.{row_apart, but_one, out_of_sight}
+use Rattle.mgs_screen.proofs.Canvas.{is_put, row_drawn}
+use Rattle.mgs_screen.proofs.Redrawn.{but_one, out_of_sight}
 use Rattle.mgs_screen.proofs.TabRows.{row_same}
 use Rattle.mgs_screen.proofs.redrawing.draw_row_of.Goals as goal
 
@@ -18,26 +19,26 @@ returns-clause-grid g c = λ top from olds column stand same.
     let at : ℕ = d.first + row in
     let begin = c.begin_at-begin.result in
     let start : ℕ = start_of (c.args.above + row) text in
-    let drawn = but_one row d.first d.height d.start start top from c.args.shift text olds p c.rows-rows.ensures.picture.count c.requires.room c.if-row-drawn.false
-    (start_down c.args.above row d.start text c.requires.start) column stand same in
+    let drawn = but_one row d.first d.height d.start start top from c.args.shift text olds p c.rows-rows.ensures.picture.count c.requires.pane.room c.if-row-drawn.false
+    (start_down c.args.above row d.start text (ap (λ n. start_of n text) (sym c.requires.above) ∙ c.requires.pane.start)) column stand same in
     c.draw_text_row.ensures.row
     ∙ ap (λ (ls : List Row). record p { lines = ls }) (
     row_same at begin.shift c.args.shift begin.place start text p (c.begin_at-begin.ensures.row p.cols)
     ∙ text_by_row row at start c.args.shift d.first d.height text d.start top from p c.rows-rows.ensures.picture.count drawn)
 
-pub returns-clause-apart : goal.returns-clause-apart
-returns-clause-apart g c =
+pub returns-clause-drawn : goal.returns-clause-drawn
+returns-clause-drawn g c =
     let p : Picture = c.args.grid.now in
+    let q : Picture = c.draw_text_row.new.self in
     let at : ℕ = c.args.drawn.now.first + c.args.row in
     let begin = c.begin_at-begin.result in
     let rest : List ℕ = drop begin.place (g.T.Text.text c.args.text.now) in
-    row_apart c.insert.new.self at (text_rows p.cols (shift_at 0 begin.shift) 0 1 rest) p c.draw_text_row.new.self
-    (ap (λ (q : Picture). q.lines) c.draw_text_row.ensures.row)
-    (length-text_rows p.cols (shift_at 0 begin.shift) 0 1 rest)
-    c.insert.ensures.put
-    (omega (arith, c.requires.room, c.if-row-drawn.false, c.rows-rows.ensures.picture.count))
+    let pane : List Row = text_rows p.cols (shift_at 0 begin.shift) 0 1 rest in
+    let size : length pane ≡ 1 = length-text_rows p.cols (shift_at 0 begin.shift) 0 1 rest in
+    row_drawn c.args.rows.now c.insert.new.self at pane p q
+    (is_put at pane p q c.draw_text_row.ensures.row (omega (arith, size, c.requires.pane.room, c.if-row-drawn.false, c.rows-rows.ensures.picture.count))) size c.insert.ensures.kept c.insert.ensures.put
 
 pub returns-then-row-drawn-clause-grid : goal.returns-then-row-drawn-clause-grid
 returns-then-row-drawn-clause-grid g c = λ top from olds column stand same.
     let d = c.args.drawn.now in
-    out_of_sight c.args.row d.first d.height d.start top from (g.T.Text.text c.args.text.now) olds c.args.grid.now c.rows-rows.ensures.picture.count c.requires.room c.if-row-drawn.true stand same
+    out_of_sight c.args.row d.first d.height d.start top from (g.T.Text.text c.args.text.now) olds c.args.grid.now c.rows-rows.ensures.picture.count c.requires.pane.room c.if-row-drawn.true stand same

@@ -1,17 +1,17 @@
-use Rattle.std.proofs.Common.{ℕ, List, drop, ap, arith}
+use Rattle.std.proofs.Common.{◌≡◌, ℕ, List, drop, length, arith}
 use Rattle.mgs_model.specs.Picture.{Picture}
-use Rattle.mgs_model.specs.Rows.{text_rows, shift_at}
+use Rattle.mgs_model.specs.Rows.{Row, text_rows, shift_at}
 use Rattle.mgs_grid.proofs.Pictures.{length-text_rows}
-use Rattle.mgs_screen.proofs.Redrawn.{lines_apart}
+use Rattle.mgs_screen.proofs.Canvas.{is_put, put_drawn}
 use Rattle.mgs_screen.proofs.redrawing.draw_rows_of.Goals as goal
 
-pub returns-clause-apart : goal.returns-clause-apart
-returns-clause-apart g c =
+pub returns-clause-drawn : goal.returns-clause-drawn
+returns-clause-drawn g c =
     let p : Picture = c.args.grid.now in
+    let q : Picture = c.draw_text.new.self in
     let d = c.args.drawn.now in
     let rest : List ℕ = drop d.start (g.T.Text.text c.args.text.now) in
-    lines_apart c.insert_rows.new.self d.first d.height (text_rows p.cols (shift_at d.row d.shift) 0 d.height rest) p c.draw_text.new.self
-    (ap (λ (q : Picture). q.lines) c.draw_text.ensures)
-    (length-text_rows p.cols (shift_at d.row d.shift) 0 d.height rest)
-    c.insert_rows.ensures.put
-    (omega (arith, c.requires.room, c.rows-rows.ensures.picture.count))
+    let pane : List Row = text_rows p.cols (shift_at d.row d.shift) 0 d.height rest in
+    let size : length pane ≡ d.height = length-text_rows p.cols (shift_at d.row d.shift) 0 d.height rest in
+    put_drawn c.args.rows.now c.insert_rows.new.self d.first d.height pane p q
+    (is_put d.first pane p q c.draw_text.ensures (omega (arith, size, c.requires.pane.room, c.rows-rows.ensures.picture.count))) size c.insert_rows.ensures.kept c.insert_rows.ensures.put

@@ -1,11 +1,7 @@
-use Rattle.std.proofs.Common.{◌≡◌, ◌≤◌, ℕ, List, length, take, sym, subst, ◌∙◌, arith}
-use Rattle.std.specs.List.{count_by}
+use Rattle.std.proofs.Common.{◌≡◌, ℕ, List, sym, subst, ◌∙◌}
 use Rattle.std.specs.Prelude.{Option, IfSome}
-use Rattle.std.proofs.lemmas.List.{length-take-le}
-use Rattle.std.proofs.lemmas.List.Sums.{count_by-le-length}
 use Rattle.std.proofs.lemmas.Option.{same_Some}
 use Rattle.mgs_laws.specs.Apart.{Follows}
-use Rattle.mgs_model.specs.Lines.{is_feed}
 use Rattle.mgs_model.specs.Picture.{Picture}
 use Rattle.mgs_model.specs.World.{Buffer}
 use Rattle.mgs_buffers.specs.MarkedBuffer.{MarkedBuffer, marked_at}
@@ -32,11 +28,3 @@ returns-clause-grid g c =
     let follows : Follows s.drawn b = subst (λ (x : Buffer). Follows s.drawn x) now s.follows in
     let change : IsChange c.change_since-change.result e.start d.start s.drawn.text text = c.change_since-change.ensures s.drawn s.serial s.size follows in
     c.redraw_rows.ensures.grid s.drawn.text s.rows change
-
-pub redraw_rows-requires-clause-few : goal.redraw_rows-requires-clause-few
-redraw_rows-requires-clause-few g c =
-    let text : List ℕ = g.T.Text.text c.args.text.now in
-    let start : ℕ = c.args.drawn.now.start in
-    let line : count_by is_feed (take start text) ≡ c.args.above = c.requires.above in
-    let most : count_by is_feed (take start text) ≤ length (take start text) = count_by-le-length is_feed (take start text) in
-    omega (arith, line, most, length-take-le start text c.requires.within, c.requires.within, c.requires.short)

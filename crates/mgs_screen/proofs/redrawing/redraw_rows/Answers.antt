@@ -1,8 +1,8 @@
 use Rattle.std.proofs.Common.{◌≡◌, ◌≤◌, ℕ, List, length, drop, subst, arith}
 use Rattle.mgs_model.specs.Picture.{Picture}
-use Rattle.mgs_grid.proofs.RowSets.{same_then}
 use Rattle.mgs_screen.specs.Changes.{IsChange, IsLineEdited}
 use Rattle.mgs_screen.specs.declared.change.Change.{Change}
+use Rattle.mgs_screen.proofs.Canvas.{drawn_then}
 use Rattle.mgs_screen.proofs.Redrawn.{shown_moved, shown_over, shown_there}
 use Rattle.mgs_screen.proofs.redrawing.redraw_rows.Goals as goal
 
@@ -25,11 +25,11 @@ returns-in-Line-clause-grid g c = λ old stand change.
     let shift : ℕ = c.draw_line_of-shift.result in
     let text : List ℕ = g.T.Text.text c.args.text.now in
     let edited : IsLineEdited c.in-Line.down e.start d.start old text = subst (λ (x : Change). IsChange x e.start d.start old text) c.in-Line.is change in
-    let begins : d.first ≤ length p.lines = omega (arith, c.requires.room, c.rows-rows.ensures.picture.count) in
+    let begins : d.first ≤ length p.lines = omega (arith, c.requires.pane.room, c.rows-rows.ensures.picture.count) in
     let first = c.draw_line_of-shift.ensures.grid e.start old stand edited in
     shown_over d e.row shift d.row d.shift text text p q r begins first (c.shift_rows-in-Line.ensures.grid (shown_there d e.row shift text p q begins first))
 
-pub returns-in-Line-clause-apart : goal.returns-in-Line-clause-apart
-returns-in-Line-clause-apart g c =
-    same_then c.draw_line_of-shift.new.rows c.shift_rows-in-Line.new.rows c.args.grid.now.lines c.draw_line_of-shift.new.grid.lines c.shift_rows-in-Line.new.grid.lines
-    c.draw_line_of-shift.ensures.apart c.shift_rows-in-Line.ensures.apart c.shift_rows-in-Line.ensures.rows
+pub returns-in-Line-clause-drawn : goal.returns-in-Line-clause-drawn
+returns-in-Line-clause-drawn g c =
+    drawn_then c.args.rows.now c.draw_line_of-shift.new.rows c.shift_rows-in-Line.new.rows c.args.grid.now c.draw_line_of-shift.new.grid c.shift_rows-in-Line.new.grid
+    c.draw_line_of-shift.ensures.drawn c.shift_rows-in-Line.ensures.drawn

@@ -1,7 +1,7 @@
 use Rattle.std.proofs.Common.{◌≡◌, ◌≤◌, ℕ, List, length, subst, arith}
 use Rattle.mgs_model.specs.Picture.{Picture}
-use Rattle.mgs_grid.proofs.RowSets.{same_then}
 use Rattle.mgs_screen.specs.TextsDrawn.{showing}
+use Rattle.mgs_screen.proofs.Canvas.{drawn_then}
 use Rattle.mgs_screen.proofs.Redrawn.{shown_over, shown_there, shown_unshifted}
 use Rattle.mgs_screen.proofs.redrawing.shift_rows.Goals as goal
 
@@ -20,12 +20,11 @@ returns-clause-grid g c = λ stand.
     let d = c.args.drawn.now in
     let row : ℕ = c.args.row in
     let text : List ℕ = g.T.Text.text c.args.text.now in
-    let begins : d.first ≤ length p.lines = omega (arith, c.requires.room, c.rows-rows.ensures.picture.count) in
+    let begins : d.first ≤ length p.lines = omega (arith, c.requires.pane.room, c.rows-rows.ensures.picture.count) in
     let first = c.shift_row-2.ensures.grid stand in
     shown_over d row 0 d.row d.shift text text p q r begins first
     (c.shift_row-3.ensures.grid (shown_unshifted d row d.row text q (shown_there d row 0 text p q begins first)))
 
-pub returns-clause-apart : goal.returns-clause-apart
-returns-clause-apart g c =
-    same_then c.shift_row-2.new.rows c.shift_row-3.new.rows c.args.grid.now.lines c.shift_row-2.new.grid.lines c.shift_row-3.new.grid.lines
-    c.shift_row-2.ensures.apart c.shift_row-3.ensures.apart c.shift_row-3.ensures.rows
+pub returns-clause-drawn : goal.returns-clause-drawn
+returns-clause-drawn g c =
+    drawn_then c.args.rows.now c.shift_row-2.new.rows c.shift_row-3.new.rows c.args.grid.now c.shift_row-2.new.grid c.shift_row-3.new.grid c.shift_row-2.ensures.drawn c.shift_row-3.ensures.drawn

@@ -1,5 +1,6 @@
-use Rattle.std.proofs.Common.{◌≡◌, ◌+◌, ◌++◌, ℕ, Bool, List, [], ◌∷◌, Some, length, drop, sym, ap, subst, ◌∙◌, arith, length-append}
+use Rattle.std.proofs.Common.{◌≡◌, ◌+◌, ◌++◌, ℕ, Bool, List, [], ◌∷◌, Some, length, drop, sym, ap, subst, ◌∙◌, arith}
 use Rattle.std.specs.Prelude.{Option, IfSome}
+use Rattle.mgs_model.specs.Lines.{start_of}
 use Rattle.mgs_model.specs.Picture.{Picture}
 use Rattle.mgs_model.specs.World.{Buffer, find_buffer}
 use Rattle.mgs_model.specs.Rows.{Row, buffer_mode, mode_row, text_rows, shift_at}
@@ -7,7 +8,6 @@ use Rattle.mgs_grid.specs.Cells.{rows_put}
 use Rattle.mgs_marks.specs.Marks.{position_in}
 use Rattle.mgs_buffers.specs.MarkedBuffer.{MarkedBuffer, marked_at}
 use Rattle.mgs_grid.proofs.Pictures.{length-text_rows}
-use Rattle.mgs_grid.proofs.RowSets.{same_then}
 use Rattle.mgs_world.specs.Worlds.{buffers_of}
 use Rattle.mgs_world.proofs.Found.{found_buffer}
 use Rattle.mgs_screen.specs.Screens as screens
@@ -16,11 +16,21 @@ use Rattle.mgs_screen.specs.TabStops.{IsTabStop}
 use Rattle.mgs_screen.specs.declared.drawn_texts.DrawnText.{DrawnText}
 use Rattle.mgs_screen.specs.declared.drawn_texts.Earlier.{Earlier}
 use Rattle.mgs_screen.proofs.Drawings.{pane_put, text_drawn, window_marks_drawn}
-use Rattle.mgs_screen.proofs.TextsDrawn.{IsPut, found_stands, mode_stands, mode_stays, texts_kept}
+use Rattle.mgs_screen.proofs.Canvas.{IsPut, drawn_then, is_put}
+use Rattle.mgs_screen.proofs.TextsDrawn.{found_stands, mode_stands, mode_stays, texts_kept}
 use Rattle.mgs_screen.proofs.screen.redraw_text.Goals as goal
 
-pub redraw_pane-requires-clause-short : goal.redraw_pane-requires-clause-short
-redraw_pane-requires-clause-short g c = omega (arith, c.text-text.ensures.limit)
+pub redraw_pane-requires-clause-pane : goal.redraw_pane-requires-clause-pane
+redraw_pane-requires-clause-pane g c =
+    let m = c.measure-measures.ensures in
+    record {
+      room = omega (arith, c.requires.room.rows);
+      short = omega (arith, c.text-text.ensures.limit);
+      within = m.within;
+      start = ap (λ n. start_of n (g.T.Text.text c.text-text.result.now)) m.above ∙ m.start;
+      stop = m.stop;
+      shift = m.near;
+    }
 
 pub measure-measures-requires-clause-known : goal.measure-measures-requires-clause-known
 measure-measures-requires-clause-known g c =
@@ -29,7 +39,7 @@ measure-measures-requires-clause-known g c =
     let name : List ℕ = c.args.found.now.name in
     let bs : List Buffer = buffers_of c.args.found.now.all in
     let o : Option Earlier = c.drawn-earlier.result in
-    let stands : IfSome o (λ e. Stands bs p (text_then name first c.args.height e)) = found_stands bs p c.args.drawn_texts.now c.args.place.index c.name-name.result.now name first c.args.height o c.requires.stands c.name-name.ensures.value c.drawn-earlier.ensures in
+    let stands : IfSome o (λ e. Stands bs p (text_then name first c.args.height e)) = found_stands bs p c.args.drawn_texts.now c.args.place.index c.name-name.result.now name first c.args.height o c.requires.stands.from c.name-name.ensures.value c.drawn-earlier.ensures in
     subst (λ (ys : List ℕ). IfSome c.known_stop-known.result (λ s. IsTabStop ys s.place s.column)) (sym c.text-text.ensures.text) (c.known_stop-known.ensures p first c.args.height stands)
 
 pub redraw_pane-requires-clause-stands : goal.redraw_pane-requires-clause-stands
@@ -39,7 +49,7 @@ redraw_pane-requires-clause-stands g c =
     let name : List ℕ = c.args.found.now.name in
     let bs : List Buffer = buffers_of c.args.found.now.all in
     let o : Option Earlier = c.drawn-earlier.result in
-    found_stands bs p c.args.drawn_texts.now c.args.place.index c.name-name.result.now name first c.args.height o c.requires.stands c.name-name.ensures.value c.drawn-earlier.ensures
+    found_stands bs p c.args.drawn_texts.now c.args.place.index c.name-name.result.now name first c.args.height o c.requires.stands.from c.name-name.ensures.value c.drawn-earlier.ensures
 
 pub returns-clause-lines : goal.returns-clause-lines
 returns-clause-lines g c =
@@ -59,16 +69,16 @@ returns-clause-lines g c =
     let heading : Option (List ℕ × Bool) = told_as name c.args.heading in
     let said : mode_text c.name-name.result.now c.mode_of-mode.result ≡ buffer_mode heading (Some (m.line + 1, m.column)) =
     ap (λ (n : List ℕ). mode_text n c.mode_of-mode.result) c.name-name.ensures.value ∙ c.mode_of-mode.ensures name in
-    pane_put c.args.place.first height pane (buffer_mode heading (Some (m.line + 1, m.column))) p c.redraw_pane.new.grid c.redraw_mode.new.grid
-    c.requires.room c.cols-cols.ensures.picture.count (length-text_rows cols (shift_at m.row m.shift) 0 height rest) c.redraw_pane.ensures.grid
-    (c.redraw_mode.ensures.grid ∙ ap (λ (said : List ℕ). record between { lines = rows_put (c.args.place.first + height) (mode_row between.cols said ∷ []) between.lines }) said)
+    (pane_put c.args.place.first height pane (buffer_mode heading (Some (m.line + 1, m.column))) p between c.redraw_mode.new.grid
+    c.requires.room.rows c.cols-cols.ensures.picture.count (length-text_rows cols (shift_at m.row m.shift) 0 height rest) c.redraw_pane.ensures.grid
+    (c.redraw_mode.ensures.grid ∙ ap (λ (said : List ℕ). record between { lines = rows_put (c.args.place.first + height) (mode_row between.cols said ∷ []) between.lines }) said)).lines
     ∙ ap (λ (rows : List Row). rows_put c.args.place.first rows p.lines) (
     text_drawn c.args.place.selected cols height heading text (position_in marks x.point) (position_in marks x.top) m.line m.row m.column m.start m.shift c.measure-measures.ensures.is shifted
     ∙ window_marks_drawn c.args.place.selected cols height k heading x text (position_in marks x.point) (position_in marks x.top) c.text-text.ensures.text
     (ap (λ ms. position_in ms x.point) c.text-text.ensures.marks) (ap (λ ms. position_in ms x.top) c.text-text.ensures.marks))
 
-pub returns-clause-texts : goal.returns-clause-texts
-returns-clause-texts g c =
+pub returns-clause-stands : goal.returns-clause-stands
+returns-clause-stands g c =
     let p : Picture = c.args.grid.now in
     let q : Picture = c.redraw_mode.new.grid in
     let height : ℕ = c.args.height in
@@ -82,14 +92,11 @@ returns-clause-texts g c =
     let pane : List Row = text_rows p.cols (shift_at m.row m.shift) 0 height rest in
     let mode : List ℕ = mode_text c.name-name.result.now c.mode_of-mode.result in
     let size : length pane ≡ height = length-text_rows p.cols (shift_at m.row m.shift) 0 height rest in
-    let put : IsPut first (pane ++ mode_row p.cols mode ∷ []) p q = record {
-      lines = pane_put first height pane mode p c.redraw_pane.new.grid q c.requires.room c.cols-cols.ensures.picture.count size c.redraw_pane.ensures.grid c.redraw_mode.ensures.grid;
-      wide = ap (λ (r : Picture). r.cols) c.redraw_mode.ensures.grid ∙ ap (λ (r : Picture). r.cols) c.redraw_pane.ensures.grid;
-      fits = omega (arith, length-append pane (mode_row p.cols mode ∷ []), size, c.requires.room, c.cols-cols.ensures.picture.count);
-    } in
+    let put : IsPut first (pane ++ mode_row p.cols mode ∷ []) p q =
+    pane_put first height pane mode p c.redraw_pane.new.grid q c.requires.room.rows c.cols-cols.ensures.picture.count size c.redraw_pane.ensures.grid c.redraw_mode.ensures.grid in
     let there : find_buffer d.name (buffers_of ks) ≡ Some b = ap (λ (n : List ℕ). find_buffer n (buffers_of ks)) c.name-name.ensures.value ∙ found_buffer c.args.found.now.name ks c.name-name.ensures.kept in
-    texts_kept (buffers_of ks) p q d b text c.args.texts.now c.push_text.new.self put
-    there c.serial.ensures c.len.ensures.value c.measure-measures.ensures.within c.measure-measures.ensures.stop c.text-text.ensures.text c.push_text.ensures c.requires.above
+    texts_kept (buffers_of ks) p q d b text c.args.drawn_texts.now c.args.texts.now c.push_text.new.self put
+    there c.serial.ensures c.len.ensures.value c.measure-measures.ensures.within c.measure-measures.ensures.stop c.text-text.ensures.text c.push_text.ensures c.requires.stands
 
 pub redraw_mode-requires-clause-stands : goal.redraw_mode-requires-clause-stands
 redraw_mode-requires-clause-stands g c =
@@ -103,17 +110,12 @@ redraw_mode-requires-clause-stands g c =
     let rest : List ℕ = drop m.start (g.T.Text.text c.text-text.result.now) in
     let pane : List Row = text_rows p.cols (shift_at m.row m.shift) 0 height rest in
     let size : length pane ≡ height = length-text_rows p.cols (shift_at m.row m.shift) 0 height rest in
-    let put : IsPut first pane p c.redraw_pane.new.grid = record {
-      lines = ap (λ (r : Picture). r.lines) c.redraw_pane.ensures.grid;
-      wide = ap (λ (r : Picture). r.cols) c.redraw_pane.ensures.grid;
-      fits = omega (arith, size, c.requires.room, c.cols-cols.ensures.picture.count);
-    } in
-    let stands = found_stands bs p c.args.drawn_texts.now c.args.place.index c.name-name.result.now name first height o c.requires.stands c.name-name.ensures.value c.drawn-earlier.ensures in
+    let put : IsPut first pane p c.redraw_pane.new.grid = is_put first pane p c.redraw_pane.new.grid c.redraw_pane.ensures.grid (omega (arith, size, c.requires.room.rows, c.cols-cols.ensures.picture.count)) in
+    let stands = found_stands bs p c.args.drawn_texts.now c.args.place.index c.name-name.result.now name first height o c.requires.stands.from c.name-name.ensures.value c.drawn-earlier.ensures in
     let there : IfSome o (λ e. DoesShowMode (first + height) name e.mode c.redraw_pane.new.grid) =
     mode_stays (first + height) first name pane p c.redraw_pane.new.grid o put (omega (arith, size)) (mode_stands bs p name first height o stands) in
     subst (λ (n : List ℕ). IfSome o (λ e. DoesShowMode (first + height) n e.mode c.redraw_pane.new.grid)) (sym c.name-name.ensures.value) there
 
-pub returns-clause-apart : goal.returns-clause-apart
-returns-clause-apart g c =
-    same_then c.redraw_pane.new.rows c.redraw_mode.new.rows c.args.grid.now.lines c.redraw_pane.new.grid.lines c.redraw_mode.new.grid.lines
-    c.redraw_pane.ensures.apart c.redraw_mode.ensures.apart c.redraw_mode.ensures.more
+pub returns-clause-drawn : goal.returns-clause-drawn
+returns-clause-drawn g c =
+    drawn_then c.args.rows.now c.redraw_pane.new.rows c.redraw_mode.new.rows c.args.grid.now c.redraw_pane.new.grid c.redraw_mode.new.grid c.redraw_pane.ensures.drawn c.redraw_mode.ensures.drawn

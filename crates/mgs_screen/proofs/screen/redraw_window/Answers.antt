@@ -8,7 +8,7 @@ use Rattle.mgs_model.specs.declared.entry.Decision.{Decision}
 use Rattle.mgs_model.specs.Access.{decider, decision_by}
 use Rattle.mgs_buffers.specs.Found.{Named}
 use Rattle.mgs_buffers.specs.Judging.{AreJudged, rules_kept}
-use Rattle.mgs_buffers.specs.MarkedBuffer.{MarkedBuffer, HasBuffer, IsMark, marked_at}
+use Rattle.mgs_buffers.specs.MarkedBuffer.{MarkedBuffer, HasBuffer, marked_at}
 use Rattle.mgs_windows.specs.declared.WindowMarks.{WindowMarks}
 use Rattle.mgs_windows.specs.declared.Window.{Window}
 use Rattle.mgs_model.specs.Draw.{pane_rows}
@@ -16,11 +16,11 @@ use Rattle.mgs_grid.proofs.Pictures.{length-unread_rows}
 use Rattle.mgs_world.specs.Worlds.{buffers_of}
 use Rattle.mgs_world.proofs.Soundness.{window_point}
 use Rattle.mgs_screen.specs.Listings.{rows_to}
-use Rattle.mgs_screen.proofs.Redrawn.{lines_apart}
+use Rattle.mgs_screen.proofs.Canvas.{IsPut, is_put, put_drawn}
 use Rattle.mgs_screen.proofs.RowPanes.{length_rows}
-use Rattle.mgs_screen.proofs.TextsDrawn.{IsPut, texts_passed}
-use Rattle.mgs_screen.specs.Screens.{heading_to, window_marks_cursor, window_marks_rows}
-use Rattle.mgs_screen.specs.TextsDrawn.{AreStandingAbove, AreStandingFrom, told_as}
+use Rattle.mgs_screen.proofs.TextsDrawn.{texts_passed}
+use Rattle.mgs_screen.specs.Screens.{AreMarksOf, heading_to, window_marks_cursor, window_marks_rows}
+use Rattle.mgs_screen.specs.TextsDrawn.{AreStandingAround, told_as}
 use Rattle.mgs_screen.proofs.Drawings.{pane_put, shown_kept, window_read, window_top, window_unread, window_cursor_read, window_cursor_unread}
 use Rattle.mgs_screen.proofs.screen.redraw_window.Goals as goal
 
@@ -31,28 +31,23 @@ find-found-requires g c =
 pub seen-heading-requires : goal.seen-heading-requires
 seen-heading-requires g c = subst (λ (f : Named). AreJudged c.args.directory.now (rules_kept f.all) c.args.judge.now) (sym c.find-found.ensures) c.requires.judged
 
-pub redraw_text-requires-clause-point : goal.redraw_text-requires-clause-point
-redraw_text-requires-clause-point g c =
+pub redraw_text-requires-clause-marks : goal.redraw_text-requires-clause-marks
+redraw_text-requires-clause-marks g c =
     let x : WindowMarks = c.in-Some.window_marks in
-    subst (λ (f : Named). IsMark f.name x.point f.all) (sym c.find-found.ensures) (window_point c.args.buffers.now c.args.window.now x c.requires.sound c.in-Some.is)
-
-pub redraw_text-requires-clause-top : goal.redraw_text-requires-clause-top
-redraw_text-requires-clause-top g c =
-    let x : WindowMarks = c.in-Some.window_marks in
-    subst (λ (f : Named). IsMark f.name x.top f.all) (sym c.find-found.ensures) (window_top c.args.buffers.now c.args.window.now x c.requires.sound c.in-Some.is)
+    subst (λ (f : Named). AreMarksOf f x) (sym c.find-found.ensures) (record {
+      point = window_point c.args.buffers.now c.args.window.now x c.requires.sound c.in-Some.is;
+      top = window_top c.args.buffers.now c.args.window.now x c.requires.sound c.in-Some.is;
+    })
 
 pub redraw_text-requires-clause-stands : goal.redraw_text-requires-clause-stands
-redraw_text-requires-clause-stands g c = subst (λ (f : Named). AreStandingFrom c.args.place.first (buffers_of f.all) c.args.grid.now c.args.drawn_texts.now) (sym c.find-found.ensures) c.requires.stands
-
-pub redraw_text-requires-clause-above : goal.redraw_text-requires-clause-above
-redraw_text-requires-clause-above g c = subst (λ (f : Named). AreStandingAbove c.args.place.first (buffers_of f.all) c.args.grid.now c.args.texts.now) (sym c.find-found.ensures) c.requires.above
+redraw_text-requires-clause-stands g c = subst (λ (f : Named). AreStandingAround c.args.place.first (buffers_of f.all) c.args.grid.now c.args.drawn_texts.now c.args.texts.now) (sym c.find-found.ensures) c.requires.stands
 
 pub returns-then-reads-clause-judged : goal.returns-then-reads-clause-judged
 returns-then-reads-clause-judged g c = subst (λ (f : Named). AreJudged c.args.directory.now (rules_kept f.all) c.seen-heading.new.judge) c.find-found.ensures c.seen-heading.ensures.judged
 
-pub returns-then-reads-clause-texts : goal.returns-then-reads-clause-texts
-returns-then-reads-clause-texts g c =
-    subst (λ (f : Named). AreStandingAbove (c.args.place.first + (c.args.window.now.height + 1)) (buffers_of f.all) c.redraw_text.new.grid c.redraw_text.new.texts) c.find-found.ensures c.redraw_text.ensures.texts
+pub returns-then-reads-clause-stands : goal.returns-then-reads-clause-stands
+returns-then-reads-clause-stands g c =
+    subst (λ (f : Named). AreStandingAround (c.args.place.first + (c.args.window.now.height + 1)) (buffers_of f.all) c.redraw_text.new.grid c.args.drawn_texts.now c.redraw_text.new.texts) c.find-found.ensures c.redraw_text.ensures.stands
 
 pub returns-then-reads-clause-lines : goal.returns-then-reads-clause-lines
 returns-then-reads-clause-lines g c =
@@ -101,8 +96,8 @@ returns-clause-lines g c =
     let why : Named → Decision = λ (f : Named). decision_by (decider c.args.directory.now (marked_at f.name f.all).buffer.owners user (marked_at f.name f.all).buffer.entries) (ReadData ∷ []) in
     let drawn : Option (List ℕ × Bool) → Decision → List Row = λ (h : Option (List ℕ × Bool)) (d : Decision).
     rows_put c.args.place.first (unread_rows cols w.height d ++ mode_row cols (buffer_mode h None) ∷ []) c.args.grid.now.lines in
-    pane_put c.args.place.first w.height (unread_rows cols w.height c.decide_by-decision.result) (buffer_mode c.named-heading.result None) c.args.grid.now c.draw_unread.new.self c.draw_mode.new.self
-    c.requires.room c.cols-cols.ensures.picture.count (length-unread_rows cols w.height c.decide_by-decision.result) c.draw_unread.ensures c.draw_mode.ensures
+    (pane_put c.args.place.first w.height (unread_rows cols w.height c.decide_by-decision.result) (buffer_mode c.named-heading.result None) c.args.grid.now c.draw_unread.new.self c.draw_mode.new.self
+    c.requires.room.rows c.cols-cols.ensures.picture.count (length-unread_rows cols w.height c.decide_by-decision.result) c.draw_unread.ensures c.draw_mode.ensures).lines
     ∙ ap (λ (h : Option (List ℕ × Bool)). drawn h c.decide_by-decision.result) (c.named-heading.ensures ∙ ap (λ (n : List ℕ). told_as n c.seen-heading.result.0) c.name.ensures.value ∙ c.seen-heading.ensures.heading)
     ∙ ap (drawn (head c.find-found.result)) c.decide_by-decision.ensures.value
     ∙ ap (λ (f : Named). drawn (head f) (why f)) c.find-found.ensures
@@ -119,61 +114,49 @@ returns-clause-cursor g c = λ selected.
     sym (ap (λ (f : Named). may c.args.directory.now user ReadData (marked_at f.name f.all).buffer) c.find-found.ensures) ∙ sym c.seen-heading.ensures.reads ∙ c.if-reads.false in
     sym (window_cursor_unread c.args.grid.now.cols c.args.directory.now user ks w x c.in-Some.is kept cannot)
 
-pub returns-in_default-clause-rows : goal.returns-in_default-clause-rows
-returns-in_default-clause-rows g c = ap (λ (p : Picture). p.rows) (c.draw_rows.ensures.grid c.args.place.selected)
-
-pub returns-in_default-clause-cols : goal.returns-in_default-clause-cols
-returns-in_default-clause-cols g c = ap (λ (p : Picture). p.cols) (c.draw_rows.ensures.grid c.args.place.selected)
-
-pub returns-in_default-clause-texts : goal.returns-in_default-clause-texts
-returns-in_default-clause-texts g c =
+pub returns-in_default-clause-stands : goal.returns-in_default-clause-stands
+returns-in_default-clause-stands g c =
     let p : Picture = c.args.grid.now in
+    let q : Picture = c.draw_rows.new.grid in
     let w : Window = c.args.window.now in
     let first : ℕ = c.args.place.first in
     let rows : List Row = pane_rows c.args.place.selected p.cols w.height (rows_to c.args.directory.now c.args.user.now c.args.buffers.now w.rows) in
     let size : length rows ≡ w.height + 1 = length_rows c.args.place.selected p.cols w.height c.args.directory.now c.args.user.now c.args.buffers.now w.rows in
-    let drawn = c.draw_rows.ensures.grid c.args.place.selected in
-    let put : IsPut first rows p c.draw_rows.new.grid = record {
-      lines = ap (λ (q : Picture). q.lines) drawn;
-      wide = ap (λ (q : Picture). q.cols) drawn;
-      fits = omega (arith, size, c.requires.room, c.cols-cols.ensures.picture.count);
-    } in
-    texts_passed (buffers_of c.args.buffers.now) p c.draw_rows.new.grid first (first + (w.height + 1)) rows c.args.texts.now c.note_rows.new.texts put (omega arith) c.note_rows.ensures.texts c.requires.above
+    let put : IsPut first rows p q = is_put first rows p q (c.draw_rows.ensures.grid c.args.place.selected) (omega (arith, size, c.requires.room.rows, c.cols-cols.ensures.picture.count)) in
+    texts_passed (buffers_of c.args.buffers.now) p q first (first + (w.height + 1)) rows c.args.drawn_texts.now c.args.texts.now c.note_rows.new.texts put (omega (arith, size)) c.note_rows.ensures.texts c.requires.stands
 
-pub returns-in_default-clause-apart : goal.returns-in_default-clause-apart
-returns-in_default-clause-apart g c =
+pub returns-in_default-clause-drawn : goal.returns-in_default-clause-drawn
+returns-in_default-clause-drawn g c =
     let p : Picture = c.args.grid.now in
+    let q : Picture = c.draw_rows.new.grid in
     let w : Window = c.args.window.now in
+    let first : ℕ = c.args.place.first in
     let rows : List Row = pane_rows c.args.place.selected p.cols w.height (rows_to c.args.directory.now c.args.user.now c.args.buffers.now w.rows) in
-    lines_apart c.note_rows.new.rows c.args.place.first (w.height + 1) rows p c.draw_rows.new.grid
-    (ap (λ (q : Picture). q.lines) (c.draw_rows.ensures.grid c.args.place.selected))
-    (length_rows c.args.place.selected p.cols w.height c.args.directory.now c.args.user.now c.args.buffers.now w.rows)
-    c.note_rows.ensures.put (omega (arith, c.requires.room, c.cols-cols.ensures.picture.count))
+    let size : length rows ≡ w.height + 1 = length_rows c.args.place.selected p.cols w.height c.args.directory.now c.args.user.now c.args.buffers.now w.rows in
+    let put : IsPut first rows p q = is_put first rows p q (c.draw_rows.ensures.grid c.args.place.selected) (omega (arith, size, c.requires.room.rows, c.cols-cols.ensures.picture.count)) in
+    put_drawn c.args.rows.now c.note_rows.new.rows first (w.height + 1) rows p q put size c.note_rows.ensures.kept c.note_rows.ensures.put
 
-pub returns-clause-texts : goal.returns-clause-texts
-returns-clause-texts g c =
+pub returns-clause-stands : goal.returns-clause-stands
+returns-clause-stands g c =
     let p : Picture = c.args.grid.now in
+    let q : Picture = c.draw_mode.new.self in
     let w : Window = c.args.window.now in
     let first : ℕ = c.args.place.first in
     let pane : List Row = unread_rows p.cols w.height c.decide_by-decision.result in
     let size : length pane ≡ w.height = length-unread_rows p.cols w.height c.decide_by-decision.result in
     let mode : List ℕ = buffer_mode c.named-heading.result None in
-    let put : IsPut first (pane ++ mode_row p.cols mode ∷ []) p c.draw_mode.new.self = record {
-      lines = pane_put first w.height pane mode p c.draw_unread.new.self c.draw_mode.new.self c.requires.room c.cols-cols.ensures.picture.count size c.draw_unread.ensures c.draw_mode.ensures;
-      wide = ap (λ (q : Picture). q.cols) c.draw_mode.ensures ∙ ap (λ (q : Picture). q.cols) c.draw_unread.ensures;
-      fits = omega (arith, length-append pane (mode_row p.cols mode ∷ []), size, c.requires.room, c.cols-cols.ensures.picture.count);
-    } in
-    texts_passed (buffers_of c.args.buffers.now) p c.draw_mode.new.self first (first + (w.height + 1)) (pane ++ mode_row p.cols mode ∷ []) c.args.texts.now c.note_rows-2.new.texts put (omega arith) c.note_rows-2.ensures.texts c.requires.above
+    let put : IsPut first (pane ++ mode_row p.cols mode ∷ []) p q = pane_put first w.height pane mode p c.draw_unread.new.self q c.requires.room.rows c.cols-cols.ensures.picture.count size c.draw_unread.ensures c.draw_mode.ensures in
+    texts_passed (buffers_of c.args.buffers.now) p q first (first + (w.height + 1)) (pane ++ mode_row p.cols mode ∷ []) c.args.drawn_texts.now c.args.texts.now c.note_rows-2.new.texts put
+    (omega (arith, length-append pane (mode_row p.cols mode ∷ []), size)) c.note_rows-2.ensures.texts c.requires.stands
 
-pub returns-clause-apart : goal.returns-clause-apart
-returns-clause-apart g c =
+pub returns-clause-drawn : goal.returns-clause-drawn
+returns-clause-drawn g c =
     let p : Picture = c.args.grid.now in
+    let q : Picture = c.draw_mode.new.self in
     let w : Window = c.args.window.now in
     let first : ℕ = c.args.place.first in
     let pane : List Row = unread_rows p.cols w.height c.decide_by-decision.result in
     let size : length pane ≡ w.height = length-unread_rows p.cols w.height c.decide_by-decision.result in
     let mode : List ℕ = buffer_mode c.named-heading.result None in
-    lines_apart c.note_rows-2.new.rows first (w.height + 1) (pane ++ mode_row p.cols mode ∷ []) p c.draw_mode.new.self
-    (pane_put first w.height pane mode p c.draw_unread.new.self c.draw_mode.new.self c.requires.room c.cols-cols.ensures.picture.count size c.draw_unread.ensures c.draw_mode.ensures)
-    (omega (arith, length-append pane (mode_row p.cols mode ∷ []), size))
-    c.note_rows-2.ensures.put (omega (arith, c.requires.room, c.cols-cols.ensures.picture.count))
+    let put : IsPut first (pane ++ mode_row p.cols mode ∷ []) p q = pane_put first w.height pane mode p c.draw_unread.new.self q c.requires.room.rows c.cols-cols.ensures.picture.count size c.draw_unread.ensures c.draw_mode.ensures in
+    put_drawn c.args.rows.now c.note_rows-2.new.rows first (w.height + 1) (pane ++ mode_row p.cols mode ∷ []) p q put (omega (arith, length-append pane (mode_row p.cols mode ∷ []), size)) c.note_rows-2.ensures.kept c.note_rows-2.ensures.put
