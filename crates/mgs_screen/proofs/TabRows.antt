@@ -17,6 +17,7 @@ use Rattle.mgs_lines.proofs.Feeds.{line_of_start}
 use Rattle.mgs_lines.proofs.Glyphs.{glyph-tab}
 use Rattle.mgs_lines.proofs.Walks.{cells_from-append}
 use Rattle.mgs_screen.specs.TabStops.{IsTabStop, shown_from}
+use Rattle.mgs_screen.specs.declared.tab_stops.TabStop.{TabStop}
 use Rattle.mgs_screen.proofs.Changes.{feeds_parted}
 use Rattle.mgs_screen.proofs.TabStops.{line_begins, range_before}
 
@@ -76,32 +77,34 @@ before_feed (c ∷ cs) ys none =
           rw (ne_eqb c 10 n) (ap (λ k. take k (c ∷ cs ++ ys)) further ∙ ap (λ (zs : List ℕ). c ∷ zs) (before_feed cs ys rest))
     ]
 
-no_feeds : (text : List ℕ) (place column : ℕ) → IsTabStop text place column → count_by is_feed (slice_range text (line_start text place) place) ≡ 0
-no_feeds text place column stop =
+no_feeds : (text : List ℕ) (stop : TabStop) → IsTabStop text stop → count_by is_feed (slice_range text (line_start text stop.place) stop.place) ≡ 0
+no_feeds text stop known =
+    let place : ℕ = stop.place in
     let start : ℕ = line_start text place in
     let parted = feeds_parted start (take place text) in
     let front : List ℕ = take place text in
-    let cut : take start front ≡ take start text = take-take start place text stop.on.from in
-    let same : line_of text start ≡ line_of text place = line_of_start text place stop.within in
-    omega (arith, parted, same, ap (count_by is_feed) cut, ap (count_by is_feed) (range_before text start place stop.on.from))
+    let cut : take start front ≡ take start text = take-take start place text known.on.from in
+    let same : line_of text start ≡ line_of text place = line_of_start text place known.within in
+    omega (arith, parted, same, ap (count_by is_feed) cut, ap (count_by is_feed) (range_before text start place known.on.from))
 
 -- from a tab stop of its line
-pub line_later : (text : List ℕ) (line start place column cols s : ℕ) → IsTabStop text place column → line ≡ line_of text place → start ≡ start_of line text → column < s
-    → shown_from cols (s - column) place text ≡ shown_from cols s start text
-line_later text line start place column cols s stop at begin behind =
+pub line_later : (text : List ℕ) (line start : ℕ) (stop : TabStop) (cols s : ℕ) → IsTabStop text stop → line ≡ line_of text stop.place → start ≡ start_of line text → stop.column < s
+    → shown_from cols (s - stop.column) stop.place text ≡ shown_from cols s start text
+line_later text line start stop cols s known at begin behind =
+    let place : ℕ = stop.place in
     let from : ℕ = line_start text place in
     let front : List ℕ = slice_range text from place in
     let rest : List ℕ = before_first is_feed (drop place text) in
-    let here : start ≡ from = line_begins text line start place begin at stop.within in
+    let here : start ≡ from = line_begins text line start place begin at known.within in
     let whole : before_first is_feed (drop start text) ≡ front ++ rest =
     ap (λ n. before_first is_feed (drop n text)) here
-    ∙ ap (before_first is_feed) (drop_split text from place stop.on.from)
-    ∙ before_feed front (drop place text) (no_feeds text place column stop) in
+    ∙ ap (before_first is_feed) (drop_split text from place known.on.from)
+    ∙ before_feed front (drop place text) (no_feeds text stop known) in
     sym (
     ap (λ (ys : List ℕ). shown_row cols s (cells ys)) whole
-    ∙ ap (shown_row cols s) (cells_parted column front rest stop.on.cells stop.on.whole)
-    ∙ shown_later cols s (cells front) (cells rest) (omega (arith, stop.on.cells, behind))
-    ∙ ap (λ n. shown_row cols (s - n) (cells rest)) (sym stop.on.cells))
+    ∙ ap (shown_row cols s) (cells_parted stop.column front rest known.on.cells known.on.whole)
+    ∙ shown_later cols s (cells front) (cells rest) (omega (arith, known.on.cells, behind))
+    ∙ ap (λ n. shown_row cols (s - n) (cells rest)) (sym known.on.cells))
 
 -- a picture in which one row shows the same
 pub row_same : (at s t a b : ℕ) (text : List ℕ) (p : Picture) → shown_from p.cols s a text ≡ shown_from p.cols t b text

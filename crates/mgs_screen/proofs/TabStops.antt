@@ -9,7 +9,8 @@ use Rattle.mgs_model.specs.Lines.{is_within, line_of, line_start, start_of}
 use Rattle.mgs_model.specs.World.{Buffer}
 use Rattle.mgs_lines.proofs.Feeds.{start_of_line, line_of_start}
 use Rattle.mgs_lines.proofs.Walks.{cells_more}
-use Rattle.mgs_screen.specs.TabStops.{IsOn, IsTabStop}
+use Rattle.mgs_screen.specs.TabStops.{IsOn, IsStopBefore, IsTabStop}
+use Rattle.mgs_screen.specs.declared.tab_stops.TabStop.{TabStop}
 use Rattle.mgs_screen.proofs.Changes.{line_mono}
 
 -- THE LINE OF A POSITION
@@ -29,7 +30,7 @@ same_line text q p within from order =
 
 -- A TAB STOP
 
-pub on_start : (text : List ℕ) (start : ℕ) → IsOn text start start 0
+on_start : (text : List ℕ) (start : ℕ) → IsOn text start (record { place = start; column = 0 })
 on_start text start =
     let none : start - start ≡ 0 = omega arith in
     record {
@@ -39,14 +40,20 @@ on_start text start =
       few = omega arith;
     }
 
-pub on_known : (text : List ℕ) (start p place column : ℕ) → start ≡ line_start text p → p ≤ length text → start ≤ place → place ≤ p → IsTabStop text place column → IsOn text start place column
-on_known text start p place column is within from order stop =
-    subst (λ n. IsOn text n place column) (same_line text place p within (omega (arith, is, from)) order ∙ sym is) stop.on
+-- the line's start
+pub start_before : (text : List ℕ) (start p : ℕ) → start ≡ line_start text p → IsStopBefore text start p (record { place = start; column = 0 })
+start_before text start p is = record { on = on_start text start; order = omega (arith, is) }
 
-pub stop_on : (text : List ℕ) (start p place column : ℕ) → start ≡ line_start text p → p ≤ length text → place ≤ p → IsOn text start place column → IsTabStop text place column
-stop_on text start p place column is within order on = record {
-  within = omega (arith, within, order);
-  on = subst (λ n. IsOn text n place column) (is ∙ sym (same_line text place p within (omega (arith, is, on.from)) order)) on;
+pub known_before : (text : List ℕ) (start p : ℕ) (stop : TabStop) → start ≡ line_start text p → p ≤ length text → start ≤ stop.place → stop.place ≤ p → IsTabStop text stop → IsStopBefore text start p stop
+known_before text start p stop is within from order known = record {
+  on = subst (λ n. IsOn text n stop) (same_line text stop.place p within (omega (arith, is, from)) order ∙ sym is) known.on;
+  order = order;
+}
+
+pub stop_on : (text : List ℕ) (start p : ℕ) (stop : TabStop) → start ≡ line_start text p → p ≤ length text → IsStopBefore text start p stop → IsTabStop text stop
+stop_on text start p stop is within before = record {
+  within = omega (arith, within, before.order);
+  on = subst (λ n. IsOn text n stop) (is ∙ sym (same_line text stop.place p within (omega (arith, is, before.on.from)) before.order)) before.on;
 }
 
 -- ONE CHARACTER FURTHER
@@ -65,32 +72,33 @@ range_before xs s p order =
     let sum : s + (p - s) ≡ p = omega (arith, order) in
     sym (drop-take s (p - s) xs) ∙ ap (λ n. drop s (take n xs)) sum
 
-same_before : (old new : List ℕ) (place column : ℕ) → take place new ≡ take place old → IsTabStop old place column → IsTabStop new place column
-same_before old new place column same stop =
+same_before : (old new : List ℕ) (stop : TabStop) → take stop.place new ≡ take stop.place old → IsTabStop old stop → IsTabStop new stop
+same_before old new stop same known =
+    let place : ℕ = stop.place in
     let start : ℕ = line_start old place in
     let here : line_start new place ≡ start = ap (λ (ys : List ℕ). place - suffix_len is_within ys) same in
     let cut : slice_range new start place ≡ slice_range old start place =
-    range_before new start place stop.on.from ∙ ap (drop start) same ∙ sym (range_before old start place stop.on.from) in
-    let size : length (take place new) ≡ place = ap length same ∙ length-take-le place old stop.within in
-    let on : IsOn new start place column = record {
-      from = stop.on.from;
-      cells = stop.on.cells ∙ ap (λ (ys : List ℕ). length (cells ys)) (sym cut);
-      whole = stop.on.whole;
-      few = stop.on.few;
+    range_before new start place known.on.from ∙ ap (drop start) same ∙ sym (range_before old start place known.on.from) in
+    let size : length (take place new) ≡ place = ap length same ∙ length-take-le place old known.within in
+    let on : IsOn new start stop = record {
+      from = known.on.from;
+      cells = known.on.cells ∙ ap (λ (ys : List ℕ). length (cells ys)) (sym cut);
+      whole = known.on.whole;
+      few = known.on.few;
     } in
     record {
       within = omega (arith, size, length-take place new);
-      on = subst (λ n. IsOn new n place column) (sym here) on;
+      on = subst (λ n. IsOn new n stop) (sym here) on;
     }
 
-pub stop_edited : (old new : Buffer) (e : IsEditedOnce old new) (place column : ℕ) → place ≤ e.item.place → IsTabStop old.text place column → IsTabStop new.text place column
-stop_edited old new e place column order stop =
+pub stop_edited : (old new : Buffer) (e : IsEditedOnce old new) (stop : TabStop) → stop.place ≤ e.item.place → IsTabStop old.text stop → IsTabStop new.text stop
+stop_edited old new e stop order known =
     let at : ℕ = e.item.place in
     let behind : List ℕ = drop e.until old.text in
     let front : List ℕ = take at old.text in
-    let inside : place ≤ length front = omega (arith, order, stop.within, length-take at old.text) in
-    let same : take place new.text ≡ take place old.text =
-    ap (take place) (e.text ∙ append_assoc front e.put behind)
-    ∙ take-append-le place front (e.put ++ behind) inside
-    ∙ take-take place at old.text order in
-    same_before old.text new.text place column same stop
+    let inside : stop.place ≤ length front = omega (arith, order, known.within, length-take at old.text) in
+    let same : take stop.place new.text ≡ take stop.place old.text =
+    ap (take stop.place) (e.text ∙ append_assoc front e.put behind)
+    ∙ take-append-le stop.place front (e.put ++ behind) inside
+    ∙ take-take stop.place at old.text order in
+    same_before old.text new.text stop same known

@@ -178,7 +178,7 @@ above_pushed k m bs p ds o lower s more = record {
 
 -- it stands
 pub stands_drawn : (bs : List Buffer) (q : Picture) (d : DrawnText) (b : Buffer) → find_buffer d.name bs ≡ Some b → d.serial ≡ b.serial → d.size ≡ length b.text → d.start ≤ length b.text → d.first + d.height < length q.lines
-    → DoesShow d d.row d.shift b.text q → IsTabStop b.text d.stop d.stop_column → DoesShowMode (d.first + d.height) d.name d.mode q → Stands bs q d
+    → DoesShow d d.row d.shift b.text q → IsTabStop b.text d.stop → DoesShowMode (d.first + d.height) d.name d.mode q → Stands bs q d
 stands_drawn bs q d b found serial size start fits rows stop mode = record {
   drawn = b;
   serial = sym serial;
@@ -207,7 +207,7 @@ texts_passed bs p q first k new olds ds es put under is s = record {
 -- it shows a text
 pub texts_kept : (bs : List Buffer) (p q : Picture) (d : DrawnText) (b : Buffer) (text : List ℕ) (olds ds es : List (Option DrawnText))
     → IsPut d.first (text_rows p.cols (shift_at d.row d.shift) 0 d.height (drop d.start text) ++ mode_row p.cols (mode_text d.name d.mode) ∷ []) p q
-    → find_buffer d.name bs ≡ Some b → d.serial ≡ b.serial → d.size ≡ length text → d.start ≤ length text → IsTabStop text d.stop d.stop_column → text ≡ b.text → es ≡ pushed (Some d) ds
+    → find_buffer d.name bs ≡ Some b → d.serial ≡ b.serial → d.size ≡ length text → d.start ≤ length text → IsTabStop text d.stop → text ≡ b.text → es ≡ pushed (Some d) ds
     → AreStandingAround d.first bs p olds ds → AreStandingAround (d.first + (d.height + 1)) bs q olds es
 texts_kept bs p q d b text olds ds es put found serial size start stop same is s =
     let pane : List Row = text_rows p.cols (shift_at d.row d.shift) 0 d.height (drop d.start text) in
@@ -224,7 +224,7 @@ texts_kept bs p q d b text olds ds es put found serial size start stop same is s
     there
     ∙ ap (λ n. text_rows n (shift_at d.row d.shift) 0 d.height (drop d.start text)) (sym put.wide)
     ∙ ap (λ (ys : List ℕ). text_rows q.cols (shift_at d.row d.shift) 0 d.height (drop d.start ys)) same)
-    (subst (λ (ys : List ℕ). IsTabStop ys d.stop d.stop_column) same stop)
+    (subst (λ (ys : List ℕ). IsTabStop ys d.stop) same stop)
     (last ∙ ap (λ n. mode_row n (mode_text d.name d.mode) ∷ []) (sym put.wide)) in
     let k : ℕ = d.first + (d.height + 1) in
     let inside : d.first + d.height < k = omega arith in

@@ -21,7 +21,7 @@ pub record IsPane (text : List ℕ) (d : DrawnText) (p : Picture) : Type 0 where
   pub short : length text < 2 ^ 32
   pub within : d.start ≤ length text
   pub start : start_of (line_of text d.start) text ≡ d.start
-  pub stop : IsTabStop text d.stop d.stop_column
+  pub stop : IsTabStop text d.stop
   pub shift : d.shift < 2 ^ 62
 
 -- a text that is read of a buffer that was found

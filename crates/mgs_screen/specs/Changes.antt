@@ -70,4 +70,4 @@ IsChangeSince e start now text change =
 
 -- and of its tab stop
 abbrev pub IsStopSince : Earlier → Buffer → Option TabStop → Type 0
-IsStopSince e now known = (old : Buffer) → old.serial ≡ e.serial → IsTabStop old.text e.stop e.stop_column → Follows old now → IsKnown now.text known
+IsStopSince e now known = (old : Buffer) → old.serial ≡ e.serial → IsTabStop old.text e.stop → Follows old now → IsKnown now.text known

@@ -7,20 +7,25 @@ use Rattle.mgs_model.specs.Rows.{shown_row}
 use Rattle.mgs_screen.specs.declared.tab_stops.TabStop.{TabStop}
 
 -- in the line that starts here
-pub record IsOn (text : List ℕ) (start place column : ℕ) : Type 0 where
-  pub from : start ≤ place
-  pub cells : column ≡ length (cells (slice_range text start place))
-  pub whole : column % 8 ≡ 0
-  pub few : column ≤ 12 * place
+pub record IsOn (text : List ℕ) (start : ℕ) (stop : TabStop) : Type 0 where
+  pub from : start ≤ stop.place
+  pub cells : stop.column ≡ length (cells (slice_range text start stop.place))
+  pub whole : stop.column % 8 ≡ 0
+  pub few : stop.column ≤ 12 * stop.place
+
+-- and no further than a position
+pub record IsStopBefore (text : List ℕ) (start p : ℕ) (stop : TabStop) : Type 0 where
+  pub on : IsOn text start stop
+  pub order : stop.place ≤ p
 
 -- in its own line
-pub record IsTabStop (text : List ℕ) (place column : ℕ) : Type 0 where
-  pub within : place ≤ length text
-  pub on : IsOn text (line_start text place) place column
+pub record IsTabStop (text : List ℕ) (stop : TabStop) : Type 0 where
+  pub within : stop.place ≤ length text
+  pub on : IsOn text (line_start text stop.place) stop
 
 -- one that may be known
 abbrev pub IsKnown : List ℕ → Option TabStop → Type 0
-IsKnown text known = IfSome known (λ s. IsTabStop text s.place s.column)
+IsKnown text known = IfSome known (IsTabStop text)
 
 -- what a row shows of the line from a place on, from a column of that on
 abbrev pub shown_from : ℕ → ℕ → ℕ → List ℕ → List ℕ

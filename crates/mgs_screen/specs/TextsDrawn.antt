@@ -50,7 +50,6 @@ text_then name first height e = record {
   row = e.row;
   shift = e.shift;
   stop = e.stop;
-  stop_column = e.stop_column;
   mode = e.mode;
 }
 
@@ -62,7 +61,7 @@ pub record Stands (bs : List Buffer) (p : Picture) (d : DrawnText) : Type 0 wher
   pub start : d.start ≤ length drawn.text
   pub fits : d.first + d.height < length p.lines
   pub rows : DoesShow d d.row d.shift drawn.text p
-  pub stop : IsTabStop drawn.text d.stop d.stop_column
+  pub stop : IsTabStop drawn.text d.stop
   pub mode : DoesShowMode (d.first + d.height) d.name d.mode p
   pub now : Buffer
   pub found : find_buffer d.name bs ≡ Some now

@@ -89,7 +89,7 @@ fn change_by<T: Text>(
 
 /// A tab stop, where it lies no further than an edit.
 fn stop_before(edit: &Edit, stop: TabStop) -> Option<TabStop>
-    ensures { (text : List ℕ) → (stop.place ≤ edit.now.at → IsTabStop text stop.place stop.column) → IsKnown text result }
+    ensures { (text : List ℕ) → (stop.place ≤ edit.now.at → IsTabStop text stop) → IsKnown text result }
 {
     if edit.at < stop.place {
         None
@@ -113,19 +113,15 @@ fn change_of_place(from: usize, start: usize) -> Change
 pub(crate) fn stop_since<T: Marked + Drop>(found: &Found<T>, earlier: &Earlier) -> Option<TabStop>
     ensures { IsStopSince earlier.now (marked_at found.now.name found.now.all).buffer result }
 {
-    let stop = TabStop {
-        place: earlier.stop,
-        column: earlier.stop_column,
-    };
     let serial = found.serial();
     if serial == earlier.serial {
-        return Some(stop);
+        return Some(earlier.stop);
     }
     if serial < earlier.serial || serial - earlier.serial > 1 {
         return None;
     }
     match found.item(serial) {
-        Some(edit) => stop_before(edit, stop),
+        Some(edit) => stop_before(edit, earlier.stop),
         None => None,
     }
 }

@@ -2,6 +2,7 @@
 ghost use Rattle.std.specs.Prelude.{◌≡◌, ◌<◌, ◌++◌, ◌∷◌, [], length, Some, None, IfSome, slice_get};
 ghost use Rattle.mgs_screen.specs.TextsDrawn.{pushed, text_then};
 
+use crate::tab_stops::TabStop;
 use arrayvec::ArrayVec;
 use mgs_model::Name;
 use std::marker::Model;
@@ -39,9 +40,7 @@ pub struct DrawnText {
     /// From which column that row is shown. The others are shown from column 0.
     pub(crate) shift: usize,
     /// A tab stop in the point's line, from which its columns are counted next.
-    pub(crate) stop: usize,
-    /// The column of that.
-    pub(crate) stop_column: usize,
+    pub(crate) stop: TabStop,
     /// What the mode line was drawn from.
     pub(crate) mode: ModeLine,
 }
@@ -60,9 +59,7 @@ pub(crate) struct Earlier {
     /// From which column that row was shown.
     pub(crate) shift: usize,
     /// A tab stop in the point's line.
-    pub(crate) stop: usize,
-    /// The column of that.
-    pub(crate) stop_column: usize,
+    pub(crate) stop: TabStop,
     /// What the mode line was drawn from.
     pub(crate) mode: ModeLine,
 }
@@ -107,7 +104,6 @@ fn drawn_in(
             row: drawn.row,
             shift: drawn.shift,
             stop: drawn.stop,
-            stop_column: drawn.stop_column,
             mode: drawn.mode,
         })
     } else {
@@ -130,7 +126,6 @@ fn put_text(texts: &mut ArrayVec<Option<DrawnText>, 8>, text: &DrawnText)
         row: text.row,
         shift: text.shift,
         stop: text.stop,
-        stop_column: text.stop_column,
         mode: text.mode,
     }));
 }

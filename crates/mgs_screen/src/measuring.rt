@@ -29,9 +29,7 @@ pub(crate) struct Measures {
     /// The cursor's column on the screen.
     pub(crate) col: usize,
     /// A tab stop in the point's line.
-    pub(crate) stop: usize,
-    /// The column of that.
-    pub(crate) stop_column: usize,
+    pub(crate) stop: TabStop,
 }
 
 /// From which column the point's line is shown, and where the cursor then is. Only the selected window is shifted.
@@ -74,7 +72,7 @@ pub(crate) fn measure<T: Marked>(
     ensures few { result.line ≤ 1048576 }
     ensures near { result.shift < 2 ^ 62 }
     ensures col { result.col < cols }
-    ensures stop { IsTabStop (T.text text.now) result.stop result.stop_column }
+    ensures stop { IsTabStop (T.text text.now) result.stop }
 {
     let point = text.pos(window_marks.point);
     let top = text.pos(window_marks.top);
@@ -93,7 +91,6 @@ pub(crate) fn measure<T: Marked>(
         row: line.saturating_sub(above),
         shift,
         col,
-        stop: stop.place,
-        stop_column: stop.column,
+        stop,
     }
 }

@@ -10,7 +10,7 @@ ghost use Rattle.mgs_screen.specs.TextsDrawn.{DoesShow, MayStand, showing};
 
 use crate::change::{Change, change_since};
 use crate::drawn_texts::{DrawnText, Earlier};
-use crate::tab_stops::{TabStop, begin_at};
+use crate::tab_stops::begin_at;
 use mgs_buffers::Found;
 use mgs_grid::{Grid, RowSet};
 use mgs_marks::Marked;
@@ -55,11 +55,7 @@ fn draw_row_of<T: Text>(
     if row >= drawn.height {
         return;
     }
-    let stop = TabStop {
-        place: drawn.stop,
-        column: drawn.stop_column,
-    };
-    let begin = begin_at(text, above + row, shift, stop);
+    let begin = begin_at(text, above + row, shift, drawn.stop);
     grid.draw_text_row(drawn.first + row, text, begin.place, begin.shift);
     rows.insert(drawn.first + row);
 }

@@ -219,7 +219,6 @@ fn redraw_text<T: Marked + Drop>(
         row: measures.row,
         shift: measures.shift,
         stop: measures.stop,
-        stop_column: measures.stop_column,
         mode,
     };
     redraw_pane(found, text, &drawn, measures.above, &earlier, rows, grid);

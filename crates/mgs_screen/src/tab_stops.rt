@@ -2,7 +2,7 @@
 ghost use Rattle.std.specs.Prelude.{◌≡◌, ℕ, List, ◌*◌, ◌≤◌, ◌<◌, ◌^◌, length, slice_range};
 ghost use Rattle.mgs_model.specs.Cells.{cells};
 ghost use Rattle.mgs_model.specs.Lines.{line_start, start_of};
-ghost use Rattle.mgs_screen.specs.TabStops.{AreShownAlike, IsKnown, IsOn, IsTabStop};
+ghost use Rattle.mgs_screen.specs.TabStops.{AreShownAlike, IsKnown, IsStopBefore, IsTabStop};
 
 use mgs_lines::width;
 use mgs_text::Text;
@@ -28,7 +28,7 @@ pub(crate) struct Begin {
 /// From where the line of a number may be drawn that is shown from column `shift` on: from a tab stop of it before that column, and else from
 /// the line's start. The row is the same.
 pub(crate) fn begin_at<T: Text>(text: &T, line: usize, shift: usize, stop: TabStop) -> Begin
-    requires stop { IsTabStop (T.text text.now) stop.place stop.column }
+    requires stop { IsTabStop (T.text text.now) stop }
     requires shift { shift < 2 ^ 62 }
     ensures row { AreShownAlike (T.text text.now) result.shift result.place shift (start_of line (T.text text.now)) }
     ensures within { result.place ≤ length (T.text text.now) }
@@ -60,8 +60,7 @@ fn begin_at_start<T: Text>(text: &T, line: usize, shift: usize) -> Begin
 
 /// A tab stop at or before a position, in the line that starts at `start`: the one that is known, where it lies there, and else that start.
 pub(crate) fn first_stop(known: Option<TabStop>, start: usize, p: usize) -> TabStop
-    ensures on { (text : List ℕ) → start ≡ line_start text p → p ≤ length text → IsKnown text known → IsOn text start result.place result.column }
-    ensures before { start ≤ p → result.place ≤ p }
+    ensures { (text : List ℕ) → start ≡ line_start text p → p ≤ length text → IsKnown text known → IsStopBefore text start p result }
 {
     let line = TabStop {
         place: start,
@@ -81,8 +80,7 @@ pub(crate) fn first_stop(known: Option<TabStop>, start: usize, p: usize) -> TabS
 
 /// The number of cells before a position in the line that starts at `start`, counted from a tab stop on.
 pub(crate) fn cells_to<T: Text>(text: &T, start: usize, stop: TabStop, p: usize) -> usize
-    requires on { IsOn (T.text text.now) start stop.place stop.column }
-    requires order { stop.place ≤ p }
+    requires stop { IsStopBefore (T.text text.now) start p stop }
     requires within { p ≤ length (T.text text.now) }
     requires short { length (T.text text.now) < 2 ^ 32 }
     ensures value { result ≡ length (cells (slice_range (T.text text.now) start p)) }
@@ -97,13 +95,11 @@ pub(crate) fn cells_to<T: Text>(text: &T, start: usize, stop: TabStop, p: usize)
 
 /// The first tab stop from a place on, before another one; where there is none, the one that is known.
 fn stop_from<T: Text>(text: &T, start: usize, stop: TabStop, from: usize, p: usize) -> TabStop
-    requires on { IsOn (T.text text.now) start stop.place stop.column }
-    requires order { stop.place ≤ from }
+    requires stop { IsStopBefore (T.text text.now) start from stop }
     requires before { from ≤ p }
     requires within { p ≤ length (T.text text.now) }
     requires short { length (T.text text.now) < 2 ^ 32 }
-    ensures on { IsOn (T.text text.now) start result.place result.column }
-    ensures before { result.place ≤ p }
+    ensures { IsStopBefore (T.text text.now) start p result }
 {
     let mut at = cells_to(text, start, stop, from);
     for i in from..p {
@@ -126,13 +122,11 @@ pub(crate) fn near_stop<T: Text>(
     p: usize,
     cols: usize,
 ) -> TabStop
-    requires on { IsOn (T.text text.now) start stop.place stop.column }
-    requires order { stop.place ≤ p }
+    requires stop { IsStopBefore (T.text text.now) start p stop }
     requires within { p ≤ length (T.text text.now) }
     requires short { length (T.text text.now) < 2 ^ 32 }
     requires narrow { cols < 2 ^ 32 }
-    ensures on { IsOn (T.text text.now) start result.place result.column }
-    ensures before { result.place ≤ p }
+    ensures { IsStopBefore (T.text text.now) start p result }
 {
     let back = cols + 8;
     if p - stop.place <= 2 * back {

@@ -15,4 +15,4 @@ returns-in-Some g c = λ old serial stop follows.
     let next : b.serial ≡ old.serial + 1 = omega (arith, serial, c.serial-serial.ensures, c.if-serial-earlier.false, c.if-serial-earlier-2.false, c.if-serial-earlier-gt1.false) in
     let e : IsEditedOnce old b = follows.once next in
     let item : e.item ≡ item_of now c.in-Some.edit.now = item_found old b e (item_of now c.in-Some.edit.now) now c.serial-serial.ensures c.in-Some.ensures in
-    c.stop_before.ensures b.text (λ order. stop_edited old b e earlier.stop earlier.stop_column (omega (arith, order, ap (λ (i : Item). i.place) item)) stop)
+    c.stop_before.ensures b.text (λ order. stop_edited old b e earlier.stop (omega (arith, order, ap (λ (i : Item). i.place) item)) stop)

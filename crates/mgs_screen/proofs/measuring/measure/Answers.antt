@@ -1,4 +1,4 @@
-use Rattle.std.proofs.Common.{◌≡◌, ℕ, List, length, sym, ap, subst, ◌∙◌, arith}
+use Rattle.std.proofs.Common.{◌≡◌, ℕ, List, length, sym, ap, subst, ◌∙◌}
 use Rattle.std.specs.Prelude.{slice_range}
 use Rattle.mgs_model.specs.Cells.{cells}
 use Rattle.mgs_model.specs.Lines.{column, line_of, line_start, start_of}
@@ -34,23 +34,16 @@ returns-clause-above g c =
     let from : c.start_of.result ≡ line_start text top = c.start_of.ensures.value ∙ ap (λ (n : ℕ). start_of n text) c.line_of-above.ensures ∙ start_of_line text top c.pos-top.ensures.within in
     ap (line_of text) from ∙ line_of_start text top c.pos-top.ensures.within ∙ sym c.line_of-above.ensures
 
-pub near_stop-stop-requires-clause-on : goal.near_stop-stop-requires-clause-on
-near_stop-stop-requires-clause-on g c =
+pub near_stop-stop-requires-clause-stop : goal.near_stop-stop-requires-clause-stop
+near_stop-stop-requires-clause-stop g c =
     let text : List ℕ = g.T.Text.text c.args.text.now in
     let point : ℕ = c.pos-point.result in
     let here : c.start_of-line_start.result ≡ line_start text point = line_begins text c.line_of-line.result c.start_of-line_start.result point c.start_of-line_start.ensures.value c.line_of-line.ensures c.pos-point.ensures.within in
-    c.first_stop-first.ensures.on text here c.pos-point.ensures.within c.requires.known
-
-pub near_stop-stop-requires-clause-order : goal.near_stop-stop-requires-clause-order
-near_stop-stop-requires-clause-order g c =
-    let text : List ℕ = g.T.Text.text c.args.text.now in
-    let point : ℕ = c.pos-point.result in
-    let here : c.start_of-line_start.result ≡ line_start text point = line_begins text c.line_of-line.result c.start_of-line_start.result point c.start_of-line_start.ensures.value c.line_of-line.ensures c.pos-point.ensures.within in
-    c.first_stop-first.ensures.before (omega (arith, here))
+    c.first_stop-first.ensures text here c.pos-point.ensures.within c.requires.known
 
 pub returns-clause-stop : goal.returns-clause-stop
 returns-clause-stop g c =
     let text : List ℕ = g.T.Text.text c.args.text.now in
     let point : ℕ = c.pos-point.result in
     let here : c.start_of-line_start.result ≡ line_start text point = line_begins text c.line_of-line.result c.start_of-line_start.result point c.start_of-line_start.ensures.value c.line_of-line.ensures c.pos-point.ensures.within in
-    stop_on text c.start_of-line_start.result point c.near_stop-stop.result.place c.near_stop-stop.result.column here c.pos-point.ensures.within c.near_stop-stop.ensures.before c.near_stop-stop.ensures.on
+    stop_on text c.start_of-line_start.result point c.near_stop-stop.result here c.pos-point.ensures.within c.near_stop-stop.ensures

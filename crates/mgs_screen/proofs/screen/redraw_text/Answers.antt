@@ -40,7 +40,7 @@ measure-measures-requires-clause-known g c =
     let bs : List Buffer = buffers_of c.args.found.now.all in
     let o : Option Earlier = c.drawn-earlier.result in
     let stands : IfSome o (λ e. Stands bs p (text_then name first c.args.height e)) = found_stands bs p c.args.drawn_texts.now c.args.place.index c.name-name.result.now name first c.args.height o c.requires.stands.from c.name-name.ensures.value c.drawn-earlier.ensures in
-    subst (λ (ys : List ℕ). IfSome c.known_stop-known.result (λ s. IsTabStop ys s.place s.column)) (sym c.text-text.ensures.text) (c.known_stop-known.ensures p first c.args.height stands)
+    subst (λ (ys : List ℕ). IfSome c.known_stop-known.result (IsTabStop ys)) (sym c.text-text.ensures.text) (c.known_stop-known.ensures p first c.args.height stands)
 
 pub redraw_pane-requires-clause-stands : goal.redraw_pane-requires-clause-stands
 redraw_pane-requires-clause-stands g c =
@@ -87,7 +87,7 @@ returns-clause-stands g c =
     let b : Buffer = (marked_at c.args.found.now.name ks).buffer in
     let text : List ℕ = g.T.Text.text c.text-text.result.now in
     let m = c.measure-measures.result in
-    let d : DrawnText = record { name = c.name-name.result.now; serial = c.serial.result; size = c.len.result; start = m.start; first = first; height = height; row = m.row; shift = m.shift; stop = m.stop; stop_column = m.stop_column; mode = c.mode_of-mode.result } in
+    let d : DrawnText = record { name = c.name-name.result.now; serial = c.serial.result; size = c.len.result; start = m.start; first = first; height = height; row = m.row; shift = m.shift; stop = m.stop; mode = c.mode_of-mode.result } in
     let rest : List ℕ = drop m.start text in
     let pane : List Row = text_rows p.cols (shift_at m.row m.shift) 0 height rest in
     let mode : List ℕ = mode_text c.name-name.result.now c.mode_of-mode.result in

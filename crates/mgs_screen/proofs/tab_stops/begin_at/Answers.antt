@@ -6,5 +6,4 @@ use Rattle.mgs_screen.proofs.tab_stops.begin_at.Goals as goal
 pub returns-clause-row : goal.returns-clause-row
 returns-clause-row g c = λ cols.
     let text : List ℕ = g.T.Text.text c.args.text.now in
-    let stop = c.args.stop in
-    line_later text c.args.line (start_of c.args.line text) stop.place stop.column cols c.args.shift c.requires.stop (sym c.if-line_of-line.false ∙ c.line_of.ensures) refl (omega (arith, c.if-shift-stop.false))
+    line_later text c.args.line (start_of c.args.line text) c.args.stop cols c.args.shift c.requires.stop (sym c.if-line_of-line.false ∙ c.line_of.ensures) refl (omega (arith, c.if-shift-stop.false))

@@ -9,6 +9,6 @@ loop-i-preserved g c =
     let i = c.loop-i.i in
     let at = c.loop-i.at in
     record {
-      value = cells_next xs c.args.start i at c.width-at.result (omega (arith, c.requires.on.from)) (omega arith) c.loop-i.invariant.value (c.width-at.ensures.value ∙ ap (λ k. length (glyph at k)) c.at.ensures);
+      value = cells_next xs c.args.start i at c.width-at.result (omega (arith, c.requires.stop.on.from)) (omega arith) c.loop-i.invariant.value (c.width-at.ensures.value ∙ ap (λ k. length (glyph at k)) c.at.ensures);
       few = omega arith;
     }
