@@ -3,7 +3,7 @@ use Rattle.std.proofs.Common.{◌≡◌, ℕ, ◌+◌, ◌<◌, ◌≤◌, ◌^�
 use Rattle.std.specs.List.{count_by}
 use Rattle.std.proofs.lemmas.List.{length-take-le}
 use Rattle.std.proofs.lemmas.List.Sums.{count_by-le-length}
-use Rattle.mgs_model.specs.Lines.{is_feed, line_of}
+use Rattle.mgs_model.specs.Lines.{is_feed}
 use Rattle.mgs_model.specs.Picture.{Picture}
 use Rattle.mgs_model.specs.Rows.{Row}
 use Rattle.mgs_grid.specs.Cells.{rows_put}
@@ -62,15 +62,14 @@ pub pane_stays : (text : List ℕ) (d : DrawnText) (r s : List Bool) (p q : Pict
 pane_stays text d r s p q pane drawn = record {
   room = omega (arith, pane.room, drawn.rows);
   short = pane.short;
-  within = pane.within;
-  start = pane.start;
+  top = pane.top;
   stop = pane.stop;
   shift = pane.shift;
 }
 
 -- the lines above it are few
-pub few_above : (text : List ℕ) (d : DrawnText) (p : Picture) → IsPane text d p → line_of text d.start < 2 ^ 32
+pub few_above : (text : List ℕ) (d : DrawnText) (p : Picture) → IsPane text d p → d.shown.above < 2 ^ 32
 few_above text d p pane =
-    let front : List ℕ = take d.start text in
+    let front : List ℕ = take d.shown.start text in
     let most : count_by is_feed front ≤ length front = count_by-le-length is_feed front in
-    omega (arith, most, length-take-le d.start text pane.within, pane.within, pane.short)
+    omega (arith, most, length-take-le d.shown.start text pane.top.within, pane.top.number, pane.top.within, pane.short)

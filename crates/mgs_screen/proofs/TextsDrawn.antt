@@ -15,7 +15,7 @@ use Rattle.mgs_grid.proofs.Pictures.{length-rows_put, length-text_rows}
 use Rattle.mgs_screen.specs.declared.drawn_texts.DrawnText.{DrawnText}
 use Rattle.mgs_screen.specs.TextsDrawn.{Stands, AreStanding, AreStandingAbove, AreStandingAround, AreStandingFrom, DoesShow, DoesShowMode, mode_text, rows_at, pushed, text_then}
 use Rattle.mgs_screen.specs.TabStops.{IsTabStop}
-use Rattle.mgs_screen.specs.declared.drawn_texts.Earlier.{Earlier}
+use Rattle.mgs_screen.specs.declared.drawn_texts.Shown.{Shown}
 use Rattle.mgs_screen.specs.declared.drawn_texts.ModeLine.{ModeLine}
 use Rattle.mgs_screen.proofs.Canvas.{IsPut}
 
@@ -100,9 +100,9 @@ stands_moved bs p q d wide long same last s = record {
   size = s.size;
   start = s.start;
   fits = omega (arith, s.fits, long);
-  rows = same ∙ s.rows ∙ ap (λ n. text_rows n (shift_at d.row d.shift) 0 d.height (drop d.start s.drawn.text)) (sym wide);
+  rows = same ∙ s.rows ∙ ap (λ n. text_rows n (shift_at d.shown.row d.shown.shift) 0 d.height (drop d.shown.start s.drawn.text)) (sym wide);
   stop = s.stop;
-  mode = last ∙ s.mode ∙ ap (λ n. mode_row n (mode_text d.name d.mode) ∷ []) (sym wide);
+  mode = last ∙ s.mode ∙ ap (λ n. mode_row n (mode_text d.name d.shown.mode) ∷ []) (sym wide);
   now = s.now;
   found = s.found;
   follows = s.follows;
@@ -145,7 +145,7 @@ pub above_all : (k : ℕ) (bs : List Buffer) (p : Picture) (ds : List (Option Dr
 above_all k bs p ds s = record { each = λ i d is. (s.each i d is).0 }
 
 -- one that is found
-pub found_stands : (bs : List Buffer) (p : Picture) (ds : List (Option DrawnText)) (index : ℕ) (said name : List ℕ) (first height : ℕ) (o : Option Earlier) → AreStandingFrom first bs p ds → said ≡ name
+pub found_stands : (bs : List Buffer) (p : Picture) (ds : List (Option DrawnText)) (index : ℕ) (said name : List ℕ) (first height : ℕ) (o : Option Shown) → AreStandingFrom first bs p ds → said ≡ name
     → IfSome o (λ e. slice_get ds index ≡ Some (Some (text_then said first height e))) → IfSome o (λ e. Stands bs p (text_then name first height e))
 found_stands bs p ds index said name first height None s same is = is
 found_stands bs p ds index said name first height (Some e) s same is =
@@ -177,8 +177,8 @@ above_pushed k m bs p ds o lower s more = record {
 -- A TEXT THAT IS DRAWN
 
 -- it stands
-pub stands_drawn : (bs : List Buffer) (q : Picture) (d : DrawnText) (b : Buffer) → find_buffer d.name bs ≡ Some b → d.serial ≡ b.serial → d.size ≡ length b.text → d.start ≤ length b.text → d.first + d.height < length q.lines
-    → DoesShow d d.row d.shift b.text q → IsTabStop b.text d.stop → DoesShowMode (d.first + d.height) d.name d.mode q → Stands bs q d
+pub stands_drawn : (bs : List Buffer) (q : Picture) (d : DrawnText) (b : Buffer) → find_buffer d.name bs ≡ Some b → d.shown.serial ≡ b.serial → d.shown.size ≡ length b.text → d.shown.start ≤ length b.text → d.first + d.height < length q.lines
+    → DoesShow d d.shown.row d.shown.shift b.text q → IsTabStop b.text d.shown.stop → DoesShowMode (d.first + d.height) d.name d.shown.mode q → Stands bs q d
 stands_drawn bs q d b found serial size start fits rows stop mode = record {
   drawn = b;
   serial = sym serial;
@@ -206,13 +206,13 @@ texts_passed bs p q first k new olds ds es put under is s = record {
 
 -- it shows a text
 pub texts_kept : (bs : List Buffer) (p q : Picture) (d : DrawnText) (b : Buffer) (text : List ℕ) (olds ds es : List (Option DrawnText))
-    → IsPut d.first (text_rows p.cols (shift_at d.row d.shift) 0 d.height (drop d.start text) ++ mode_row p.cols (mode_text d.name d.mode) ∷ []) p q
-    → find_buffer d.name bs ≡ Some b → d.serial ≡ b.serial → d.size ≡ length text → d.start ≤ length text → IsTabStop text d.stop → text ≡ b.text → es ≡ pushed (Some d) ds
+    → IsPut d.first (text_rows p.cols (shift_at d.shown.row d.shown.shift) 0 d.height (drop d.shown.start text) ++ mode_row p.cols (mode_text d.name d.shown.mode) ∷ []) p q
+    → find_buffer d.name bs ≡ Some b → d.shown.serial ≡ b.serial → d.shown.size ≡ length text → d.shown.start ≤ length text → IsTabStop text d.shown.stop → text ≡ b.text → es ≡ pushed (Some d) ds
     → AreStandingAround d.first bs p olds ds → AreStandingAround (d.first + (d.height + 1)) bs q olds es
 texts_kept bs p q d b text olds ds es put found serial size start stop same is s =
-    let pane : List Row = text_rows p.cols (shift_at d.row d.shift) 0 d.height (drop d.start text) in
-    let mode : Row = mode_row p.cols (mode_text d.name d.mode) in
-    let high : length pane ≡ d.height = length-text_rows p.cols (shift_at d.row d.shift) 0 d.height (drop d.start text) in
+    let pane : List Row = text_rows p.cols (shift_at d.shown.row d.shown.shift) 0 d.height (drop d.shown.start text) in
+    let mode : Row = mode_row p.cols (mode_text d.name d.shown.mode) in
+    let high : length pane ≡ d.height = length-text_rows p.cols (shift_at d.shown.row d.shown.shift) 0 d.height (drop d.shown.start text) in
     let long : ℕ = length q.lines in
     let fits : d.first + d.height < long = omega (arith, put_long d.first (pane ++ mode ∷ []) p q put, put.fits, length-append pane (mode ∷ []), high) in
     let there : rows_at d.first d.height q.lines ≡ pane =
@@ -222,10 +222,10 @@ texts_kept bs p q d b text olds ds es put found serial size start stop same is s
     let now : Stands bs q d =
     stands_drawn bs q d b found serial (size ∙ ap length same) (omega (arith, start, ap length same)) fits (
     there
-    ∙ ap (λ n. text_rows n (shift_at d.row d.shift) 0 d.height (drop d.start text)) (sym put.wide)
-    ∙ ap (λ (ys : List ℕ). text_rows q.cols (shift_at d.row d.shift) 0 d.height (drop d.start ys)) same)
-    (subst (λ (ys : List ℕ). IsTabStop ys d.stop) same stop)
-    (last ∙ ap (λ n. mode_row n (mode_text d.name d.mode) ∷ []) (sym put.wide)) in
+    ∙ ap (λ n. text_rows n (shift_at d.shown.row d.shown.shift) 0 d.height (drop d.shown.start text)) (sym put.wide)
+    ∙ ap (λ (ys : List ℕ). text_rows q.cols (shift_at d.shown.row d.shown.shift) 0 d.height (drop d.shown.start ys)) same)
+    (subst (λ (ys : List ℕ). IsTabStop ys d.shown.stop) same stop)
+    (last ∙ ap (λ n. mode_row n (mode_text d.name d.shown.mode) ∷ []) (sym put.wide)) in
     let k : ℕ = d.first + (d.height + 1) in
     let inside : d.first + d.height < k = omega arith in
     record {
@@ -238,12 +238,12 @@ texts_kept bs p q d b text olds ds es put found serial size start stop same is s
 -- THE MODE LINE
 
 -- rows that are put above it leave it
-pub mode_stays : (row first : ℕ) (name : List ℕ) (new : List Row) (p q : Picture) (o : Option Earlier) → IsPut first new p q → first + length new ≤ row → IfSome o (λ e. DoesShowMode row name e.mode p) → IfSome o (λ e. DoesShowMode row name e.mode q)
+pub mode_stays : (row first : ℕ) (name : List ℕ) (new : List Row) (p q : Picture) (o : Option Shown) → IsPut first new p q → first + length new ≤ row → IfSome o (λ e. DoesShowMode row name e.mode p) → IfSome o (λ e. DoesShowMode row name e.mode q)
 mode_stays row first name new p q None put below is = is
 mode_stays row first name new p q (Some e) put below is =
     ap (rows_at row 1) put.lines ∙ rows_below row 1 first new p.lines below (omega (arith, put.fits)) ∙ is ∙ ap (λ n. mode_row n (mode_text name e.mode) ∷ []) (sym put.wide)
 
-pub mode_stands : (bs : List Buffer) (p : Picture) (name : List ℕ) (first height : ℕ) (o : Option Earlier) → IfSome o (λ e. Stands bs p (text_then name first height e)) → IfSome o (λ e. DoesShowMode (first + height) name e.mode p)
+pub mode_stands : (bs : List Buffer) (p : Picture) (name : List ℕ) (first height : ℕ) (o : Option Shown) → IfSome o (λ e. Stands bs p (text_then name first height e)) → IfSome o (λ e. DoesShowMode (first + height) name e.mode p)
 mode_stands bs p name first height None is = is
 mode_stands bs p name first height (Some e) is = is.mode
 

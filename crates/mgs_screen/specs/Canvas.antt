@@ -7,6 +7,7 @@ use Rattle.mgs_buffers.specs.Found.{Named}
 use Rattle.mgs_buffers.specs.MarkedBuffer.{marked_at}
 use Rattle.mgs_screen.specs.TabStops.{IsTabStop}
 use Rattle.mgs_screen.specs.declared.drawn_texts.DrawnText.{DrawnText}
+use Rattle.mgs_screen.specs.declared.drawn_texts.Shown.{Shown}
 
 -- the rows that were drawn are in the set, beside those that were in it; the others are as they were, and so is the size
 pub record IsDrawnOn (before after : List Bool) (old new : Picture) : Type 0 where
@@ -15,19 +16,24 @@ pub record IsDrawnOn (before after : List Bool) (old new : Picture) : Type 0 whe
   pub kept : AreIn before after
   pub apart : AreSameApart after old.lines new.lines
 
--- a text that a picture has room for, and what is known of it: it is shown from the start of a line
+-- where a line starts, and its number
+pub record IsLineStart (text : List ℕ) (start line : ℕ) : Type 0 where
+  pub within : start ≤ length text
+  pub number : line_of text start ≡ line
+  pub begins : start_of line text ≡ start
+
+-- a text that a picture has room for, and what is known of it
 pub record IsPane (text : List ℕ) (d : DrawnText) (p : Picture) : Type 0 where
   pub room : d.first + d.height ≤ p.rows
   pub short : length text < 2 ^ 32
-  pub within : d.start ≤ length text
-  pub start : start_of (line_of text d.start) text ≡ d.start
-  pub stop : IsTabStop text d.stop
-  pub shift : d.shift < 2 ^ 62
+  pub top : IsLineStart text d.shown.start d.shown.above
+  pub stop : IsTabStop text d.shown.stop
+  pub shift : d.shown.shift < 2 ^ 62
 
--- a text that is read of a buffer that was found
-pub record IsReadOf (f : Named) (d : DrawnText) (text : List ℕ) : Type 0 where
+-- a text that is read of a buffer that was found, and the serial of its last edit
+pub record IsReadOf (f : Named) (s : Shown) (text : List ℕ) : Type 0 where
   pub text_is : text ≡ (marked_at f.name f.all).buffer.text
-  pub serial_is : d.serial ≡ (marked_at f.name f.all).buffer.serial
+  pub serial_is : s.serial ≡ (marked_at f.name f.all).buffer.serial
 
 -- a cell of so many rows and columns
 pub record IsCell (rows cols : ℕ) (at : ℕ × ℕ) : Type 0 where

@@ -13,7 +13,7 @@ use Rattle.mgs_screen.specs.declared.change.Change.{Change}
 use Rattle.mgs_screen.specs.declared.change.Change.TheVariants.{Nothing, Line, Anything}
 use Rattle.mgs_screen.specs.TextsDrawn.{DoesShow, rows_at, showing}
 use Rattle.mgs_screen.specs.declared.drawn_texts.DrawnText.{DrawnText}
-use Rattle.mgs_screen.specs.declared.drawn_texts.Earlier.{Earlier}
+use Rattle.mgs_screen.specs.declared.drawn_texts.Shown.{Shown}
 use Rattle.mgs_screen.specs.declared.tab_stops.TabStop.{TabStop}
 
 -- What is shown of a text began at one position, and begins at another one now. From there on an edit took characters out and put others in,
@@ -40,21 +40,21 @@ IsChange Anything from start old new = Unit {0}
 abbrev pub CompletesRow : DrawnText → ℕ → ℕ → List ℕ → Picture → Picture → Type 0
 CompletesRow d row shift text p q =
     (top from : ℕ) (olds : List Row) → shift ≡ shift_at top from row → rows_at d.first d.height p.lines ≡ olds
-    → AreSameBut row olds (text_rows p.cols (shift_at top from) 0 d.height (drop d.start text)) → q ≡ showing d top from text p
+    → AreSameBut row olds (text_rows p.cols (shift_at top from) 0 d.height (drop d.shown.start text)) → q ≡ showing d top from text p
 
 -- the line that was edited: row `row` was shown from a column, and is shown from another one then
 abbrev pub CompletesLine : DrawnText → ℕ → ℕ → ℕ → ℕ → List ℕ → Picture → Picture → Type 0
 CompletesLine d down row was shift text p q =
-    (from : ℕ) (old : List ℕ) → DoesShow (record d { start = from }) row was old p → IsLineEdited down from d.start old text → q ≡ showing d row shift text p
+    (e : Shown) (old : List ℕ) → DoesShow (record d { shown = e }) row was old p → IsLineEdited down e.start d.shown.start old text → q ≡ showing d row shift text p
 
 -- rows that are shifted
 abbrev pub CompletesShifts : DrawnText → ℕ → ℕ → List ℕ → Picture → Picture → Type 0
-CompletesShifts d row shift text p q = DoesShow d row shift text p → q ≡ showing d d.row d.shift text p
+CompletesShifts d row shift text p q = DoesShow d row shift text p → q ≡ showing d d.shown.row d.shown.shift text p
 
 -- all that a change calls for
-abbrev pub CompletesChange : Change → Earlier → DrawnText → List ℕ → Picture → Picture → Type 0
+abbrev pub CompletesChange : Change → Shown → DrawnText → List ℕ → Picture → Picture → Type 0
 CompletesChange change e d text p q =
-    (old : List ℕ) → DoesShow (record d { start = e.start }) e.row e.shift old p → IsChange change e.start d.start old text → q ≡ showing d d.row d.shift text p
+    (old : List ℕ) → DoesShow (record d { shown = e }) e.row e.shift old p → IsChange change e.start d.shown.start old text → q ≡ showing d d.shown.row d.shown.shift text p
 
 -- WHAT WAS EDITED
 
@@ -64,10 +64,10 @@ IsChangeBy edit from start size text change =
     (old new : Buffer) (serial : ℕ) (e : IsEditedOnce old new) → e.item ≡ item_of serial edit → new.text ≡ text → length old.text ≡ size → IsChange change from start old.text text
 
 -- what has become of a text that was drawn earlier, whose buffer is this one now
-abbrev pub IsChangeSince : Earlier → ℕ → Buffer → List ℕ → Change → Type 0
+abbrev pub IsChangeSince : Shown → ℕ → Buffer → List ℕ → Change → Type 0
 IsChangeSince e start now text change =
     (old : Buffer) → old.serial ≡ e.serial → length old.text ≡ e.size → Follows old now → IsChange change e.start start old.text text
 
 -- and of its tab stop
-abbrev pub IsStopSince : Earlier → Buffer → Option TabStop → Type 0
+abbrev pub IsStopSince : Shown → Buffer → Option TabStop → Type 0
 IsStopSince e now known = (old : Buffer) → old.serial ≡ e.serial → IsTabStop old.text e.stop → Follows old now → IsKnown now.text known

@@ -7,7 +7,7 @@ use Rattle.mgs_model.specs.World.{Buffer, find_buffer}
 use Rattle.mgs_grid.specs.Panes.{text_put}
 use Rattle.mgs_screen.specs.TabStops.{IsKnown, IsTabStop}
 use Rattle.mgs_screen.specs.declared.drawn_texts.DrawnText.{DrawnText}
-use Rattle.mgs_screen.specs.declared.drawn_texts.Earlier.{Earlier}
+use Rattle.mgs_screen.specs.declared.drawn_texts.Shown.{Shown}
 use Rattle.mgs_screen.specs.declared.drawn_texts.ModeLine.{ModeLine}
 use Rattle.mgs_screen.specs.declared.tab_stops.TabStop.{TabStop}
 
@@ -17,7 +17,7 @@ rows_at first height lines = take height (drop first lines)
 
 -- where a text is drawn, the rows of a picture are those of such a text, of which one row is shown from another column than 0
 abbrev pub DoesShow : DrawnText → ℕ → ℕ → List ℕ → Picture → Type 0
-DoesShow d row shift text p = rows_at d.first d.height p.lines ≡ text_rows p.cols (shift_at row shift) 0 d.height (drop d.start text)
+DoesShow d row shift text p = rows_at d.first d.height p.lines ≡ text_rows p.cols (shift_at row shift) 0 d.height (drop d.shown.start text)
 
 -- a buffer of this name, whose flag may be told or not
 abbrev pub told_as : List ℕ → Option Bool → Option (List ℕ × Bool)
@@ -36,43 +36,32 @@ DoesShowMode row name m p = rows_at row 1 p.lines ≡ mode_row p.cols (mode_text
 
 -- a picture that shows it there
 abbrev pub showing : DrawnText → ℕ → ℕ → List ℕ → Picture → Picture
-showing d row shift text p = record p { lines = text_put d.first d.height row shift (drop d.start text) p }
+showing d row shift text p = record p { lines = text_put d.first d.height row shift (drop d.shown.start text) p }
 
 -- one that was drawn earlier
-abbrev pub text_then : List ℕ → ℕ → ℕ → Earlier → DrawnText
-text_then name first height e = record {
-  name = name;
-  serial = e.serial;
-  size = e.size;
-  start = e.start;
-  first = first;
-  height = height;
-  row = e.row;
-  shift = e.shift;
-  stop = e.stop;
-  mode = e.mode;
-}
+abbrev pub text_then : List ℕ → ℕ → ℕ → Shown → DrawnText
+text_then name first height e = record { name = name; first = first; height = height; shown = e }
 
 -- the rows are those of a text, and the buffer of that name follows the one that it was read of
 pub record Stands (bs : List Buffer) (p : Picture) (d : DrawnText) : Type 0 where
   pub drawn : Buffer
-  pub serial : drawn.serial ≡ d.serial
-  pub size : length drawn.text ≡ d.size
-  pub start : d.start ≤ length drawn.text
+  pub serial : drawn.serial ≡ d.shown.serial
+  pub size : length drawn.text ≡ d.shown.size
+  pub start : d.shown.start ≤ length drawn.text
   pub fits : d.first + d.height < length p.lines
-  pub rows : DoesShow d d.row d.shift drawn.text p
-  pub stop : IsTabStop drawn.text d.stop
-  pub mode : DoesShowMode (d.first + d.height) d.name d.mode p
+  pub rows : DoesShow d d.shown.row d.shown.shift drawn.text p
+  pub stop : IsTabStop drawn.text d.shown.stop
+  pub mode : DoesShowMode (d.first + d.height) d.name d.shown.mode p
   pub now : Buffer
   pub found : find_buffer d.name bs ≡ Some now
   pub follows : Follows drawn now
 
 -- a text that may have been drawn earlier
-abbrev pub MayStand : List Buffer → Picture → List ℕ → ℕ → ℕ → Option Earlier → Type 0
+abbrev pub MayStand : List Buffer → Picture → List ℕ → ℕ → ℕ → Option Shown → Type 0
 MayStand bs p name first height earlier = IfSome earlier (λ e. Stands bs p (text_then name first height e))
 
 -- a tab stop that its buffer's text has now
-abbrev pub IsStopOf : List Buffer → List ℕ → Option Earlier → List ℕ → Option TabStop → Type 0
+abbrev pub IsStopOf : List Buffer → List ℕ → Option Shown → List ℕ → Option TabStop → Type 0
 IsStopOf bs name earlier text known = (p : Picture) (first height : ℕ) → MayStand bs p name first height earlier → IsKnown text known
 
 -- there is a place for each window, from the top; where one shows a text that may be read, it holds this

@@ -6,7 +6,7 @@ ghost use Rattle.mgs_screen.specs.Canvas.{IsReadOf};
 ghost use Rattle.mgs_screen.specs.Changes.{IsChange, IsChangeBy, IsChangeSince, IsStopSince};
 ghost use Rattle.mgs_screen.specs.TabStops.{IsKnown, IsTabStop};
 
-use crate::drawn_texts::{DrawnText, Earlier};
+use crate::drawn_texts::Shown;
 use crate::tab_stops::TabStop;
 use mgs_buffers::Found;
 use mgs_marks::Marked;
@@ -110,7 +110,7 @@ fn change_of_place(from: usize, start: usize) -> Change
 }
 
 /// The tab stop that was known of a text when it was drawn earlier, where no edit since lies before it.
-pub(crate) fn stop_since<T: Marked + Drop>(found: &Found<T>, earlier: &Earlier) -> Option<TabStop>
+pub(crate) fn stop_since<T: Marked + Drop>(found: &Found<T>, earlier: &Shown) -> Option<TabStop>
     ensures { IsStopSince earlier.now (marked_at found.now.name found.now.all).buffer result }
 {
     let serial = found.serial();
@@ -126,27 +126,33 @@ pub(crate) fn stop_since<T: Marked + Drop>(found: &Found<T>, earlier: &Earlier) 
     }
 }
 
-/// What has become of the rows of a buffer's text since it was drawn earlier.
+/// What has become of the rows of a buffer's text since it was drawn earlier, where this is shown of it now.
 pub(crate) fn change_since<T: Marked + Drop>(
     found: &Found<T>,
     text: &T,
-    drawn: &DrawnText,
-    above: usize,
-    earlier: &Earlier,
+    shown: &Shown,
+    earlier: &Shown,
 ) -> Change
-    requires read { IsReadOf found.now drawn.now (T.text text.now) }
-    requires above { line_of (T.text text.now) drawn.now.start ≡ above }
-    ensures { IsChangeSince earlier.now drawn.now.start (marked_at found.now.name found.now.all).buffer (T.text text.now) result }
+    requires read { IsReadOf found.now shown.now (T.text text.now) }
+    requires line { line_of (T.text text.now) shown.now.start ≡ shown.now.above }
+    ensures { IsChangeSince earlier.now shown.now.start (marked_at found.now.name found.now.all).buffer (T.text text.now) result }
 {
     let serial = earlier.serial;
-    if drawn.serial == serial {
-        return change_of_place(earlier.start, drawn.start);
+    if shown.serial == serial {
+        return change_of_place(earlier.start, shown.start);
     }
-    if drawn.serial < serial || drawn.serial - serial > 1 {
+    if shown.serial < serial || shown.serial - serial > 1 {
         return Change::Anything;
     }
-    match found.item(drawn.serial) {
-        Some(edit) => change_by(edit, text, earlier.start, drawn.start, above, earlier.size),
+    match found.item(shown.serial) {
+        Some(edit) => change_by(
+            edit,
+            text,
+            earlier.start,
+            shown.start,
+            shown.above,
+            earlier.size,
+        ),
         None => Change::Anything,
     }
 }

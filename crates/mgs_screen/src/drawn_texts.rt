@@ -20,48 +20,38 @@ pub(crate) struct ModeLine {
     pub(crate) column: usize,
 }
 
-/// A text that was drawn.
+/// What is shown of a text, and as of which edit of its buffer.
 #[derive(Clone, Copy)]
-pub struct DrawnText {
-    /// The buffer.
-    pub(crate) name: Name,
-    /// The serial of the buffer's last edit then.
+pub(crate) struct Shown {
+    /// The serial of the buffer's last edit.
     pub(crate) serial: u64,
-    /// How many characters the text had then.
+    /// How many characters the text has.
     pub(crate) size: usize,
-    /// Where the first line that is shown starts.
+    /// The line that the first row shows, from 0.
+    pub(crate) above: usize,
+    /// Where that line starts.
     pub(crate) start: usize,
-    /// The first row.
-    pub(crate) first: usize,
-    /// How many rows.
-    pub(crate) height: usize,
     /// The row of the point's line, from the first.
     pub(crate) row: usize,
     /// From which column that row is shown. The others are shown from column 0.
     pub(crate) shift: usize,
     /// A tab stop in the point's line, from which its columns are counted next.
     pub(crate) stop: TabStop,
-    /// What the mode line was drawn from.
+    /// What the mode line is drawn from.
     pub(crate) mode: ModeLine,
 }
 
-/// A text that was drawn earlier, but for its name and its rows.
+/// A text that was drawn.
 #[derive(Clone, Copy)]
-pub(crate) struct Earlier {
-    /// The serial of the buffer's last edit then.
-    pub(crate) serial: u64,
-    /// How many characters the text had then.
-    pub(crate) size: usize,
-    /// Where the first line that was shown started.
-    pub(crate) start: usize,
-    /// The row of the point's line then, from the first.
-    pub(crate) row: usize,
-    /// From which column that row was shown.
-    pub(crate) shift: usize,
-    /// A tab stop in the point's line.
-    pub(crate) stop: TabStop,
-    /// What the mode line was drawn from.
-    pub(crate) mode: ModeLine,
+pub struct DrawnText {
+    /// The buffer.
+    pub(crate) name: Name,
+    /// The first row.
+    pub(crate) first: usize,
+    /// How many rows.
+    pub(crate) height: usize,
+    /// What they show.
+    pub(crate) shown: Shown,
 }
 
 /// The texts that a screen shows, so that it can be drawn again in the rows alone that change: one for each window, from the top, or
@@ -87,7 +77,7 @@ fn drawn_in(
     name: &Name,
     first: usize,
     height: usize,
-) -> Option<Earlier>
+) -> Option<Shown>
     ensures { IfSome result (λ e. slice_get texts.now index ≡ Some (Some (text_then name.now first height e))) }
 {
     let Some(place) = texts.get(index) else {
@@ -97,15 +87,7 @@ fn drawn_in(
         return None;
     };
     if drawn.first == first && drawn.height == height && drawn.name == *name {
-        Some(Earlier {
-            serial: drawn.serial,
-            size: drawn.size,
-            start: drawn.start,
-            row: drawn.row,
-            shift: drawn.shift,
-            stop: drawn.stop,
-            mode: drawn.mode,
-        })
+        Some(drawn.shown)
     } else {
         None
     }
@@ -116,18 +98,7 @@ fn put_text(texts: &mut ArrayVec<Option<DrawnText>, 8>, text: &DrawnText)
     requires { length texts.old.items < 8 }
     ensures { texts.new.items ≡ texts.old.items ++ Some text.now ∷ [] }
 {
-    texts.push(Some(DrawnText {
-        name: text.name,
-        serial: text.serial,
-        size: text.size,
-        start: text.start,
-        first: text.first,
-        height: text.height,
-        row: text.row,
-        shift: text.shift,
-        stop: text.stop,
-        mode: text.mode,
-    }));
+    texts.push(Some(*text));
 }
 
 impl DrawnTexts {
@@ -154,7 +125,7 @@ impl DrawnTexts {
         name: &Name,
         first: usize,
         height: usize,
-    ) -> Option<Earlier>
+    ) -> Option<Shown>
         ensures { IfSome result (λ e. slice_get self.now index ≡ Some (Some (text_then name.now first height e))) }
     {
         drawn_in(self.texts.as_slice(), index, name, first, height)

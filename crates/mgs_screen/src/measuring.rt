@@ -1,8 +1,8 @@
 // What a window measures of a text before it shows it.
 ghost use Rattle.std.specs.Prelude.{◌≡◌, ◌-◌, ◌<◌, ◌≤◌, ◌^◌, true, length, IsSome};
-ghost use Rattle.mgs_model.specs.Lines.{line_of, start_of};
 ghost use Rattle.mgs_model.specs.Rows.{shift_for};
 ghost use Rattle.mgs_marks.specs.Marks.{mark_in};
+ghost use Rattle.mgs_screen.specs.Canvas.{IsLineStart};
 ghost use Rattle.mgs_screen.specs.Screens.{IsMeasuredBy, screen_shift};
 ghost use Rattle.mgs_screen.specs.TabStops.{IsKnown, IsTabStop};
 
@@ -66,9 +66,7 @@ pub(crate) fn measure<T: Marked>(
     ensures is { IsMeasuredBy (T.text text.now) (T.marks text.now) window_marks.now result.line result.row result.column result.start }
     ensures shift { result.shift ≡ screen_shift selected cols result.column }
     ensures cursor { selected ≡ true → result.col ≡ result.column - shift_for cols result.column }
-    ensures above { line_of (T.text text.now) result.start ≡ result.above }
-    ensures start { start_of result.above (T.text text.now) ≡ result.start }
-    ensures within { result.start ≤ length (T.text text.now) }
+    ensures top { IsLineStart (T.text text.now) result.start result.above }
     ensures few { result.line ≤ 1048576 }
     ensures near { result.shift < 2 ^ 62 }
     ensures col { result.col < cols }

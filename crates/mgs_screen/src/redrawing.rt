@@ -1,6 +1,5 @@
 // The rows of a text, drawn where those of an earlier one stand.
 ghost use Rattle.std.specs.Prelude.{◌≡◌, ◌<◌, ◌^◌};
-ghost use Rattle.mgs_model.specs.Lines.{line_of};
 ghost use Rattle.mgs_model.specs.Rows.{shift_at};
 ghost use Rattle.mgs_world.specs.Worlds.{buffers_of};
 ghost use Rattle.mgs_buffers.specs.MarkedBuffer.{HasBuffer};
@@ -9,7 +8,7 @@ ghost use Rattle.mgs_screen.specs.Changes.{CompletesChange, CompletesLine, Compl
 ghost use Rattle.mgs_screen.specs.TextsDrawn.{DoesShow, MayStand, showing};
 
 use crate::change::{Change, change_since};
-use crate::drawn_texts::{DrawnText, Earlier};
+use crate::drawn_texts::{DrawnText, Shown};
 use crate::tab_stops::begin_at;
 use mgs_buffers::Found;
 use mgs_grid::{Grid, RowSet};
@@ -19,7 +18,7 @@ use mgs_text::Text;
 /// Draws all rows of a text.
 fn draw_rows_of<T: Text>(text: &T, drawn: &DrawnText, rows: &mut RowSet, grid: &mut Grid)
     requires pane { IsPane (T.text text.now) drawn.now grid.old }
-    ensures grid { grid.new ≡ showing drawn.now drawn.now.row drawn.now.shift (T.text text.now) grid.old }
+    ensures grid { grid.new ≡ showing drawn.now drawn.now.shown.row drawn.now.shown.shift (T.text text.now) grid.old }
     ensures drawn { IsDrawnOn rows.old rows.new grid.old grid.new }
 {
     let _rows = grid.rows();
@@ -27,26 +26,24 @@ fn draw_rows_of<T: Text>(text: &T, drawn: &DrawnText, rows: &mut RowSet, grid: &
         drawn.first,
         drawn.height,
         text,
-        drawn.start,
-        drawn.row,
-        drawn.shift,
+        drawn.shown.start,
+        drawn.shown.row,
+        drawn.shown.shift,
     );
     rows.insert_rows(drawn.first, drawn.height);
 }
 
-/// Draws one row of a text, whose first row shows line `above`, from a column. Where it is out of sight there is nothing to draw. A row
+/// Draws one row of a text from a column. Where it is out of sight there is nothing to draw. A row
 /// of the point's line is drawn from its tab stop.
 fn draw_row_of<T: Text>(
     text: &T,
     drawn: &DrawnText,
-    above: usize,
     row: usize,
     shift: usize,
     rows: &mut RowSet,
     grid: &mut Grid,
 )
     requires pane { IsPane (T.text text.now) drawn.now grid.old }
-    requires above { line_of (T.text text.now) drawn.now.start ≡ above }
     requires shift { shift < 2 ^ 62 }
     ensures grid { CompletesRow drawn.now row shift (T.text text.now) grid.old grid.new }
     ensures drawn { IsDrawnOn rows.old rows.new grid.old grid.new }
@@ -55,7 +52,7 @@ fn draw_row_of<T: Text>(
     if row >= drawn.height {
         return;
     }
-    let begin = begin_at(text, above + row, shift, drawn.stop);
+    let begin = begin_at(text, drawn.shown.above + row, shift, drawn.shown.stop);
     grid.draw_text_row(drawn.first + row, text, begin.place, begin.shift);
     rows.insert(drawn.first + row);
 }
@@ -64,7 +61,6 @@ fn draw_row_of<T: Text>(
 fn shift_row<T: Text>(
     text: &T,
     drawn: &DrawnText,
-    above: usize,
     row: usize,
     from: usize,
     to: usize,
@@ -72,7 +68,6 @@ fn shift_row<T: Text>(
     grid: &mut Grid,
 )
     requires pane { IsPane (T.text text.now) drawn.now grid.old }
-    requires above { line_of (T.text text.now) drawn.now.start ≡ above }
     requires shift { to < 2 ^ 62 }
     ensures grid { DoesShow drawn.now row from (T.text text.now) grid.old → grid.new ≡ showing drawn.now row to (T.text text.now) grid.old }
     ensures drawn { IsDrawnOn rows.old rows.new grid.old grid.new }
@@ -81,40 +76,50 @@ fn shift_row<T: Text>(
     if from == to {
         return;
     }
-    draw_row_of(text, drawn, above, row, to, rows, grid);
+    draw_row_of(text, drawn, row, to, rows, grid);
 }
 
 /// Shows a text that stands, of which row `row` is shown from column `shift`, with its own row shifted.
 fn shift_rows<T: Text>(
     text: &T,
     drawn: &DrawnText,
-    above: usize,
     row: usize,
     shift: usize,
     rows: &mut RowSet,
     grid: &mut Grid,
 )
     requires pane { IsPane (T.text text.now) drawn.now grid.old }
-    requires above { line_of (T.text text.now) drawn.now.start ≡ above }
     ensures grid { CompletesShifts drawn.now row shift (T.text text.now) grid.old grid.new }
     ensures drawn { IsDrawnOn rows.old rows.new grid.old grid.new }
 {
     let _rows = grid.rows();
-    if row == drawn.row {
-        shift_row(text, drawn, above, row, shift, drawn.shift, rows, grid);
+    if row == drawn.shown.row {
+        shift_row(text, drawn, row, shift, drawn.shown.shift, rows, grid);
         return;
     }
-    shift_row(text, drawn, above, row, shift, 0, rows, grid);
-    shift_row(text, drawn, above, drawn.row, 0, drawn.shift, rows, grid);
+    shift_row(text, drawn, row, shift, 0, rows, grid);
+    shift_row(
+        text,
+        drawn,
+        drawn.shown.row,
+        0,
+        drawn.shown.shift,
+        rows,
+        grid,
+    );
 }
 
 /// From which column a text shows a row.
 fn shift_of(drawn: &DrawnText, row: usize) -> usize
-    requires { drawn.now.shift < 2 ^ 62 }
-    ensures value { result ≡ shift_at drawn.now.row drawn.now.shift row }
+    requires { drawn.now.shown.shift < 2 ^ 62 }
+    ensures value { result ≡ shift_at drawn.now.shown.row drawn.now.shown.shift row }
     ensures near { result < 2 ^ 62 }
 {
-    if row == drawn.row { drawn.shift } else { 0 }
+    if row == drawn.shown.row {
+        drawn.shown.shift
+    } else {
+        0
+    }
 }
 
 /// Draws the row of the one line that changed, in a text whose other rows stand, with row `row` shown from column `shift`. Tells from
@@ -122,7 +127,6 @@ fn shift_of(drawn: &DrawnText, row: usize) -> usize
 fn draw_line_of<T: Text>(
     text: &T,
     drawn: &DrawnText,
-    above: usize,
     down: usize,
     row: usize,
     shift: usize,
@@ -130,16 +134,15 @@ fn draw_line_of<T: Text>(
     grid: &mut Grid,
 ) -> usize
     requires pane { IsPane (T.text text.now) drawn.now grid.old }
-    requires above { line_of (T.text text.now) drawn.now.start ≡ above }
     ensures grid { CompletesLine drawn.now down row shift result (T.text text.now) grid.old grid.new }
     ensures drawn { IsDrawnOn rows.old rows.new grid.old grid.new }
 {
     if down != row {
-        draw_row_of(text, drawn, above, down, 0, rows, grid);
+        draw_row_of(text, drawn, down, 0, rows, grid);
         return shift;
     }
     let now = shift_of(drawn, row);
-    draw_row_of(text, drawn, above, down, now, rows, grid);
+    draw_row_of(text, drawn, down, now, rows, grid);
     now
 }
 
@@ -148,33 +151,22 @@ fn redraw_rows<T: Text>(
     change: Change,
     text: &T,
     drawn: &DrawnText,
-    above: usize,
-    earlier: &Earlier,
+    earlier: &Shown,
     rows: &mut RowSet,
     grid: &mut Grid,
 )
     requires pane { IsPane (T.text text.now) drawn.now grid.old }
-    requires above { line_of (T.text text.now) drawn.now.start ≡ above }
     ensures grid { CompletesChange change earlier.now drawn.now (T.text text.now) grid.old grid.new }
     ensures drawn { IsDrawnOn rows.old rows.new grid.old grid.new }
 {
     let _rows = grid.rows();
     match change {
         Change::Nothing => {
-            shift_rows(text, drawn, above, earlier.row, earlier.shift, rows, grid);
+            shift_rows(text, drawn, earlier.row, earlier.shift, rows, grid);
         }
         Change::Line(down) => {
-            let shift = draw_line_of(
-                text,
-                drawn,
-                above,
-                down,
-                earlier.row,
-                earlier.shift,
-                rows,
-                grid,
-            );
-            shift_rows(text, drawn, above, earlier.row, shift, rows, grid);
+            let shift = draw_line_of(text, drawn, down, earlier.row, earlier.shift, rows, grid);
+            shift_rows(text, drawn, earlier.row, shift, rows, grid);
         }
         Change::Anything => draw_rows_of(text, drawn, rows, grid),
     }
@@ -185,23 +177,21 @@ pub(crate) fn redraw_pane<T: Marked + Drop>(
     found: &Found<T>,
     text: &T,
     drawn: &DrawnText,
-    above: usize,
-    earlier: &Option<Earlier>,
+    earlier: &Option<Shown>,
     rows: &mut RowSet,
     grid: &mut Grid,
 )
     requires kept { HasBuffer found.now.name found.now.all }
-    requires read { IsReadOf found.now drawn.now (T.text text.now) }
+    requires read { IsReadOf found.now drawn.now.shown (T.text text.now) }
     requires pane { IsPane (T.text text.now) drawn.now grid.old }
-    requires above { line_of (T.text text.now) drawn.now.start ≡ above }
     requires stands { MayStand (buffers_of found.now.all) grid.old found.now.name drawn.now.first drawn.now.height earlier.now }
-    ensures grid { grid.new ≡ showing drawn.now drawn.now.row drawn.now.shift (T.text text.now) grid.old }
+    ensures grid { grid.new ≡ showing drawn.now drawn.now.shown.row drawn.now.shown.shift (T.text text.now) grid.old }
     ensures drawn { IsDrawnOn rows.old rows.new grid.old grid.new }
 {
     let Some(earlier) = earlier else {
         draw_rows_of(text, drawn, rows, grid);
         return;
     };
-    let change = change_since(found, text, drawn, above, earlier);
-    redraw_rows(change, text, drawn, above, earlier, rows, grid);
+    let change = change_since(found, text, &drawn.shown, earlier);
+    redraw_rows(change, text, drawn, earlier, rows, grid);
 }

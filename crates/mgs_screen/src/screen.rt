@@ -17,7 +17,7 @@ ghost use Rattle.mgs_screen.specs.Screens.{AreMarksOf, IsScreenOf, ReadsAll, fou
 ghost use Rattle.mgs_screen.specs.TextsDrawn.{AreStanding, AreStandingAround, DoesShowMode, IsStopOf, heading_of, mode_text, pushed, told_as};
 
 use crate::change::stop_since;
-use crate::drawn_texts::{DrawnText, DrawnTexts, Earlier, ModeLine};
+use crate::drawn_texts::{DrawnText, DrawnTexts, ModeLine, Shown};
 use crate::last_row::redraw_last_row;
 use crate::listing::draw_rows;
 use crate::measuring::measure;
@@ -107,7 +107,7 @@ fn seen<T: Marked + Drop>(
 }
 
 /// The tab stop that is known of a text that was drawn earlier.
-fn known_stop<T: Marked + Drop>(found: &Found<T>, earlier: &Option<Earlier>) -> Option<TabStop>
+fn known_stop<T: Marked + Drop>(found: &Found<T>, earlier: &Option<Shown>) -> Option<TabStop>
     requires { HasBuffer found.now.name found.now.all }
     ensures { IsStopOf (buffers_of found.now.all) found.now.name earlier.now (marked_at found.now.name found.now.all).buffer.text result }
 {
@@ -159,7 +159,7 @@ fn is_same_mode(a: &ModeLine, b: &ModeLine) -> bool
 fn redraw_mode(
     name: &Name,
     mode: &ModeLine,
-    earlier: &Option<Earlier>,
+    earlier: &Option<Shown>,
     row: usize,
     rows: &mut RowSet,
     grid: &mut Grid,
@@ -209,19 +209,23 @@ fn redraw_text<T: Marked + Drop>(
     let known = known_stop(found, &earlier);
     let measures = measure(text, window_marks, place.selected, cols, known);
     let mode = mode_of(heading, measures.line + 1, measures.column);
-    let drawn = DrawnText {
-        name: *name,
+    let shown = Shown {
         serial: found.serial(),
         size: text.len(),
+        above: measures.above,
         start: measures.start,
-        first: place.first,
-        height,
         row: measures.row,
         shift: measures.shift,
         stop: measures.stop,
         mode,
     };
-    redraw_pane(found, text, &drawn, measures.above, &earlier, rows, grid);
+    let drawn = DrawnText {
+        name: *name,
+        first: place.first,
+        height,
+        shown,
+    };
+    redraw_pane(found, text, &drawn, &earlier, rows, grid);
     redraw_mode(name, &mode, &earlier, place.first + height, rows, grid);
     texts.push_text(&drawn);
     (measures.row.min(height - 1), measures.col)

@@ -27,12 +27,16 @@ returns-clause-is g c =
     subst (λ (n : ℕ). IsMeasured text (position_in marks c.args.window_marks.now.point) n line row place start) (sym (ap or_zero c.pos-top.ensures.value)) (
     subst (λ (n : ℕ). IsMeasured text n top line row place start) (sym (ap or_zero c.pos-point.ensures.value)) is)
 
-pub returns-clause-above : goal.returns-clause-above
-returns-clause-above g c =
+pub returns-clause-top : goal.returns-clause-top
+returns-clause-top g c =
     let text : List ℕ = g.T.Text.text c.args.text.now in
     let top : ℕ = c.pos-top.result in
     let from : c.start_of.result ≡ line_start text top = c.start_of.ensures.value ∙ ap (λ (n : ℕ). start_of n text) c.line_of-above.ensures ∙ start_of_line text top c.pos-top.ensures.within in
-    ap (line_of text) from ∙ line_of_start text top c.pos-top.ensures.within ∙ sym c.line_of-above.ensures
+    record {
+      within = c.start_of.ensures.within;
+      number = ap (line_of text) from ∙ line_of_start text top c.pos-top.ensures.within ∙ sym c.line_of-above.ensures;
+      begins = sym c.start_of.ensures.value;
+    }
 
 pub near_stop-stop-requires-clause-stop : goal.near_stop-stop-requires-clause-stop
 near_stop-stop-requires-clause-stop g c =

@@ -1,4 +1,4 @@
-use Rattle.std.proofs.Common.{◌≡◌, ◌+◌, ℕ, List, drop, length, sym, ap, ◌∙◌, arith}
+use Rattle.std.proofs.Common.{◌≡◌, ◌+◌, ℕ, List, drop, length, ap, ◌∙◌, arith}
 use Rattle.mgs_model.specs.Lines.{start_of}
 use Rattle.mgs_model.specs.Picture.{Picture}
 use Rattle.mgs_model.specs.Rows.{Row, text_rows, shift_at}
@@ -18,13 +18,13 @@ returns-clause-grid g c = λ top from olds column stand same.
     let row : ℕ = c.args.row in
     let at : ℕ = d.first + row in
     let begin = c.begin_at-begin.result in
-    let start : ℕ = start_of (c.args.above + row) text in
-    let drawn = but_one row d.first d.height d.start start top from c.args.shift text olds p c.rows-rows.ensures.picture.count c.requires.pane.room c.if-row-drawn.false
-    (start_down c.args.above row d.start text (ap (λ n. start_of n text) (sym c.requires.above) ∙ c.requires.pane.start)) column stand same in
+    let start : ℕ = start_of (d.shown.above + row) text in
+    let drawn = but_one row d.first d.height d.shown.start start top from c.args.shift text olds p c.rows-rows.ensures.picture.count c.requires.pane.room c.if-row-drawn.false
+    (start_down d.shown.above row d.shown.start text c.requires.pane.top.begins) column stand same in
     c.draw_text_row.ensures.row
     ∙ ap (λ (ls : List Row). record p { lines = ls }) (
     row_same at begin.shift c.args.shift begin.place start text p (c.begin_at-begin.ensures.row p.cols)
-    ∙ text_by_row row at start c.args.shift d.first d.height text d.start top from p c.rows-rows.ensures.picture.count drawn)
+    ∙ text_by_row row at start c.args.shift d.first d.height text d.shown.start top from p c.rows-rows.ensures.picture.count drawn)
 
 pub returns-clause-drawn : goal.returns-clause-drawn
 returns-clause-drawn g c =
@@ -41,4 +41,4 @@ returns-clause-drawn g c =
 pub returns-then-row-drawn-clause-grid : goal.returns-then-row-drawn-clause-grid
 returns-then-row-drawn-clause-grid g c = λ top from olds column stand same.
     let d = c.args.drawn.now in
-    out_of_sight c.args.row d.first d.height d.start top from (g.T.Text.text c.args.text.now) olds c.args.grid.now c.rows-rows.ensures.picture.count c.requires.pane.room c.if-row-drawn.true stand same
+    out_of_sight c.args.row d.first d.height d.shown.start top from (g.T.Text.text c.args.text.now) olds c.args.grid.now c.rows-rows.ensures.picture.count c.requires.pane.room c.if-row-drawn.true stand same

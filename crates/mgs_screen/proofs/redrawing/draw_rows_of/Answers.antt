@@ -10,8 +10,8 @@ returns-clause-drawn g c =
     let p : Picture = c.args.grid.now in
     let q : Picture = c.draw_text.new.self in
     let d = c.args.drawn.now in
-    let rest : List ℕ = drop d.start (g.T.Text.text c.args.text.now) in
-    let pane : List Row = text_rows p.cols (shift_at d.row d.shift) 0 d.height rest in
-    let size : length pane ≡ d.height = length-text_rows p.cols (shift_at d.row d.shift) 0 d.height rest in
+    let rest : List ℕ = drop d.shown.start (g.T.Text.text c.args.text.now) in
+    let pane : List Row = text_rows p.cols (shift_at d.shown.row d.shown.shift) 0 d.height rest in
+    let size : length pane ≡ d.height = length-text_rows p.cols (shift_at d.shown.row d.shown.shift) 0 d.height rest in
     put_drawn c.args.rows.now c.insert_rows.new.self d.first d.height pane p q
     (is_put d.first pane p q c.draw_text.ensures (omega (arith, size, c.requires.pane.room, c.rows-rows.ensures.picture.count))) size c.insert_rows.ensures.kept c.insert_rows.ensures.put

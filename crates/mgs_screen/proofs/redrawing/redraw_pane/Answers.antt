@@ -10,7 +10,7 @@ use Rattle.mgs_world.proofs.Found.{found_buffer}
 use Rattle.mgs_screen.specs.Changes.{IsChange}
 use Rattle.mgs_screen.specs.TextsDrawn.{Stands, text_then}
 use Rattle.mgs_screen.specs.declared.drawn_texts.DrawnText.{DrawnText}
-use Rattle.mgs_screen.specs.declared.drawn_texts.Earlier.{Earlier}
+use Rattle.mgs_screen.specs.declared.drawn_texts.Shown.{Shown}
 use Rattle.mgs_screen.proofs.redrawing.redraw_pane.Goals as goal
 
 pub returns-clause-grid : goal.returns-clause-grid
@@ -23,8 +23,8 @@ returns-clause-grid g c =
     let then : DrawnText = text_then name d.first d.height e in
     let b : Buffer = (marked_at name ks).buffer in
     let text : List ℕ = g.T.Text.text c.args.text.now in
-    let s : Stands (buffers_of ks) p then = subst (λ (o : Option Earlier). IfSome o (λ x. Stands (buffers_of ks) p (text_then name d.first d.height x))) c.in-Some.is c.requires.stands in
+    let s : Stands (buffers_of ks) p then = subst (λ (o : Option Shown). IfSome o (λ x. Stands (buffers_of ks) p (text_then name d.first d.height x))) c.in-Some.is c.requires.stands in
     let now : s.now ≡ b = same_Some s.now b (sym s.found ∙ found_buffer name ks c.requires.kept) in
     let follows : Follows s.drawn b = subst (λ (x : Buffer). Follows s.drawn x) now s.follows in
-    let change : IsChange c.change_since-change.result e.start d.start s.drawn.text text = c.change_since-change.ensures s.drawn s.serial s.size follows in
+    let change : IsChange c.change_since-change.result e.start d.shown.start s.drawn.text text = c.change_since-change.ensures s.drawn s.serial s.size follows in
     c.redraw_rows.ensures.grid s.drawn.text s.rows change

@@ -12,8 +12,8 @@ returns-in-Nothing-clause-grid g c = λ old stand change.
     let d = c.args.drawn.now in
     let e = c.args.earlier.now in
     let text : List ℕ = g.T.Text.text c.args.text.now in
-    let same : drop e.start old ≡ drop d.start text = subst (λ (x : Change). IsChange x e.start d.start old text) c.in-Nothing.is change in
-    c.shift_rows.ensures.grid (shown_moved d e.start e.row e.shift old text p stand same)
+    let same : drop e.start old ≡ drop d.shown.start text = subst (λ (x : Change). IsChange x e.start d.shown.start old text) c.in-Nothing.is change in
+    c.shift_rows.ensures.grid (shown_moved d e e.row e.shift old text p stand same)
 
 pub returns-in-Line-clause-grid : goal.returns-in-Line-clause-grid
 returns-in-Line-clause-grid g c = λ old stand change.
@@ -24,10 +24,10 @@ returns-in-Line-clause-grid g c = λ old stand change.
     let e = c.args.earlier.now in
     let shift : ℕ = c.draw_line_of-shift.result in
     let text : List ℕ = g.T.Text.text c.args.text.now in
-    let edited : IsLineEdited c.in-Line.down e.start d.start old text = subst (λ (x : Change). IsChange x e.start d.start old text) c.in-Line.is change in
+    let edited : IsLineEdited c.in-Line.down e.start d.shown.start old text = subst (λ (x : Change). IsChange x e.start d.shown.start old text) c.in-Line.is change in
     let begins : d.first ≤ length p.lines = omega (arith, c.requires.pane.room, c.rows-rows.ensures.picture.count) in
-    let first = c.draw_line_of-shift.ensures.grid e.start old stand edited in
-    shown_over d e.row shift d.row d.shift text text p q r begins first (c.shift_rows-in-Line.ensures.grid (shown_there d e.row shift text p q begins first))
+    let first = c.draw_line_of-shift.ensures.grid e old stand edited in
+    shown_over d e.row shift d.shown.row d.shown.shift text text p q r begins first (c.shift_rows-in-Line.ensures.grid (shown_there d e.row shift text p q begins first))
 
 pub returns-in-Line-clause-drawn : goal.returns-in-Line-clause-drawn
 returns-in-Line-clause-drawn g c =

@@ -14,5 +14,5 @@ returns-clause-grid g c = λ stand.
     let p : Picture = c.args.grid.now in
     let d = c.args.drawn.now in
     let row : ℕ = c.args.row in
-    let rest : List ℕ = drop d.start (g.T.Text.text c.args.text.now) in
+    let rest : List ℕ = drop d.shown.start (g.T.Text.text c.args.text.now) in
     c.draw_row_of.ensures.grid row c.args.to (text_rows p.cols (shift_at row c.args.from) 0 d.height rest) (shift_here row c.args.to row refl) stand (row_shifted p.cols row c.args.from c.args.to d.height rest)

@@ -10,7 +10,7 @@ returns-then-row-drawn-clause-grid g c = λ stand.
     let p : Picture = c.args.grid.now in
     let d = c.args.drawn.now in
     let text : List ℕ = g.T.Text.text c.args.text.now in
-    subst (λ (n : ℕ). c.shift_row.new.grid ≡ showing d n d.shift text p) c.if-row-drawn.true (c.shift_row.ensures.grid stand)
+    subst (λ (n : ℕ). c.shift_row.new.grid ≡ showing d n d.shown.shift text p) c.if-row-drawn.true (c.shift_row.ensures.grid stand)
 
 pub returns-clause-grid : goal.returns-clause-grid
 returns-clause-grid g c = λ stand.
@@ -22,8 +22,8 @@ returns-clause-grid g c = λ stand.
     let text : List ℕ = g.T.Text.text c.args.text.now in
     let begins : d.first ≤ length p.lines = omega (arith, c.requires.pane.room, c.rows-rows.ensures.picture.count) in
     let first = c.shift_row-2.ensures.grid stand in
-    shown_over d row 0 d.row d.shift text text p q r begins first
-    (c.shift_row-3.ensures.grid (shown_unshifted d row d.row text q (shown_there d row 0 text p q begins first)))
+    shown_over d row 0 d.shown.row d.shown.shift text text p q r begins first
+    (c.shift_row-3.ensures.grid (shown_unshifted d row d.shown.row text q (shown_there d row 0 text p q begins first)))
 
 pub returns-clause-drawn : goal.returns-clause-drawn
 returns-clause-drawn g c =

@@ -7,7 +7,7 @@ use Rattle.mgs_buffers.specs.MarkedBuffer.{MarkedBuffer, marked_at}
 use Rattle.mgs_world.specs.Worlds.{buffers_of}
 use Rattle.mgs_world.proofs.Found.{found_buffer}
 use Rattle.mgs_screen.specs.TextsDrawn.{Stands, text_then}
-use Rattle.mgs_screen.specs.declared.drawn_texts.Earlier.{Earlier}
+use Rattle.mgs_screen.specs.declared.drawn_texts.Shown.{Shown}
 use Rattle.mgs_screen.proofs.screen.known_stop.Goals as goal
 
 pub returns-in-Some : goal.returns-in-Some
@@ -16,6 +16,6 @@ returns-in-Some g c = λ p first height known.
     let name : List ℕ = c.args.found.now.name in
     let b : Buffer = (marked_at name ks).buffer in
     let s : Stands (buffers_of ks) p (text_then name first height c.in-Some.earlier) =
-    subst (λ (o : Option Earlier). IfSome o (λ x. Stands (buffers_of ks) p (text_then name first height x))) c.in-Some.is known in
+    subst (λ (o : Option Shown). IfSome o (λ x. Stands (buffers_of ks) p (text_then name first height x))) c.in-Some.is known in
     let now : s.now ≡ b = same_Some s.now b (sym s.found ∙ found_buffer name ks c.requires) in
     c.stop_since.ensures s.drawn s.serial s.stop (subst (λ (x : Buffer). Follows s.drawn x) now s.follows)

@@ -3,7 +3,7 @@ use Rattle.std.specs.Prelude.{Option, Some, IfSome}
 use Rattle.mgs_model.specs.Picture.{Picture}
 use Rattle.mgs_model.specs.Rows.{Row, buffer_mode, mode_row}
 use Rattle.mgs_screen.specs.TextsDrawn.{DoesShowMode}
-use Rattle.mgs_screen.specs.declared.drawn_texts.Earlier.{Earlier}
+use Rattle.mgs_screen.specs.declared.drawn_texts.Shown.{Shown}
 use Rattle.mgs_screen.specs.declared.drawn_texts.ModeLine.{ModeLine}
 use Rattle.mgs_screen.proofs.Canvas.{is_put, row_drawn}
 use Rattle.mgs_screen.proofs.TextsDrawn.{mode_there}
@@ -14,7 +14,7 @@ returns-then-is_same_mode-clause-grid c =
     let p : Picture = c.args.grid.now in
     let row : ℕ = c.args.row in
     let name : List ℕ = c.args.name.now in
-    let stand : DoesShowMode row name c.in-Some.earlier.mode p = subst (λ (o : Option Earlier). IfSome o (λ x. DoesShowMode row name x.mode p)) c.in-Some.is c.requires.stands in
+    let stand : DoesShowMode row name c.in-Some.earlier.mode p = subst (λ (o : Option Shown). IfSome o (λ x. DoesShowMode row name x.mode p)) c.in-Some.is c.requires.stands in
     let same : c.in-Some.earlier.mode ≡ c.args.mode.now = c.is_same_mode.ensures c.if-is_same_mode.true in
     mode_there row name c.args.mode.now p (omega (arith, c.requires.room, c.rows-rows.ensures.picture.count)) (subst (λ (m : ModeLine). DoesShowMode row name m p) same stand)
 

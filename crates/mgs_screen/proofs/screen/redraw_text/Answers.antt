@@ -1,6 +1,5 @@
 use Rattle.std.proofs.Common.{◌≡◌, ◌+◌, ◌++◌, ℕ, Bool, List, [], ◌∷◌, Some, length, drop, sym, ap, subst, ◌∙◌, arith}
 use Rattle.std.specs.Prelude.{Option, IfSome}
-use Rattle.mgs_model.specs.Lines.{start_of}
 use Rattle.mgs_model.specs.Picture.{Picture}
 use Rattle.mgs_model.specs.World.{Buffer, find_buffer}
 use Rattle.mgs_model.specs.Rows.{Row, buffer_mode, mode_row, text_rows, shift_at}
@@ -14,7 +13,7 @@ use Rattle.mgs_screen.specs.Screens as screens
 use Rattle.mgs_screen.specs.TextsDrawn.{DoesShowMode, Stands, mode_text, text_then, told_as}
 use Rattle.mgs_screen.specs.TabStops.{IsTabStop}
 use Rattle.mgs_screen.specs.declared.drawn_texts.DrawnText.{DrawnText}
-use Rattle.mgs_screen.specs.declared.drawn_texts.Earlier.{Earlier}
+use Rattle.mgs_screen.specs.declared.drawn_texts.Shown.{Shown}
 use Rattle.mgs_screen.proofs.Drawings.{pane_put, text_drawn, window_marks_drawn}
 use Rattle.mgs_screen.proofs.Canvas.{IsPut, drawn_then, is_put}
 use Rattle.mgs_screen.proofs.TextsDrawn.{found_stands, mode_stands, mode_stays, texts_kept}
@@ -26,8 +25,7 @@ redraw_pane-requires-clause-pane g c =
     record {
       room = omega (arith, c.requires.room.rows);
       short = omega (arith, c.text-text.ensures.limit);
-      within = m.within;
-      start = ap (λ n. start_of n (g.T.Text.text c.text-text.result.now)) m.above ∙ m.start;
+      top = m.top;
       stop = m.stop;
       shift = m.near;
     }
@@ -38,7 +36,7 @@ measure-measures-requires-clause-known g c =
     let first : ℕ = c.args.place.first in
     let name : List ℕ = c.args.found.now.name in
     let bs : List Buffer = buffers_of c.args.found.now.all in
-    let o : Option Earlier = c.drawn-earlier.result in
+    let o : Option Shown = c.drawn-earlier.result in
     let stands : IfSome o (λ e. Stands bs p (text_then name first c.args.height e)) = found_stands bs p c.args.drawn_texts.now c.args.place.index c.name-name.result.now name first c.args.height o c.requires.stands.from c.name-name.ensures.value c.drawn-earlier.ensures in
     subst (λ (ys : List ℕ). IfSome c.known_stop-known.result (IsTabStop ys)) (sym c.text-text.ensures.text) (c.known_stop-known.ensures p first c.args.height stands)
 
@@ -48,7 +46,7 @@ redraw_pane-requires-clause-stands g c =
     let first : ℕ = c.args.place.first in
     let name : List ℕ = c.args.found.now.name in
     let bs : List Buffer = buffers_of c.args.found.now.all in
-    let o : Option Earlier = c.drawn-earlier.result in
+    let o : Option Shown = c.drawn-earlier.result in
     found_stands bs p c.args.drawn_texts.now c.args.place.index c.name-name.result.now name first c.args.height o c.requires.stands.from c.name-name.ensures.value c.drawn-earlier.ensures
 
 pub returns-clause-lines : goal.returns-clause-lines
@@ -87,7 +85,7 @@ returns-clause-stands g c =
     let b : Buffer = (marked_at c.args.found.now.name ks).buffer in
     let text : List ℕ = g.T.Text.text c.text-text.result.now in
     let m = c.measure-measures.result in
-    let d : DrawnText = record { name = c.name-name.result.now; serial = c.serial.result; size = c.len.result; start = m.start; first = first; height = height; row = m.row; shift = m.shift; stop = m.stop; mode = c.mode_of-mode.result } in
+    let d : DrawnText = record { name = c.name-name.result.now; first = first; height = height; shown = record { serial = c.serial.result; size = c.len.result; above = m.above; start = m.start; row = m.row; shift = m.shift; stop = m.stop; mode = c.mode_of-mode.result } } in
     let rest : List ℕ = drop m.start text in
     let pane : List Row = text_rows p.cols (shift_at m.row m.shift) 0 height rest in
     let mode : List ℕ = mode_text c.name-name.result.now c.mode_of-mode.result in
@@ -96,7 +94,7 @@ returns-clause-stands g c =
     pane_put first height pane mode p c.redraw_pane.new.grid q c.requires.room.rows c.cols-cols.ensures.picture.count size c.redraw_pane.ensures.grid c.redraw_mode.ensures.grid in
     let there : find_buffer d.name (buffers_of ks) ≡ Some b = ap (λ (n : List ℕ). find_buffer n (buffers_of ks)) c.name-name.ensures.value ∙ found_buffer c.args.found.now.name ks c.name-name.ensures.kept in
     texts_kept (buffers_of ks) p q d b text c.args.drawn_texts.now c.args.texts.now c.push_text.new.self put
-    there c.serial.ensures c.len.ensures.value c.measure-measures.ensures.within c.measure-measures.ensures.stop c.text-text.ensures.text c.push_text.ensures c.requires.stands
+    there c.serial.ensures c.len.ensures.value c.measure-measures.ensures.top.within c.measure-measures.ensures.stop c.text-text.ensures.text c.push_text.ensures c.requires.stands
 
 pub redraw_mode-requires-clause-stands : goal.redraw_mode-requires-clause-stands
 redraw_mode-requires-clause-stands g c =
@@ -105,7 +103,7 @@ redraw_mode-requires-clause-stands g c =
     let height : ℕ = c.args.height in
     let name : List ℕ = c.args.found.now.name in
     let bs : List Buffer = buffers_of c.args.found.now.all in
-    let o : Option Earlier = c.drawn-earlier.result in
+    let o : Option Shown = c.drawn-earlier.result in
     let m = c.measure-measures.result in
     let rest : List ℕ = drop m.start (g.T.Text.text c.text-text.result.now) in
     let pane : List Row = text_rows p.cols (shift_at m.row m.shift) 0 height rest in
