@@ -23,7 +23,8 @@ use Rattle.mgs_buffers.specs.Told.{attributes_to, attributes_found}
 use Rattle.mgs_grid.specs.Lists.{acl_mode}
 use Rattle.mgs_world.specs.Worlds.{buffers_of}
 use Rattle.mgs_world.proofs.Found.{found_seen, name_kept}
-use Rattle.mgs_screen.specs.Listings.{entries_to, entries_told, name_to, place_in, past_sight, row_drawn, buffer_drawn, drawn, listed}
+use Rattle.mgs_screen.specs.Listings.{entries_to, entries_told, name_to, past_sight, row_drawn, buffer_drawn, drawn, listed}
+use Rattle.mgs_screen.specs.declared.listing.Sight.{Sight}
 use Rattle.mgs_screen.proofs.Sights.{row_more, drawn_past}
 
 -- WHAT IS TOLD OF A BUFFER
@@ -72,22 +73,22 @@ listed_more d user ks i within =
     ∙ ap (λ (o : Option MarkedBuffer). listed d user front ++ if_granted (attributes_found d user o)) (sym (slice_get-get_or ks i (marked_at [] []) within))
 
 -- the others are past the sight
-pub listing_past : (first h row n i : ℕ) (d : Directory) (user : List ℕ) (ks : List MarkedBuffer) (p : Picture) → n ≡ length (listed d user (take i ks)) → past_sight h row n ≡ true
-    → drawn first h row (map listing_text (listed d user (take i ks))) p ≡ drawn first h row (map listing_text (listed d user ks)) p
-listing_past first h row n i d user ks p is past =
+pub listing_past : (s : Sight) (n i : ℕ) (d : Directory) (user : List ℕ) (ks : List MarkedBuffer) (p : Picture) → n ≡ length (listed d user (take i ks)) → past_sight s n ≡ true
+    → drawn s (map listing_text (listed d user (take i ks))) p ≡ drawn s (map listing_text (listed d user ks)) p
+listing_past s n i d user ks p is past =
     let xs : List Attributes = listed d user (take i ks) in
     let ys : List Attributes = listed d user (drop i ks) in
-    drawn_past first h row n (map listing_text xs) (map listing_text ys) p (is ∙ sym (length-map xs listing_text)) past
-    ∙ ap (λ (texts : List (List ℕ)). drawn first h row texts p) (sym (map-append listing_text xs ys))
-    ∙ ap (λ (told : List Attributes). drawn first h row (map listing_text told) p) (sym (listed_append d user (take i ks) (drop i ks)) ∙ ap (listed d user) (take-append-drop i ks))
+    drawn_past s n (map listing_text xs) (map listing_text ys) p (is ∙ sym (length-map xs listing_text)) past
+    ∙ ap (λ (texts : List (List ℕ)). drawn s texts p) (sym (map-append listing_text xs ys))
+    ∙ ap (λ (told : List Attributes). drawn s (map listing_text told) p) (sym (listed_append d user (take i ks) (drop i ks)) ∙ ap (listed d user) (take-append-drop i ks))
 
-pub buffer_more : (first h row n : ℕ) (xs : List Attributes) (o : Option Attributes) (p : Picture) → n ≡ length xs → first + h ≤ length p.lines
-    → buffer_drawn first h row n o (drawn first h row (map listing_text xs) p) ≡ drawn first h row (map listing_text (xs ++ if_granted o)) p
-buffer_more first h row n xs None p is fits = ap (λ (told : List Attributes). drawn first h row (map listing_text told) p) (sym (append-nil xs))
-buffer_more first h row n xs (Some a) p is fits =
-    ap (λ (k : ℕ). row_drawn (place_in first h row k) (listing_text a) (drawn first h row (map listing_text xs) p)) (is ∙ sym (length-map xs listing_text))
-    ∙ row_more first h row (map listing_text xs) (listing_text a) p fits
-    ∙ ap (λ (texts : List (List ℕ)). drawn first h row texts p) (sym (map-append listing_text xs (a ∷ [])))
+pub buffer_more : (s : Sight) (n : ℕ) (xs : List Attributes) (o : Option Attributes) (p : Picture) → n ≡ length xs → s.first + s.height ≤ length p.lines
+    → buffer_drawn s n o (drawn s (map listing_text xs) p) ≡ drawn s (map listing_text (xs ++ if_granted o)) p
+buffer_more s n xs None p is fits = ap (λ (told : List Attributes). drawn s (map listing_text told) p) (sym (append-nil xs))
+buffer_more s n xs (Some a) p is fits =
+    ap (λ (k : ℕ). row_drawn s k (listing_text a) (drawn s (map listing_text xs) p)) (is ∙ sym (length-map xs listing_text))
+    ∙ row_more s (map listing_text xs) (listing_text a) p fits
+    ∙ ap (λ (texts : List (List ℕ)). drawn s texts p) (sym (map-append listing_text xs (a ∷ [])))
 
 -- AN ACCESS LIST
 
@@ -99,30 +100,30 @@ entries_texts_append : (n m : ℕ) (xs ys : List Entry) → m ≡ n + length xs 
 entries_texts_append n m [] ys is = ap (λ (k : ℕ). entries_texts k ys) (omega (arith, is))
 entries_texts_append n m (x ∷ xs) ys is = ap (λ (texts : List (List ℕ)). (decimal n ++ 32 ∷ entry_text x) ∷ texts) (entries_texts_append (n + 1) m xs ys (omega (arith, is)))
 
-pub entry_more : (first h row i : ℕ) (es : List Entry) (e : Entry) (p now new : Picture) → i < length es → e ≡ get_or es i e → first + h ≤ length p.lines
-    → now ≡ drawn first h row (entries_texts 1 (take i es)) p
-    → new ≡ row_drawn (place_in first h row i) (decimal (i + 1) ++ 32 ∷ entry_text e) now
-    → new ≡ drawn first h row (entries_texts 1 (take (i + 1) es)) p
-entry_more first h row i es e p now new within at fits so_far put =
+pub entry_more : (s : Sight) (i : ℕ) (es : List Entry) (e : Entry) (p now new : Picture) → i < length es → e ≡ get_or es i e → s.first + s.height ≤ length p.lines
+    → now ≡ drawn s (entries_texts 1 (take i es)) p
+    → new ≡ row_drawn s i (decimal (i + 1) ++ 32 ∷ entry_text e) now
+    → new ≡ drawn s (entries_texts 1 (take (i + 1) es)) p
+entry_more s i es e p now new within at fits so_far put =
     let texts : List (List ℕ) = entries_texts 1 (take i es) in
     let text : List ℕ = decimal (i + 1) ++ 32 ∷ entry_text e in
     let n : length (take i es) ≡ i = length-take-le i es (omega (arith, within)) in
     let size : i ≡ length texts = sym (length-entries_texts 1 (take i es) ∙ n) in
     let more : take (i + 1) es ≡ take i es ++ e ∷ [] = take_more es i e within ∙ ap (λ (x : Entry). take i es ++ x ∷ []) (sym at) in
     put
-    ∙ ap (row_drawn (place_in first h row i) text) so_far
-    ∙ ap (λ (k : ℕ). row_drawn (place_in first h row k) text (drawn first h row texts p)) size
-    ∙ row_more first h row texts text p fits
-    ∙ ap (λ (ts : List (List ℕ)). drawn first h row ts p) (sym (ap (entries_texts 1) more ∙ entries_texts_append 1 (i + 1) (take i es) (e ∷ []) (omega (arith, n))))
+    ∙ ap (row_drawn s i text) so_far
+    ∙ ap (λ (k : ℕ). row_drawn s k text (drawn s texts p)) size
+    ∙ row_more s texts text p fits
+    ∙ ap (λ (ts : List (List ℕ)). drawn s ts p) (sym (ap (entries_texts 1) more ∙ entries_texts_append 1 (i + 1) (take i es) (e ∷ []) (omega (arith, n))))
 
 -- the others are past the sight
-pub entries_past : (first h row i : ℕ) (es : List Entry) (p : Picture) → i < length es → past_sight h row i ≡ true
-    → drawn first h row (entries_texts 1 (take i es)) p ≡ drawn first h row (entries_texts 1 es) p
-entries_past first h row i es p within past =
+pub entries_past : (s : Sight) (i : ℕ) (es : List Entry) (p : Picture) → i < length es → past_sight s i ≡ true
+    → drawn s (entries_texts 1 (take i es)) p ≡ drawn s (entries_texts 1 es) p
+entries_past s i es p within past =
     let front : List Entry = take i es in
     let n : length front ≡ i = length-take-le i es (omega (arith, within)) in
-    drawn_past first h row i (entries_texts 1 front) (entries_texts (i + 1) (drop i es)) p (sym (length-entries_texts 1 front ∙ n)) past
-    ∙ ap (λ (ts : List (List ℕ)). drawn first h row ts p) (sym (entries_texts_append 1 (i + 1) front (drop i es) (omega (arith, n))) ∙ ap (entries_texts 1) (take-append-drop i es))
+    drawn_past s i (entries_texts 1 front) (entries_texts (i + 1) (drop i es)) p (sym (length-entries_texts 1 front ∙ n)) past
+    ∙ ap (λ (ts : List (List ℕ)). drawn s ts p) (sym (entries_texts_append 1 (i + 1) front (drop i es) (omega (arith, n))) ∙ ap (entries_texts 1) (take-append-drop i es))
 
 -- the pane of a buffer's access list
 pub entries_pane_is : (selected : Bool) (cols h row : ℕ) (d : Directory) (user name : List ℕ) (ks : List MarkedBuffer) → HasBuffer name ks

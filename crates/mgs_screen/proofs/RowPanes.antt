@@ -5,7 +5,7 @@ use Rattle.mgs_model.specs.Access.{Directory, decider, decision_by}
 use Rattle.mgs_model.specs.Rows.{Row, mode_row, buffer_mode, none_mode, blank_rows, unread_rows}
 use Rattle.mgs_model.specs.World.{may}
 use Rattle.mgs_model.specs.View.{BufferSeen, buffer_seen, find_seen, reads, window_seen}
-use Rattle.mgs_model.specs.Seen.{WindowPane, entries_pane, attributes_of, window_pane}
+use Rattle.mgs_model.specs.Seen.{No_pane, WindowPane, entries_pane, attributes_of, window_pane}
 use Rattle.mgs_model.specs.Draw.{pane_rows, pane_cursor, rows_from, name_or_mask, window_rows}
 use Rattle.mgs_model.specs.declared.right.Right.TheVariants.{ReadData}
 use Rattle.mgs_model.specs.declared.entry.Decision.{Decision}
@@ -47,8 +47,8 @@ cursor_rowed cols height d user ks (Entries name row) = by (find_seen name (map 
     by (Some b) = refl
 
 -- an access list of a buffer that is not there
-pub entries_gone : (d : Directory) (user name : List ℕ) (ks : List MarkedBuffer) (row : ℕ) (selected : Bool) (cols height : ℕ) → has_buffer name ks ≡ false → pane_rows selected cols height (entries_to d user ks name row) ≡ blank_rows cols height ++ mode_row cols none_mode ∷ []
-entries_gone d user name ks row selected cols height gone = ap (λ (o : Option BufferSeen). pane_rows selected cols height (entries_pane row o)) (unseen d user name ks gone)
+pub entries_gone : (d : Directory) (user name : List ℕ) (ks : List MarkedBuffer) (row : ℕ) → has_buffer name ks ≡ false → entries_to d user ks name row ≡ No_pane
+entries_gone d user name ks row gone = ap (λ (o : Option BufferSeen). entries_pane row o) (unseen d user name ks gone)
 
 length_list : (cols height row : ℕ) (texts : List (List ℕ)) (mode : Row) → length (rows_from cols height row texts ++ mode ∷ []) ≡ height + 1
 length_list cols height row texts mode = omega (arith, length-append (rows_from cols height row texts) (mode ∷ []), length-rows_from cols height row texts)

@@ -8,7 +8,8 @@ use Rattle.mgs_grid.specs.Cells.{rows_put}
 use Rattle.mgs_model.specs.Draw.{rows_from}
 use Rattle.mgs_model.specs.Picture.{Picture}
 use Rattle.mgs_grid.proofs.Pictures.{length-rows_put}
-use Rattle.mgs_screen.specs.Listings.{place_in, past_sight, row_drawn, drawn}
+use Rattle.mgs_screen.specs.Listings.{past_sight, row_drawn, drawn}
+use Rattle.mgs_screen.specs.declared.listing.Sight.{Sight}
 use Rattle.mgs_screen.proofs.Drawings.{below_rows}
 
 -- A ROW IN A LIST OF ROWS
@@ -108,43 +109,43 @@ from_past cols h row texts more from past =
 with_rows : (first : ℕ) (p : Picture) (a b : List Row) → a ≡ b → record p { lines = rows_put first a p.lines } ≡ record p { lines = rows_put first b p.lines }
 with_rows first p a b e = ap (λ (rows : List Row). record p { lines = rows_put first rows p.lines }) e
 
-pub row_more : (first h row : ℕ) (texts : List (List ℕ)) (text : List ℕ) (p : Picture) → first + h ≤ length p.lines
-    → row_drawn (place_in first h row (length texts)) text (drawn first h row texts p) ≡ drawn first h row (texts ++ text ∷ []) p
-row_more first h row texts text p fits =
-    let old : List Row = rows_from p.cols h row texts in
-    let new : List Row = rows_from p.cols h row (texts ++ text ∷ []) in
-    let n : length old ≡ h = length-rows_from p.cols h row texts in
-    elim (cases_lt (length texts) row) [
-      | inl before ↦ rw (lt-leb row (length texts) before) (with_rows first p old new (from_before p.cols h row texts text before))
-      | inr from ↦ elim (cases_lt (length texts - row) h) [
+pub row_more : (s : Sight) (texts : List (List ℕ)) (text : List ℕ) (p : Picture) → s.first + s.height ≤ length p.lines
+    → row_drawn s (length texts) text (drawn s texts p) ≡ drawn s (texts ++ text ∷ []) p
+row_more s texts text p fits =
+    let old : List Row = rows_from p.cols s.height s.row texts in
+    let new : List Row = rows_from p.cols s.height s.row (texts ++ text ∷ []) in
+    let n : length old ≡ s.height = length-rows_from p.cols s.height s.row texts in
+    elim (cases_lt (length texts) s.row) [
+      | inl before ↦ rw (lt-leb s.row (length texts) before) (with_rows s.first p old new (from_before p.cols s.height s.row texts text before))
+      | inr from ↦ elim (cases_lt (length texts - s.row) s.height) [
         | inl sight ↦
-            let inside : rows_put (first + (length texts - row)) (plain_row p.cols text ∷ []) (rows_put first old p.lines) ≡ rows_put first (rows_put (length texts - row) (plain_row p.cols text ∷ []) old) p.lines =
-            put_inside first (length texts - row) (plain_row p.cols text ∷ []) old p.lines (omega (arith, n, sight)) (omega (arith, n, fits)) in
-            rw (le-leb row (length texts) from, lt-ltb (length texts - row) h sight)
-            (ap (λ (rows : List Row). record p { lines = rows }) inside ∙ with_rows first p (rows_put (length texts - row) (plain_row p.cols text ∷ []) old) new (from_more p.cols h row texts text from sight))
-        | inr past ↦ rw (le-leb row (length texts) from, le-ltb (length texts - row) h past) (with_rows first p old new (from_past p.cols h row texts (text ∷ []) from past))
+            let inside : rows_put (s.first + (length texts - s.row)) (plain_row p.cols text ∷ []) (rows_put s.first old p.lines) ≡ rows_put s.first (rows_put (length texts - s.row) (plain_row p.cols text ∷ []) old) p.lines =
+            put_inside s.first (length texts - s.row) (plain_row p.cols text ∷ []) old p.lines (omega (arith, n, sight)) (omega (arith, n, fits)) in
+            rw (le-leb s.row (length texts) from, lt-ltb (length texts - s.row) s.height sight)
+            (ap (λ (rows : List Row). record p { lines = rows }) inside ∙ with_rows s.first p (rows_put (length texts - s.row) (plain_row p.cols text ∷ []) old) new (from_more p.cols s.height s.row texts text from sight))
+        | inr past ↦ rw (le-leb s.row (length texts) from, le-ltb (length texts - s.row) s.height past) (with_rows s.first p old new (from_past p.cols s.height s.row texts (text ∷ []) from past))
       ]
     ]
 
 -- from a number past the sight on, nothing more is drawn
-pub drawn_past : (first h row n : ℕ) (texts more : List (List ℕ)) (p : Picture) → n ≡ length texts → past_sight h row n ≡ true
-    → drawn first h row texts p ≡ drawn first h row (texts ++ more) p
-drawn_past first h row n texts more p is past =
-    let both : (nat_le row n ≡ true) × (nat_le h (n - row) ≡ true) = and_parts (nat_le row n) (nat_le h (n - row)) past in
-    let from : row ≤ n = leb-true row n both.0 in
-    let below : h ≤ n - row = leb-true h (n - row) both.1 in
-    with_rows first p (rows_from p.cols h row texts) (rows_from p.cols h row (texts ++ more)) (from_past p.cols h row texts more (omega (arith, is, from)) (omega (arith, is, below)))
+pub drawn_past : (s : Sight) (n : ℕ) (texts more : List (List ℕ)) (p : Picture) → n ≡ length texts → past_sight s n ≡ true
+    → drawn s texts p ≡ drawn s (texts ++ more) p
+drawn_past s n texts more p is past =
+    let both : (nat_le s.row n ≡ true) × (nat_le s.height (n - s.row) ≡ true) = and_parts (nat_le s.row n) (nat_le s.height (n - s.row)) past in
+    let from : s.row ≤ n = leb-true s.row n both.0 in
+    let below : s.height ≤ n - s.row = leb-true s.height (n - s.row) both.1 in
+    with_rows s.first p (rows_from p.cols s.height s.row texts) (rows_from p.cols s.height s.row (texts ++ more)) (from_past p.cols s.height s.row texts more (omega (arith, is, from)) (omega (arith, is, below)))
 
 -- no text
-pub drawn_none : (first h row : ℕ) (p new : Picture) → new ≡ record p { lines = rows_put first (blank_rows p.cols h) p.lines } → new ≡ drawn first h row [] p
-drawn_none first h row p new is =
-    let whole : h ≡ h - 0 = omega arith in
-    let none : blank_rows p.cols h ≡ rows_from p.cols h row [] = ap (blank_rows p.cols) whole ∙ ap (from_seen p.cols h) (sym (seen_none h row [] (omega arith))) in
-    is ∙ with_rows first p (blank_rows p.cols h) (rows_from p.cols h row []) none
+pub drawn_none : (s : Sight) (p new : Picture) → new ≡ record p { lines = rows_put s.first (blank_rows p.cols s.height) p.lines } → new ≡ drawn s [] p
+drawn_none s p new is =
+    let whole : s.height ≡ s.height - 0 = omega arith in
+    let none : blank_rows p.cols s.height ≡ rows_from p.cols s.height s.row [] = ap (blank_rows p.cols) whole ∙ ap (from_seen p.cols s.height) (sym (seen_none s.height s.row [] (omega arith))) in
+    is ∙ with_rows s.first p (blank_rows p.cols s.height) (rows_from p.cols s.height s.row []) none
 
 -- the mode line below
 pub mode_below : (first h row : ℕ) (texts : List (List ℕ)) (text : List ℕ) (old between new : Picture) → first + h ≤ length old.lines
-    → between ≡ drawn first h row texts old
+    → between ≡ drawn (record { first = first; height = h; row = row }) texts old
     → new ≡ record between { lines = rows_put (first + h) (mode_row between.cols text ∷ []) between.lines }
     → new ≡ record old { lines = rows_put first (rows_from old.cols h row texts ++ mode_row old.cols text ∷ []) old.lines }
 mode_below first h row texts text old between new fits = below_rows first h (rows_from old.cols h row texts) text old between new fits (length-rows_from old.cols h row texts)

@@ -1,19 +1,20 @@
 -- The listing of all buffers and an access list, as a screen shows them of the kept buffers.
-use Rattle.std.specs.Prelude.{◌≡◌, ℕ, Bool, ◌+◌, ◌-◌, nat_le, nat_lt, ◌&&◌, List, [], ◌∷◌, ◌++◌, map, Option, Some, None, if◌then◌else◌}
+use Rattle.std.specs.Prelude.{◌≡◌, ℕ, Bool, ◌+◌, ◌-◌, nat_le, nat_lt, ◌&&◌, List, [], ◌∷◌, map, Option, Some, None, if◌then◌else◌}
 use Rattle.std.specs.List.{flat_map}
 use Rattle.mgs_model.specs.Access.{Directory, decider, decision_by}
 use Rattle.mgs_model.specs.World.{Buffer, may}
 use Rattle.mgs_model.specs.Picture.{Picture}
-use Rattle.mgs_model.specs.Rows.{blank_rows, mode_row, none_mode, plain_row}
-use Rattle.mgs_grid.specs.Cells.{rows_put}
+use Rattle.mgs_model.specs.Rows.{plain_row}
+use Rattle.mgs_grid.specs.Panes.{with_rows}
 use Rattle.mgs_model.specs.View.{BufferSeen, buffer_seen, find_seen}
 use Rattle.mgs_model.specs.Seen.{Pane, No_pane, Attributes, EntriesSeen, Listed, Unlisted, attributes_of, if_granted, listing_pane, entries_pane}
-use Rattle.mgs_model.specs.Draw.{entries_shown, pane_rows, rows_from, listing_text}
+use Rattle.mgs_model.specs.Draw.{pane_rows, rows_from, listing_text}
 use Rattle.mgs_model.specs.declared.right.Right.TheVariants.{ReadAcl, ReadAttributes}
 use Rattle.mgs_buffers.specs.MarkedBuffer.{MarkedBuffer, marked_at}
 use Rattle.mgs_windows.specs.declared.RowPane.{RowPane}
 use Rattle.mgs_windows.specs.declared.RowPane.TheVariants.{NoRows, Buffers, Entries}
 use Rattle.mgs_world.specs.Worlds.{buffers_of}
+use Rattle.mgs_screen.specs.declared.listing.Sight.{Sight}
 
 -- the listing, as its user sees it
 abbrev pub listing_to : Directory → List ℕ → List MarkedBuffer → ℕ → Pane
@@ -32,7 +33,7 @@ rows_to directory user ks (Entries name row) = entries_to directory user ks name
 -- in its rows
 abbrev pub IsPaneDrawn : ℕ → ℕ → Pane → Picture → Picture → Type 0
 IsPaneDrawn first height pane old new =
-    (selected : Bool) → new ≡ record old { lines = rows_put first (pane_rows selected old.cols height pane) old.lines }
+    (selected : Bool) → new ≡ with_rows first (pane_rows selected old.cols height pane) old
 
 -- a buffer's entries, where its access list may be read, and else why not
 abbrev pub entries_told : Directory → List ℕ → Buffer → EntriesSeen
@@ -46,33 +47,29 @@ name_to directory user ks name = if may directory user ReadAttributes (marked_at
 -- ROWS OF A LIST
 
 -- in which row of the screen the one of a number is drawn, where it is in sight
-abbrev pub place_in : ℕ → ℕ → ℕ → ℕ → Option ℕ
-place_in first height row number = if nat_le row number && nat_lt (number - row) height then Some (first + (number - row)) else None
+abbrev pub place_in : Sight → ℕ → Option ℕ
+place_in s number = if nat_le s.row number && nat_lt (number - s.row) s.height then Some (s.first + (number - s.row)) else None
 
 -- whether the one of a number, and each after it, is below those in sight
-abbrev pub past_sight : ℕ → ℕ → ℕ → Bool
-past_sight height row number = nat_le row number && nat_le height (number - row)
+abbrev pub past_sight : Sight → ℕ → Bool
+past_sight s number = nat_le s.row number && nat_le s.height (number - s.row)
 
-abbrev pub row_drawn : Option ℕ → List ℕ → Picture → Picture
-row_drawn None text p = p
-row_drawn (Some at) text p = record p { lines = rows_put at (plain_row p.cols text ∷ []) p.lines }
+abbrev pub drawn_at : Option ℕ → List ℕ → Picture → Picture
+drawn_at None text p = p
+drawn_at (Some at) text p = with_rows at (plain_row p.cols text ∷ []) p
+
+-- the row of a number
+abbrev pub row_drawn : Sight → ℕ → List ℕ → Picture → Picture
+row_drawn s number text p = drawn_at (place_in s number) text p
 
 -- a buffer's row, where it is told of
-abbrev pub buffer_drawn : ℕ → ℕ → ℕ → ℕ → Option Attributes → Picture → Picture
-buffer_drawn first height row number None p = p
-buffer_drawn first height row number (Some a) p = row_drawn (place_in first height row number) (listing_text a) p
+abbrev pub buffer_drawn : Sight → ℕ → Option Attributes → Picture → Picture
+buffer_drawn s number None p = p
+buffer_drawn s number (Some a) p = row_drawn s number (listing_text a) p
 
 -- all rows
-abbrev pub drawn : ℕ → ℕ → ℕ → List (List ℕ) → Picture → Picture
-drawn first height row texts p = record p { lines = rows_put first (rows_from p.cols height row texts) p.lines }
-
--- those of a buffer's access list
-abbrev pub acl_drawn : ℕ → ℕ → ℕ → Directory → List ℕ → Buffer → Picture → Picture
-acl_drawn first height row directory user b p = drawn first height row (entries_shown (entries_told directory user b)) p
-
--- the rows of a window that shows nothing, and its mode line
-abbrev pub none_drawn : ℕ → ℕ → Picture → Picture
-none_drawn first height p = record p { lines = rows_put first (blank_rows p.cols height ++ mode_row p.cols none_mode ∷ []) p.lines }
+abbrev pub drawn : Sight → List (List ℕ) → Picture → Picture
+drawn s texts p = with_rows s.first (rows_from p.cols s.height s.row texts) p
 
 -- what is told of buffers
 abbrev pub listed : Directory → List ℕ → List MarkedBuffer → List Attributes

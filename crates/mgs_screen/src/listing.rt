@@ -1,13 +1,13 @@
 // What a window shows in place of a text, drawn into its rows: nothing, the listing of all buffers, or an access list.
-ghost use Rattle.std.specs.Prelude.{◌≡◌, ◌+◌, ◌<◌, ◌≤◌, ◌^◌, [], ◌∷◌, ◌++◌, map, length, decimal, codes};
+ghost use Rattle.std.specs.Prelude.{◌≡◌, ◌+◌, ◌<◌, ◌≤◌, ◌^◌, [], ◌∷◌, ◌++◌, map, length, decimal};
 ghost use Rattle.std.specs.Option.{option_map};
-ghost use Rattle.mgs_model.specs.Rows.{cause_text};
-ghost use Rattle.mgs_model.specs.Seen.{if_granted};
-ghost use Rattle.mgs_model.specs.Draw.{listing_text, entry_text, entries_texts};
+ghost use Rattle.mgs_model.specs.Seen.{No_pane, if_granted};
+ghost use Rattle.mgs_model.specs.Draw.{listing_text, entry_text, entries_texts, entries_shown};
+ghost use Rattle.mgs_grid.specs.Lists.{unlisted_text};
 ghost use Rattle.mgs_buffers.specs.MarkedBuffer.{HasBuffer, marked_at};
 ghost use Rattle.mgs_buffers.specs.Judging.{AreJudged, rules_kept};
 ghost use Rattle.mgs_buffers.specs.Told.{attributes_read};
-ghost use Rattle.mgs_screen.specs.Listings.{IsPaneDrawn, listing_to, entries_to, rows_to, name_to, place_in, past_sight, row_drawn, buffer_drawn, drawn, acl_drawn, none_drawn, listed};
+ghost use Rattle.mgs_screen.specs.Listings.{IsPaneDrawn, listing_to, entries_to, entries_told, rows_to, name_to, place_in, past_sight, row_drawn, buffer_drawn, drawn, listed};
 
 use mgs_acl::{Entry, print_entry};
 use mgs_buffers::{Attributes, Buffers, Found};
@@ -29,7 +29,7 @@ struct Sight {
 /// In which row the one of a number is drawn, where it is in sight.
 fn place_in(sight: Sight, number: usize) -> Option<usize>
     requires { sight.first + sight.height < 2 ^ 64 }
-    ensures { result ≡ place_in sight.first sight.height sight.row number }
+    ensures { result ≡ place_in sight number }
 {
     if sight.row <= number && number - sight.row < sight.height {
         Some(sight.first + (number - sight.row))
@@ -40,7 +40,7 @@ fn place_in(sight: Sight, number: usize) -> Option<usize>
 
 /// Whether the row of a number is below those in sight, and with it each row after it.
 fn is_past(sight: Sight, number: usize) -> bool
-    ensures { result ≡ past_sight sight.height sight.row number }
+    ensures { result ≡ past_sight sight number }
 {
     sight.row <= number && sight.height <= number - sight.row
 }
@@ -48,7 +48,7 @@ fn is_past(sight: Sight, number: usize) -> bool
 /// Draws a row of the listing, where it is in sight.
 fn draw_listed(attributes: &Attributes, number: usize, sight: Sight, grid: &mut Grid)
     requires { sight.first + sight.height ≤ grid.old.rows }
-    ensures { grid.new ≡ row_drawn (place_in sight.first sight.height sight.row number) (listing_text (attributes_read attributes.now)) grid.old }
+    ensures { grid.new ≡ row_drawn sight number (listing_text (attributes_read attributes.now)) grid.old }
 {
     let _rows = grid.rows();
     if let Some(at) = place_in(sight, number) {
@@ -71,7 +71,7 @@ fn draw_buffer(
 ) -> usize
     requires room { sight.first + sight.height ≤ grid.old.rows }
     requires few { number + 1 < 2 ^ 64 }
-    ensures grid { grid.new ≡ buffer_drawn sight.first sight.height sight.row number (option_map attributes_read attributes) grid.old }
+    ensures grid { grid.new ≡ buffer_drawn sight number (option_map attributes_read attributes) grid.old }
     ensures next { result ≡ number + length (if_granted (option_map attributes_read attributes)) }
     ensures few { result ≤ number + 1 }
 {
@@ -95,7 +95,7 @@ fn draw_buffers<T: Marked + Drop>(
 )
     requires room { sight.first + sight.height ≤ grid.old.rows }
     requires judged { AreJudged directory.now (rules_kept buffers.now) judge.old }
-    ensures grid { grid.new ≡ drawn sight.first sight.height sight.row (map listing_text (listed directory.now user.now buffers.now)) grid.old }
+    ensures grid { grid.new ≡ drawn sight (map listing_text (listed directory.now user.now buffers.now)) grid.old }
     ensures judged { AreJudged directory.now (rules_kept buffers.now) judge.new }
 {
     let _rows = grid.rows();
@@ -139,7 +139,7 @@ pub fn draw_listing<T: Marked + Drop>(
 fn draw_entry(entry: &Entry, i: usize, sight: Sight, grid: &mut Grid)
     requires room { sight.first + sight.height ≤ grid.old.rows }
     requires few { i + 1 < 2 ^ 64 }
-    ensures { grid.new ≡ row_drawn (place_in sight.first sight.height sight.row i) (decimal (i + 1) ++ 32 ∷ entry_text entry.now) grid.old }
+    ensures { grid.new ≡ row_drawn sight i (decimal (i + 1) ++ 32 ∷ entry_text entry.now) grid.old }
 {
     let _rows = grid.rows();
     if let Some(at) = place_in(sight, i) {
@@ -151,7 +151,7 @@ fn draw_entry(entry: &Entry, i: usize, sight: Sight, grid: &mut Grid)
 /// Draws the rows of an access list that may be read, down to the last one in sight.
 fn draw_list(entries: &[Entry], sight: Sight, grid: &mut Grid)
     requires { sight.first + sight.height ≤ grid.old.rows }
-    ensures { grid.new ≡ drawn sight.first sight.height sight.row (entries_texts 1 entries.now) grid.old }
+    ensures { grid.new ≡ drawn sight (entries_texts 1 entries.now) grid.old }
 {
     let _rows = grid.rows();
     grid.draw_blank(sight.first, sight.height);
@@ -167,7 +167,7 @@ fn draw_list(entries: &[Entry], sight: Sight, grid: &mut Grid)
 /// Draws the row that says why an access list may not be read, where it is in sight.
 fn draw_cause(decision: Decision, sight: Sight, grid: &mut Grid)
     requires { sight.first + sight.height ≤ grid.old.rows }
-    ensures { grid.new ≡ row_drawn (place_in sight.first sight.height sight.row 0) (codes "[no acl: " ++ cause_text decision ++ codes "]") grid.old }
+    ensures { grid.new ≡ row_drawn sight 0 (unlisted_text decision) grid.old }
 {
     let _rows = grid.rows();
     if let Some(at) = place_in(sight, 0) {
@@ -178,7 +178,7 @@ fn draw_cause(decision: Decision, sight: Sight, grid: &mut Grid)
 /// Draws the rows of an access list that may not be read: the one that says why.
 fn draw_unlisted(decision: Decision, sight: Sight, grid: &mut Grid)
     requires { sight.first + sight.height ≤ grid.old.rows }
-    ensures { grid.new ≡ drawn sight.first sight.height sight.row ((codes "[no acl: " ++ cause_text decision ++ codes "]") ∷ []) grid.old }
+    ensures { grid.new ≡ drawn sight (unlisted_text decision ∷ []) grid.old }
 {
     let _rows = grid.rows();
     grid.draw_blank(sight.first, sight.height);
@@ -197,7 +197,7 @@ fn draw_acl<T: Marked + Drop>(
     requires room { sight.first + sight.height ≤ grid.old.rows }
     requires judged { AreJudged directory.now (rules_kept found.now.all) judge.old }
     ensures judged { AreJudged directory.now (rules_kept found.now.all) judge.new }
-    ensures grid { grid.new ≡ acl_drawn sight.first sight.height sight.row directory.now user.now (marked_at found.now.name found.now.all).buffer grid.old }
+    ensures grid { grid.new ≡ drawn sight (entries_shown (entries_told directory.now user.now (marked_at found.now.name found.now.all).buffer)) grid.old }
 {
     if found.grants_by(judge, directory, user, Right::ReadAcl) {
         draw_list(found.entries(), sight, grid);
@@ -256,7 +256,7 @@ pub fn draw_entries<T: Marked + Drop>(
 /// Draws blank rows, and the mode line of a window that shows nothing.
 fn draw_none(first: usize, height: usize, grid: &mut Grid)
     requires { first + height < grid.old.rows }
-    ensures { grid.new ≡ none_drawn first height grid.old }
+    ensures { IsPaneDrawn first height No_pane grid.old grid.new }
 {
     let _rows = grid.rows();
     grid.draw_blank(first, height);

@@ -15,9 +15,6 @@ loop-i-preserved g c =
     let d : Directory = c.args.directory.now in
     let user : List ℕ = c.args.user.now in
     let ks : List MarkedBuffer = c.args.buffers.now in
-    let first : ℕ = c.args.sight.first in
-    let height : ℕ = c.args.sight.height in
-    let row : ℕ = c.args.sight.row in
     let i : ℕ = c.loop-i.i in
     let n : ℕ = c.loop-i.number in
     let p : Picture = c.args.grid.now in
@@ -28,9 +25,9 @@ loop-i-preserved g c =
     listed_more d user ks i within ∙ ap (λ (a : Option Attributes). xs ++ if_granted a) (sym c.attributes-attributes.ensures.value) in
     record {
       grid = c.draw_buffer-number.ensures.grid
-          ∙ ap (buffer_drawn first height row n o) c.loop-i.invariant.grid
-          ∙ buffer_more first height row n xs o p c.loop-i.invariant.number (omega (arith, c.requires.room, c.rows-rows.ensures.picture.count))
-          ∙ ap (λ (told : List Attributes). drawn first height row (map listing_text told) p) (sym more);
+          ∙ ap (buffer_drawn c.args.sight n o) c.loop-i.invariant.grid
+          ∙ buffer_more c.args.sight n xs o p c.loop-i.invariant.number (omega (arith, c.requires.room, c.rows-rows.ensures.picture.count))
+          ∙ ap (λ (told : List Attributes). drawn c.args.sight (map listing_text told) p) (sym more);
       number = c.draw_buffer-number.ensures.next
           ∙ ap (λ (k : ℕ). k + length (if_granted o)) c.loop-i.invariant.number
           ∙ sym (ap length more ∙ length-append xs (if_granted o));
@@ -41,4 +38,4 @@ loop-i-preserved g c =
 pub returns-then-is_past-clause-grid : goal.returns-then-is_past-clause-grid
 returns-then-is_past-clause-grid g c =
     c.loop-i.invariant.grid
-    ∙ listing_past c.args.sight.first c.args.sight.height c.args.sight.row c.loop-i.number c.loop-i.i c.args.directory.now c.args.user.now c.args.buffers.now c.args.grid.now c.loop-i.invariant.number (sym c.if-is_past.ensures)
+    ∙ listing_past c.args.sight c.loop-i.number c.loop-i.i c.args.directory.now c.args.user.now c.args.buffers.now c.args.grid.now c.loop-i.invariant.number (sym c.if-is_past.ensures)

@@ -5,4 +5,4 @@ use Rattle.mgs_screen.proofs.listing.draw_list.Given as goal
 
 -- the rows of the entries so far are drawn
 abbrev pub invariant-loop-i : goal.invariant-loop-i
-invariant-loop-i l = l.grid ≡ drawn l.sight.first l.sight.height l.sight.row (entries_texts 1 (take l.i l.entries)) l.fn.grid
+invariant-loop-i l = l.grid ≡ drawn l.sight (entries_texts 1 (take l.i l.entries)) l.fn.grid
