@@ -1,22 +1,15 @@
-use Rattle.std.proofs.Common.{ℕ, List, [], ◌∷◌, ◌++◌, Option, sym, ap, subst, ◌∙◌, arith}
+use Rattle.std.proofs.Common.{ℕ, List, [], ◌∷◌, ◌++◌, Option, sym, ap, ◌∙◌, arith}
 use Rattle.mgs_model.specs.Rows.{Row, mode_row}
 use Rattle.mgs_grid.specs.Cells.{rows_put}
 use Rattle.mgs_model.specs.Picture.{Picture}
 use Rattle.mgs_model.specs.Draw.{rows_from, entries_shown}
 use Rattle.mgs_buffers.specs.Found.{Named}
-use Rattle.mgs_buffers.specs.Judging.{AreJudged, rules_kept}
 use Rattle.mgs_buffers.specs.MarkedBuffer.{marked_at}
 use Rattle.mgs_grid.specs.Lists.{acl_mode}
 use Rattle.mgs_screen.specs.Listings.{entries_told, name_to}
 use Rattle.mgs_screen.proofs.Sights.{mode_below}
 use Rattle.mgs_screen.proofs.Listings.{entries_pane_is}
 use Rattle.mgs_screen.proofs.listing.draw_entries.Goals as goal
-
-pub draw_acl-requires-clause-judged : goal.draw_acl-requires-clause-judged
-draw_acl-requires-clause-judged g c = subst (λ (f : Named). AreJudged c.args.directory.now (rules_kept f.all) c.args.judge.now) (sym c.find-found.ensures) c.requires.judged
-
-pub returns-clause-judged : goal.returns-clause-judged
-returns-clause-judged g c = subst (λ (f : Named). AreJudged c.args.directory.now (rules_kept f.all) c.shown_name-shown.new.judge) c.find-found.ensures c.shown_name-shown.ensures.judged
 
 pub returns-clause-grid : goal.returns-clause-grid
 returns-clause-grid g c = λ selected.

@@ -1,19 +1,9 @@
-use Rattle.std.proofs.Common.{◌≡◌, ◌≤◌, ℕ, List, length, drop, subst, arith}
+use Rattle.std.proofs.Common.{◌≤◌, ℕ, List, length, subst, arith}
 use Rattle.mgs_model.specs.Picture.{Picture}
 use Rattle.mgs_screen.specs.Changes.{IsChange, IsLineEdited}
 use Rattle.mgs_screen.specs.declared.change.Change.{Change}
-use Rattle.mgs_screen.proofs.Canvas.{drawn_then}
-use Rattle.mgs_screen.proofs.Redrawn.{shown_moved, shown_over, shown_there}
+use Rattle.mgs_screen.proofs.Redrawn.{shown_over, shown_there}
 use Rattle.mgs_screen.proofs.redrawing.redraw_rows.Goals as goal
-
-pub returns-in-Nothing-clause-grid : goal.returns-in-Nothing-clause-grid
-returns-in-Nothing-clause-grid g c = λ old stand change.
-    let p : Picture = c.args.grid.now in
-    let d = c.args.drawn.now in
-    let e = c.args.earlier.now in
-    let text : List ℕ = g.T.Text.text c.args.text.now in
-    let same : drop e.start old ≡ drop d.shown.start text = subst (λ (x : Change). IsChange x e.start d.shown.start old text) c.in-Nothing.is change in
-    c.shift_rows.ensures.grid (shown_moved d e e.row e.shift old text p stand same)
 
 pub returns-in-Line-clause-grid : goal.returns-in-Line-clause-grid
 returns-in-Line-clause-grid g c = λ old stand change.
@@ -28,8 +18,3 @@ returns-in-Line-clause-grid g c = λ old stand change.
     let begins : d.first ≤ length p.lines = omega (arith, c.requires.pane.room, c.rows-rows.ensures.picture.count) in
     let first = c.draw_line_of-shift.ensures.grid e old stand edited in
     shown_over d e.row shift d.shown.row d.shown.shift text text p q r begins first (c.shift_rows-in-Line.ensures.grid (shown_there d e.row shift text p q begins first))
-
-pub returns-in-Line-clause-drawn : goal.returns-in-Line-clause-drawn
-returns-in-Line-clause-drawn g c =
-    drawn_then c.args.rows.now c.draw_line_of-shift.new.rows c.shift_rows-in-Line.new.rows c.args.grid.now c.draw_line_of-shift.new.grid c.shift_rows-in-Line.new.grid
-    c.draw_line_of-shift.ensures.drawn c.shift_rows-in-Line.ensures.drawn

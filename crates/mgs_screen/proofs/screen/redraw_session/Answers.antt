@@ -127,7 +127,3 @@ returns-clause-stands g c =
       fits = omega (arith, inv.room, inv.count);
     } in
     above_all c.loop-i.first (buffers_of ks) q c.loop-i.texts (above_stay (buffers_of ks) p q c.loop-i.first c.loop-i.first (echo ∷ []) c.loop-i.texts put (omega arith) inv.stands.above)
-
-pub returns-clause-apart : goal.returns-clause-apart
-returns-clause-apart g c =
-    (drawn_then c.none-rows.result c.loop-i.rows c.redraw_last_row.new.rows c.args.grid.now c.loop-i.grid c.redraw_last_row.new.grid c.loop-i.invariant.drawn c.redraw_last_row.ensures.drawn).apart

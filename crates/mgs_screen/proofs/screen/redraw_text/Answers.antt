@@ -15,20 +15,9 @@ use Rattle.mgs_screen.specs.TabStops.{IsTabStop}
 use Rattle.mgs_screen.specs.declared.drawn_texts.DrawnText.{DrawnText}
 use Rattle.mgs_screen.specs.declared.drawn_texts.Shown.{Shown}
 use Rattle.mgs_screen.proofs.Drawings.{pane_put, text_drawn, window_marks_drawn}
-use Rattle.mgs_screen.proofs.Canvas.{IsPut, drawn_then, is_put}
+use Rattle.mgs_screen.proofs.Canvas.{IsPut, is_put}
 use Rattle.mgs_screen.proofs.TextsDrawn.{found_stands, mode_stands, mode_stays, texts_kept}
 use Rattle.mgs_screen.proofs.screen.redraw_text.Goals as goal
-
-pub redraw_pane-requires-clause-pane : goal.redraw_pane-requires-clause-pane
-redraw_pane-requires-clause-pane g c =
-    let m = c.measure-measures.ensures in
-    record {
-      room = omega (arith, c.requires.room.rows);
-      short = omega (arith, c.text-text.ensures.limit);
-      top = m.top;
-      stop = m.stop;
-      shift = m.near;
-    }
 
 pub measure-measures-requires-clause-known : goal.measure-measures-requires-clause-known
 measure-measures-requires-clause-known g c =
@@ -39,15 +28,6 @@ measure-measures-requires-clause-known g c =
     let o : Option Shown = c.drawn-earlier.result in
     let stands : IfSome o (λ e. Stands bs p (text_then name first c.args.height e)) = found_stands bs p c.args.drawn_texts.now c.args.place.index c.name-name.result.now name first c.args.height o c.requires.stands.from c.name-name.ensures.value c.drawn-earlier.ensures in
     subst (λ (ys : List ℕ). IfSome c.known_stop-known.result (IsTabStop ys)) (sym c.text-text.ensures.text) (c.known_stop-known.ensures p first c.args.height stands)
-
-pub redraw_pane-requires-clause-stands : goal.redraw_pane-requires-clause-stands
-redraw_pane-requires-clause-stands g c =
-    let p : Picture = c.args.grid.now in
-    let first : ℕ = c.args.place.first in
-    let name : List ℕ = c.args.found.now.name in
-    let bs : List Buffer = buffers_of c.args.found.now.all in
-    let o : Option Shown = c.drawn-earlier.result in
-    found_stands bs p c.args.drawn_texts.now c.args.place.index c.name-name.result.now name first c.args.height o c.requires.stands.from c.name-name.ensures.value c.drawn-earlier.ensures
 
 pub returns-clause-lines : goal.returns-clause-lines
 returns-clause-lines g c =
@@ -113,7 +93,3 @@ redraw_mode-requires-clause-stands g c =
     let there : IfSome o (λ e. DoesShowMode (first + height) name e.mode c.redraw_pane.new.grid) =
     mode_stays (first + height) first name pane p c.redraw_pane.new.grid o put (omega (arith, size)) (mode_stands bs p name first height o stands) in
     subst (λ (n : List ℕ). IfSome o (λ e. DoesShowMode (first + height) n e.mode c.redraw_pane.new.grid)) (sym c.name-name.ensures.value) there
-
-pub returns-clause-drawn : goal.returns-clause-drawn
-returns-clause-drawn g c =
-    drawn_then c.args.rows.now c.redraw_pane.new.rows c.redraw_mode.new.rows c.args.grid.now c.redraw_pane.new.grid c.redraw_mode.new.grid c.redraw_pane.ensures.drawn c.redraw_mode.ensures.drawn

@@ -1,4 +1,4 @@
-use Rattle.std.proofs.Common.{◌≡◌, ◌+◌, ◌++◌, ℕ, length, arith, length-append, Bool, true, false, List, [], ◌∷◌, Option, None, sym, ap, subst, ◌∙◌}
+use Rattle.std.proofs.Common.{◌≡◌, ◌+◌, ◌++◌, ℕ, length, arith, length-append, Bool, true, false, List, [], ◌∷◌, Option, None, sym, ap, ◌∙◌}
 use Rattle.mgs_model.specs.Picture.{Picture}
 use Rattle.mgs_model.specs.World.{may}
 use Rattle.mgs_model.specs.Rows.{Row, mode_row, buffer_mode, unread_rows}
@@ -7,47 +7,24 @@ use Rattle.mgs_model.specs.declared.right.Right.TheVariants.{ReadData}
 use Rattle.mgs_model.specs.declared.entry.Decision.{Decision}
 use Rattle.mgs_model.specs.Access.{decider, decision_by}
 use Rattle.mgs_buffers.specs.Found.{Named}
-use Rattle.mgs_buffers.specs.Judging.{AreJudged, rules_kept}
 use Rattle.mgs_buffers.specs.MarkedBuffer.{MarkedBuffer, HasBuffer, marked_at}
 use Rattle.mgs_windows.specs.declared.WindowMarks.{WindowMarks}
 use Rattle.mgs_windows.specs.declared.Window.{Window}
 use Rattle.mgs_model.specs.Draw.{pane_rows}
 use Rattle.mgs_grid.proofs.Pictures.{length-unread_rows}
 use Rattle.mgs_world.specs.Worlds.{buffers_of}
-use Rattle.mgs_world.proofs.Soundness.{window_point}
 use Rattle.mgs_screen.specs.Listings.{rows_to}
 use Rattle.mgs_screen.proofs.Canvas.{IsPut, is_put, put_drawn}
 use Rattle.mgs_screen.proofs.RowPanes.{length_rows}
 use Rattle.mgs_screen.proofs.TextsDrawn.{texts_passed}
-use Rattle.mgs_screen.specs.Screens.{AreMarksOf, heading_to, window_marks_cursor, window_marks_rows}
-use Rattle.mgs_screen.specs.TextsDrawn.{AreStandingAround, told_as}
-use Rattle.mgs_screen.proofs.Drawings.{pane_put, shown_kept, window_read, window_top, window_unread, window_cursor_read, window_cursor_unread}
+use Rattle.mgs_screen.specs.Screens.{heading_to, window_marks_cursor, window_marks_rows}
+use Rattle.mgs_screen.specs.TextsDrawn.{told_as}
+use Rattle.mgs_screen.proofs.Drawings.{pane_put, shown_kept, window_read, window_unread, window_cursor_read, window_cursor_unread}
 use Rattle.mgs_screen.proofs.screen.redraw_window.Goals as goal
 
 pub find-found-requires : goal.find-found-requires
 find-found-requires g c =
     shown_kept c.args.buffers.now c.args.window.now c.in-Some.window_marks c.requires.sound c.in-Some.is
-
-pub seen-heading-requires : goal.seen-heading-requires
-seen-heading-requires g c = subst (λ (f : Named). AreJudged c.args.directory.now (rules_kept f.all) c.args.judge.now) (sym c.find-found.ensures) c.requires.judged
-
-pub redraw_text-requires-clause-marks : goal.redraw_text-requires-clause-marks
-redraw_text-requires-clause-marks g c =
-    let x : WindowMarks = c.in-Some.window_marks in
-    subst (λ (f : Named). AreMarksOf f x) (sym c.find-found.ensures) (record {
-      point = window_point c.args.buffers.now c.args.window.now x c.requires.sound c.in-Some.is;
-      top = window_top c.args.buffers.now c.args.window.now x c.requires.sound c.in-Some.is;
-    })
-
-pub redraw_text-requires-clause-stands : goal.redraw_text-requires-clause-stands
-redraw_text-requires-clause-stands g c = subst (λ (f : Named). AreStandingAround c.args.place.first (buffers_of f.all) c.args.grid.now c.args.drawn_texts.now c.args.texts.now) (sym c.find-found.ensures) c.requires.stands
-
-pub returns-then-reads-clause-judged : goal.returns-then-reads-clause-judged
-returns-then-reads-clause-judged g c = subst (λ (f : Named). AreJudged c.args.directory.now (rules_kept f.all) c.seen-heading.new.judge) c.find-found.ensures c.seen-heading.ensures.judged
-
-pub returns-then-reads-clause-stands : goal.returns-then-reads-clause-stands
-returns-then-reads-clause-stands g c =
-    subst (λ (f : Named). AreStandingAround (c.args.place.first + (c.args.window.now.height + 1)) (buffers_of f.all) c.redraw_text.new.grid c.args.drawn_texts.now c.redraw_text.new.texts) c.find-found.ensures c.redraw_text.ensures.stands
 
 pub returns-then-reads-clause-lines : goal.returns-then-reads-clause-lines
 returns-then-reads-clause-lines g c =
@@ -78,9 +55,6 @@ returns-then-reads-clause-cursor g c = λ selected.
     c.redraw_text.ensures.cursor selected
     ∙ ap (λ (f : Named). window_marks_cursor c.args.grid.now.cols w.height (marked_at f.name f.all) x) c.find-found.ensures
     ∙ sym (window_cursor_read c.args.grid.now.cols c.args.directory.now user ks w x c.in-Some.is kept can)
-
-pub returns-clause-judged : goal.returns-clause-judged
-returns-clause-judged g c = subst (λ (f : Named). AreJudged c.args.directory.now (rules_kept f.all) c.decide_by-decision.new.judge) c.find-found.ensures c.decide_by-decision.ensures.judged
 
 pub returns-clause-lines : goal.returns-clause-lines
 returns-clause-lines g c =
