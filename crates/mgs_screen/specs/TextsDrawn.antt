@@ -25,11 +25,8 @@ told_as name None = None
 told_as name (Some modified) = Some (name, modified)
 
 -- what a mode line says of it, and that it is in a row
-abbrev pub heading_of : List ℕ → ModeLine → Option (List ℕ × Bool)
-heading_of name m = if m.tells then Some (name, m.modified) else None
-
 abbrev pub mode_text : List ℕ → ModeLine → List ℕ
-mode_text name m = buffer_mode (heading_of name m) (Some (m.line, m.column))
+mode_text name m = buffer_mode (told_as name m.heading) (Some (m.line, m.column))
 
 abbrev pub DoesShowMode : ℕ → List ℕ → ModeLine → Picture → Type 0
 DoesShowMode row name m p = rows_at row 1 p.lines ≡ mode_row p.cols (mode_text name m) ∷ []

@@ -1,5 +1,5 @@
 // Which texts a screen shows, and as of which edits.
-ghost use Rattle.std.specs.Prelude.{◌≡◌, ◌<◌, ◌++◌, ◌∷◌, [], length, Some, None, IfSome, slice_get};
+ghost use Rattle.std.specs.Prelude.{◌≡◌, [], Some, IfSome, slice_get};
 ghost use Rattle.mgs_screen.specs.TextsDrawn.{pushed, text_then};
 
 use crate::tab_stops::TabStop;
@@ -10,10 +10,8 @@ use std::marker::Model;
 /// What a mode line is drawn from, but for the buffer's name.
 #[derive(Clone, Copy)]
 pub(crate) struct ModeLine {
-    /// Whether the buffer's name and flag may be told.
-    pub(crate) tells: bool,
-    /// Whether the buffer is modified.
-    pub(crate) modified: bool,
+    /// Whether the buffer is modified, where that and its name may be told.
+    pub(crate) heading: Option<bool>,
     /// The point's line, from 1.
     pub(crate) line: usize,
     /// The point's column.
@@ -93,14 +91,6 @@ fn drawn_in(
     }
 }
 
-/// A place more for a text, where not all are taken.
-fn put_text(texts: &mut ArrayVec<Option<DrawnText>, 8>, text: &DrawnText)
-    requires { length texts.old.items < 8 }
-    ensures { texts.new.items ≡ texts.old.items ++ Some text.now ∷ [] }
-{
-    texts.push(Some(*text));
-}
-
 impl DrawnTexts {
     /// No text.
     pub fn new() -> DrawnTexts
@@ -131,21 +121,12 @@ impl DrawnTexts {
         drawn_in(self.texts.as_slice(), index, name, first, height)
     }
 
-    /// A place more, for a text. Where there are eight already, nothing changes.
-    pub(crate) fn push_text(&mut self, text: &DrawnText)
-        ensures { self.new ≡ pushed (Some text.now) self.old }
+    /// A place more, for a text or for none. Where there are eight already, nothing changes.
+    pub(crate) fn push(&mut self, text: Option<DrawnText>)
+        ensures { self.new ≡ pushed text self.old }
     {
         if !self.texts.is_full() {
-            put_text(&mut self.texts, text);
-        }
-    }
-
-    /// A place more, for no text. Where there are eight already, nothing changes.
-    pub(crate) fn push_none(&mut self)
-        ensures { self.new ≡ pushed None self.old }
-    {
-        if !self.texts.is_full() {
-            self.texts.push(None);
+            self.texts.push(text);
         }
     }
 }

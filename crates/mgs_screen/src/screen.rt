@@ -14,7 +14,7 @@ ghost use Rattle.mgs_model.specs.World.{may};
 ghost use Rattle.mgs_model.specs.declared.right.Right.TheVariants.{ReadData};
 ghost use Rattle.mgs_screen.specs.Canvas.{IsCell, IsDrawnOn, IsRoom};
 ghost use Rattle.mgs_screen.specs.Screens.{AreMarksOf, IsScreenOf, ReadsAll, found_rows, heading_to, window_lines, window_marks_cursor, window_to};
-ghost use Rattle.mgs_screen.specs.TextsDrawn.{AreStanding, AreStandingAround, DoesShowMode, IsStopOf, heading_of, mode_text, pushed, told_as};
+ghost use Rattle.mgs_screen.specs.TextsDrawn.{AreStanding, AreStandingAround, DoesShowMode, IsStopOf, mode_text, pushed, told_as};
 
 use crate::change::stop_since;
 use crate::drawn_texts::{DrawnText, DrawnTexts, ModeLine, Shown};
@@ -117,42 +117,11 @@ fn known_stop<T: Marked + Drop>(found: &Found<T>, earlier: &Option<Shown>) -> Op
     }
 }
 
-/// What a buffer's mode line is drawn from.
-fn mode_of(heading: Option<bool>, line: usize, column: usize) -> ModeLine
-    ensures { (name : List ℕ) → mode_text name result ≡ buffer_mode (told_as name heading) (Some (line, column)) }
-{
-    match heading {
-        Some(modified) => ModeLine {
-            tells: true,
-            modified,
-            line,
-            column,
-        },
-        None => ModeLine {
-            tells: false,
-            modified: false,
-            line,
-            column,
-        },
-    }
-}
-
-/// The buffer's name and flag in its mode line.
-fn heading_of(name: &Name, mode: &ModeLine) -> Option<(Name, bool)>
-    ensures { result ≡ heading_of name.now mode.now }
-{
-    if mode.tells {
-        Some((*name, mode.modified))
-    } else {
-        None
-    }
-}
-
 /// Whether two mode lines are drawn from the same.
 fn is_same_mode(a: &ModeLine, b: &ModeLine) -> bool
     ensures { result ≡ true → a.now ≡ b.now }
 {
-    a.line == b.line && a.column == b.column && a.tells == b.tells && a.modified == b.modified
+    a.line == b.line && a.column == b.column && a.heading == b.heading
 }
 
 /// Draws the mode line of a text that may be read, where it is not there already.
@@ -176,7 +145,7 @@ fn redraw_mode(
         }
     }
     let place = Some((mode.line, mode.column));
-    grid.draw_mode(row, heading_of(name, mode), place);
+    grid.draw_mode(row, named(name, mode.heading), place);
     rows.insert(row);
 }
 
@@ -208,7 +177,11 @@ fn redraw_text<T: Marked + Drop>(
     let earlier = drawn_texts.drawn(place.index, name, place.first, height);
     let known = known_stop(found, &earlier);
     let measures = measure(text, window_marks, place.selected, cols, known);
-    let mode = mode_of(heading, measures.line + 1, measures.column);
+    let mode = ModeLine {
+        heading,
+        line: measures.line + 1,
+        column: measures.column,
+    };
     let shown = Shown {
         serial: found.serial(),
         size: text.len(),
@@ -227,7 +200,7 @@ fn redraw_text<T: Marked + Drop>(
     };
     redraw_pane(found, text, &drawn, &earlier, rows, grid);
     redraw_mode(name, &mode, &earlier, place.first + height, rows, grid);
-    texts.push_text(&drawn);
+    texts.push(Some(drawn));
     (measures.row.min(height - 1), measures.col)
 }
 
@@ -239,7 +212,7 @@ fn note_rows(first: usize, height: usize, texts: &mut DrawnTexts, rows: &mut Row
     ensures put { (i : ℕ) → first ≤ i → i < first + (height + 1) → has_row i rows.new ≡ true }
 {
     rows.insert_rows(first, height + 1);
-    texts.push_none();
+    texts.push(None);
 }
 
 /// Draws a window, in those rows alone that changed since these texts were drawn. Tells where the cursor is, from the

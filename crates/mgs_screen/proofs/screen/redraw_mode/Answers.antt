@@ -23,5 +23,5 @@ returns-clause-drawn c =
     let p : Picture = c.args.grid.now in
     let q : Picture = c.draw_mode.new.self in
     let row : ℕ = c.args.row in
-    let mode : List Row = mode_row p.cols (buffer_mode c.heading_of.result (Some (c.args.mode.now.line, c.args.mode.now.column))) ∷ [] in
+    let mode : List Row = mode_row p.cols (buffer_mode c.named.result (Some (c.args.mode.now.line, c.args.mode.now.column))) ∷ [] in
     row_drawn c.args.rows.now c.insert.new.self row mode p q (is_put row mode p q c.draw_mode.ensures (omega (arith, c.requires.room, c.rows-rows.ensures.picture.count))) refl c.insert.ensures.kept c.insert.ensures.put

@@ -13,6 +13,7 @@ use Rattle.mgs_screen.specs.Screens as screens
 use Rattle.mgs_screen.specs.TextsDrawn.{DoesShowMode, Stands, mode_text, text_then, told_as}
 use Rattle.mgs_screen.specs.TabStops.{IsTabStop}
 use Rattle.mgs_screen.specs.declared.drawn_texts.DrawnText.{DrawnText}
+use Rattle.mgs_screen.specs.declared.drawn_texts.ModeLine.{ModeLine}
 use Rattle.mgs_screen.specs.declared.drawn_texts.Shown.{Shown}
 use Rattle.mgs_screen.proofs.Drawings.{pane_put, text_drawn, window_marks_drawn}
 use Rattle.mgs_screen.proofs.Canvas.{IsPut, is_put}
@@ -45,8 +46,8 @@ returns-clause-lines g c =
     let shifted : m.shift ≡ screens.screen_shift c.args.place.selected cols m.column = c.measure-measures.ensures.shift ∙ ap (λ (n : ℕ). screens.screen_shift c.args.place.selected n m.column) c.cols-cols.ensures.value in
     let name : List ℕ = c.args.found.now.name in
     let heading : Option (List ℕ × Bool) = told_as name c.args.heading in
-    let said : mode_text c.name-name.result.now c.mode_of-mode.result ≡ buffer_mode heading (Some (m.line + 1, m.column)) =
-    ap (λ (n : List ℕ). mode_text n c.mode_of-mode.result) c.name-name.ensures.value ∙ c.mode_of-mode.ensures name in
+    let line : ModeLine = record { heading = c.args.heading; line = m.line + 1; column = m.column } in
+    let said : mode_text c.name-name.result.now line ≡ buffer_mode heading (Some (m.line + 1, m.column)) = ap (λ (n : List ℕ). mode_text n line) c.name-name.ensures.value in
     (pane_put c.args.place.first height pane (buffer_mode heading (Some (m.line + 1, m.column))) p between c.redraw_mode.new.grid
     c.requires.room.rows c.cols-cols.ensures.picture.count (length-text_rows cols (shift_at m.row m.shift) 0 height rest) c.redraw_pane.ensures.grid
     (c.redraw_mode.ensures.grid ∙ ap (λ (said : List ℕ). record between { lines = rows_put (c.args.place.first + height) (mode_row between.cols said ∷ []) between.lines }) said)).lines
@@ -65,16 +66,16 @@ returns-clause-stands g c =
     let b : Buffer = (marked_at c.args.found.now.name ks).buffer in
     let text : List ℕ = g.T.Text.text c.text-text.result.now in
     let m = c.measure-measures.result in
-    let d : DrawnText = record { name = c.name-name.result.now; first = first; height = height; shown = record { serial = c.serial.result; size = c.len.result; above = m.above; start = m.start; row = m.row; shift = m.shift; stop = m.stop; mode = c.mode_of-mode.result } } in
+    let d : DrawnText = record { name = c.name-name.result.now; first = first; height = height; shown = record { serial = c.serial.result; size = c.len.result; above = m.above; start = m.start; row = m.row; shift = m.shift; stop = m.stop; mode = record { heading = c.args.heading; line = m.line + 1; column = m.column } } } in
     let rest : List ℕ = drop m.start text in
     let pane : List Row = text_rows p.cols (shift_at m.row m.shift) 0 height rest in
-    let mode : List ℕ = mode_text c.name-name.result.now c.mode_of-mode.result in
+    let mode : List ℕ = mode_text d.name d.shown.mode in
     let size : length pane ≡ height = length-text_rows p.cols (shift_at m.row m.shift) 0 height rest in
     let put : IsPut first (pane ++ mode_row p.cols mode ∷ []) p q =
     pane_put first height pane mode p c.redraw_pane.new.grid q c.requires.room.rows c.cols-cols.ensures.picture.count size c.redraw_pane.ensures.grid c.redraw_mode.ensures.grid in
     let there : find_buffer d.name (buffers_of ks) ≡ Some b = ap (λ (n : List ℕ). find_buffer n (buffers_of ks)) c.name-name.ensures.value ∙ found_buffer c.args.found.now.name ks c.name-name.ensures.kept in
-    texts_kept (buffers_of ks) p q d b text c.args.drawn_texts.now c.args.texts.now c.push_text.new.self put
-    there c.serial.ensures c.len.ensures.value c.measure-measures.ensures.top.within c.measure-measures.ensures.stop c.text-text.ensures.text c.push_text.ensures c.requires.stands
+    texts_kept (buffers_of ks) p q d b text c.args.drawn_texts.now c.args.texts.now c.push.new.self put
+    there c.serial.ensures c.len.ensures.value c.measure-measures.ensures.top.within c.measure-measures.ensures.stop c.text-text.ensures.text c.push.ensures c.requires.stands
 
 pub redraw_mode-requires-clause-stands : goal.redraw_mode-requires-clause-stands
 redraw_mode-requires-clause-stands g c =
