@@ -68,29 +68,6 @@ impl Model for DrawnTexts {
     ghost view = { λ s. s.texts.items };
 }
 
-/// The text in a place, if it is of this buffer and lies in these rows.
-fn drawn_in(
-    texts: &[Option<DrawnText>],
-    index: usize,
-    name: &Name,
-    first: usize,
-    height: usize,
-) -> Option<Shown>
-    ensures { IfSome result (λ e. slice_get texts.now index ≡ Some (Some (text_then name.now first height e))) }
-{
-    let Some(place) = texts.get(index) else {
-        return None;
-    };
-    let Some(drawn) = place else {
-        return None;
-    };
-    if drawn.first == first && drawn.height == height && drawn.name == *name {
-        Some(drawn.shown)
-    } else {
-        None
-    }
-}
-
 impl DrawnTexts {
     /// No text.
     pub fn new() -> DrawnTexts
@@ -118,7 +95,17 @@ impl DrawnTexts {
     ) -> Option<Shown>
         ensures { IfSome result (λ e. slice_get self.now index ≡ Some (Some (text_then name.now first height e))) }
     {
-        drawn_in(self.texts.as_slice(), index, name, first, height)
+        let Some(place) = self.texts.get(index) else {
+            return None;
+        };
+        let Some(drawn) = place else {
+            return None;
+        };
+        if drawn.first == first && drawn.height == height && drawn.name == *name {
+            Some(drawn.shown)
+        } else {
+            None
+        }
     }
 
     /// A place more, for a text or for none. Where there are eight already, nothing changes.
