@@ -14,10 +14,10 @@ use Rattle.mgs_grid.proofs.Edited.{edited_rows}
 use Rattle.mgs_grid.proofs.Panes.{put_again, same_put}
 use Rattle.mgs_grid.proofs.Pictures.{length-text_rows}
 use Rattle.mgs_screen.specs.Changes.{IsLineEdited}
-use Rattle.mgs_screen.specs.TextsDrawn.{DoesShow, rows_at, showing}
+use Rattle.mgs_screen.specs.TextsDrawn.{DoesShow, rows_at, showing, shown_rows}
 use Rattle.mgs_screen.specs.declared.drawn_texts.DrawnText.{DrawnText}
 use Rattle.mgs_screen.specs.declared.drawn_texts.Shown.{Shown}
-use Rattle.mgs_screen.proofs.TextsDrawn.{length-rows_at, put_same, put_there}
+use Rattle.mgs_screen.proofs.TextsDrawn.{length-rows_at, length-shown_rows, put_same, put_there}
 
 -- FROM WHICH COLUMNS ROWS ARE SHOWN
 
@@ -126,8 +126,8 @@ out_of_sight i first h top row shift text olds p count room past stand same =
 pub shown_already : (d : DrawnText) (row from to : ℕ) (text : List ℕ) (p : Picture) → length p.lines ≡ p.rows → d.first + d.height ≤ p.rows → from ≡ to → DoesShow d row from text p → p ≡ showing d row to text p
 shown_already d row from to text p count room same stand =
     same_picture p (text_put d.first d.height row to (drop d.shown.start text) p) (
-    standing_put d.first d.height (text_rows p.cols (shift_at row to) 0 d.height (drop d.shown.start text)) p (omega (arith, count, room))
-    (stand ∙ ap (λ n. text_rows p.cols (shift_at row n) 0 d.height (drop d.shown.start text)) same))
+    standing_put d.first d.height (shown_rows p.cols d row to text) p (omega (arith, count, room))
+    (stand ∙ ap (λ n. shown_rows p.cols d row n text) same))
 
 -- from elsewhere in another one
 pub shown_moved : (d : DrawnText) (e : Shown) (row shift : ℕ) (old text : List ℕ) (p : Picture) → DoesShow (record d { shown = e }) row shift old p → drop e.start old ≡ drop d.shown.start text → DoesShow d row shift text p
@@ -136,11 +136,11 @@ shown_moved d e row shift old text p stand same = stand ∙ ap (text_rows p.cols
 -- it is there
 pub shown_there : (d : DrawnText) (row shift : ℕ) (text : List ℕ) (p q : Picture) → d.first ≤ length p.lines → q ≡ showing d row shift text p → DoesShow d row shift text q
 shown_there d row shift text p q begins is =
-    let new : List Row = text_rows p.cols (shift_at row shift) 0 d.height (drop d.shown.start text) in
+    let new : List Row = shown_rows p.cols d row shift text in
     ap (λ (x : Picture). rows_at d.first d.height x.lines) is
     ∙ ap (λ (rs : List Row). rows_at d.first d.height (rows_put d.first rs p.lines)) (sym (append-nil new))
-    ∙ put_there d.first d.height new [] p.lines begins (length-text_rows p.cols (shift_at row shift) 0 d.height (drop d.shown.start text))
-    ∙ ap (λ n. text_rows n (shift_at row shift) 0 d.height (drop d.shown.start text)) (sym (ap (λ (x : Picture). x.cols) is))
+    ∙ put_there d.first d.height new [] p.lines begins (length-shown_rows p.cols d row shift text)
+    ∙ ap (λ n. shown_rows n d row shift text) (sym (ap (λ (x : Picture). x.cols) is))
 
 -- where no row is shifted, any row is shown from column 0
 pub shown_unshifted : (d : DrawnText) (row other : ℕ) (text : List ℕ) (p : Picture) → DoesShow d row 0 text p → DoesShow d other 0 text p
@@ -149,9 +149,9 @@ shown_unshifted d row other text p stand = stand ∙ unshifted p.cols row other 
 -- one text over another
 pub shown_over : (d : DrawnText) (row shift top from : ℕ) (old new : List ℕ) (p q r : Picture) → d.first ≤ length p.lines → q ≡ showing d row shift old p → r ≡ showing d top from new q → r ≡ showing d top from new p
 shown_over d row shift top from old new p q r begins first second =
-    let olds : List Row = text_rows p.cols (shift_at row shift) 0 d.height (drop d.shown.start old) in
-    let news : List Row = text_rows p.cols (shift_at top from) 0 d.height (drop d.shown.start new) in
-    let size : length olds ≡ length news = length-text_rows p.cols (shift_at row shift) 0 d.height (drop d.shown.start old) ∙ sym (length-text_rows p.cols (shift_at top from) 0 d.height (drop d.shown.start new)) in
+    let olds : List Row = shown_rows p.cols d row shift old in
+    let news : List Row = shown_rows p.cols d top from new in
+    let size : length olds ≡ length news = length-shown_rows p.cols d row shift old ∙ sym (length-shown_rows p.cols d top from new) in
     second
     ∙ ap (showing d top from new) first
     ∙ ap (λ (ls : List Row). record p { lines = ls }) (put_again d.first olds news p.lines size begins)

@@ -6,14 +6,14 @@ use Rattle.std.proofs.lemmas.Option.{same_Some, none-some}
 use Rattle.std.proofs.lemmas.List.{take-append-drop, drop-drop, drop-take, length-take-le}
 use Rattle.mgs_laws.specs.Apart.{AreFollowed}
 use Rattle.mgs_model.specs.Picture.{Picture}
-use Rattle.mgs_model.specs.Rows.{Row, mode_row, text_rows, shift_at}
+use Rattle.mgs_model.specs.Rows.{Row, mode_row, shift_at}
 use Rattle.mgs_grid.specs.Cells.{rows_put}
 use Rattle.mgs_model.specs.World.{Buffer, find_buffer}
 use Rattle.mgs_laws.proofs.Follow.{follows_then, follows_same}
 use Rattle.mgs_grid.proofs.Panes.{above_put, below_put}
 use Rattle.mgs_grid.proofs.Pictures.{length-rows_put, length-text_rows}
 use Rattle.mgs_screen.specs.declared.drawn_texts.DrawnText.{DrawnText}
-use Rattle.mgs_screen.specs.TextsDrawn.{Stands, AreStanding, AreStandingAbove, AreStandingAround, AreStandingFrom, DoesShow, DoesShowMode, mode_text, rows_at, pushed, text_then}
+use Rattle.mgs_screen.specs.TextsDrawn.{Stands, AreStanding, AreStandingAbove, AreStandingAround, AreStandingFrom, DoesShow, DoesShowMode, mode_text, rows_at, pushed, shown_rows, text_then}
 use Rattle.mgs_screen.specs.TabStops.{IsTabStop}
 use Rattle.mgs_screen.specs.declared.drawn_texts.Shown.{Shown}
 use Rattle.mgs_screen.specs.declared.drawn_texts.ModeLine.{ModeLine}
@@ -43,6 +43,9 @@ stands_followed bs cs p d followed s =
 -- while the buffers follow one another
 pub standing_followed : (bs cs : List Buffer) (p : Picture) (ds : List (Option DrawnText)) → AreFollowed bs cs → AreStanding bs p ds → AreStanding cs p ds
 standing_followed bs cs p ds followed s = record { each = λ i d is. stands_followed bs cs p d followed (s.each i d is) }
+
+pub length-shown_rows : (cols : ℕ) (d : DrawnText) (row shift : ℕ) (text : List ℕ) → length (shown_rows cols d row shift text) ≡ d.height
+length-shown_rows cols d row shift text = length-text_rows cols (shift_at row shift) 0 d.height (drop d.shown.start text)
 
 -- ROWS THAT ARE PUT
 
@@ -100,7 +103,7 @@ stands_moved bs p q d wide long same last s = record {
   size = s.size;
   start = s.start;
   fits = omega (arith, s.fits, long);
-  rows = same ∙ s.rows ∙ ap (λ n. text_rows n (shift_at d.shown.row d.shown.shift) 0 d.height (drop d.shown.start s.drawn.text)) (sym wide);
+  rows = same ∙ s.rows ∙ ap (λ n. shown_rows n d d.shown.row d.shown.shift s.drawn.text) (sym wide);
   stop = s.stop;
   mode = last ∙ s.mode ∙ ap (λ n. mode_row n (mode_text d.name d.shown.mode) ∷ []) (sym wide);
   now = s.now;
@@ -195,24 +198,29 @@ stands_drawn bs q d b found serial size start fits rows stop mode = record {
 
 -- A WINDOW THAT IS DRAWN
 
+-- a place more, for a text that stands or for none
+texts_pushed : (bs : List Buffer) (p q : Picture) (first k : ℕ) (new : List Row) (o : Option DrawnText) (olds ds es : List (Option DrawnText)) → IsPut first new p q → first + length new ≤ k → es ≡ pushed o ds
+    → ((d : DrawnText) → o ≡ Some d → Stands bs q d × (d.first + d.height < k)) → AreStandingAround first bs p olds ds → AreStandingAround k bs q olds es
+texts_pushed bs p q first k new o olds ds es put under is more s = record {
+  from = from_stay bs p q first k new olds put under s.from;
+  above = subst (λ (xs : List (Option DrawnText)). AreStandingAbove k bs q xs) (sym is) (
+      above_pushed first k bs q ds o (omega (arith, under)) (above_stay bs p q first first new ds put (omega arith) s.above) more);
+}
+
 -- it shows no text that is kept
 pub texts_passed : (bs : List Buffer) (p q : Picture) (first k : ℕ) (new : List Row) (olds ds es : List (Option DrawnText)) → IsPut first new p q → first + length new ≤ k → es ≡ pushed None ds
     → AreStandingAround first bs p olds ds → AreStandingAround k bs q olds es
-texts_passed bs p q first k new olds ds es put under is s = record {
-  from = from_stay bs p q first k new olds put under s.from;
-  above = subst (λ (xs : List (Option DrawnText)). AreStandingAbove k bs q xs) (sym is) (
-      above_pushed first k bs q ds None (omega (arith, under)) (above_stay bs p q first first new ds put (omega arith) s.above) (λ d none. absurd (none-some d none)));
-}
+texts_passed bs p q first k new olds ds es put under is s = texts_pushed bs p q first k new None olds ds es put under is (λ d none. absurd (none-some d none)) s
 
 -- it shows a text
 pub texts_kept : (bs : List Buffer) (p q : Picture) (d : DrawnText) (b : Buffer) (text : List ℕ) (olds ds es : List (Option DrawnText))
-    → IsPut d.first (text_rows p.cols (shift_at d.shown.row d.shown.shift) 0 d.height (drop d.shown.start text) ++ mode_row p.cols (mode_text d.name d.shown.mode) ∷ []) p q
+    → IsPut d.first (shown_rows p.cols d d.shown.row d.shown.shift text ++ mode_row p.cols (mode_text d.name d.shown.mode) ∷ []) p q
     → find_buffer d.name bs ≡ Some b → d.shown.serial ≡ b.serial → d.shown.size ≡ length text → d.shown.start ≤ length text → IsTabStop text d.shown.stop → text ≡ b.text → es ≡ pushed (Some d) ds
     → AreStandingAround d.first bs p olds ds → AreStandingAround (d.first + (d.height + 1)) bs q olds es
 texts_kept bs p q d b text olds ds es put found serial size start stop same is s =
-    let pane : List Row = text_rows p.cols (shift_at d.shown.row d.shown.shift) 0 d.height (drop d.shown.start text) in
+    let pane : List Row = shown_rows p.cols d d.shown.row d.shown.shift text in
     let mode : Row = mode_row p.cols (mode_text d.name d.shown.mode) in
-    let high : length pane ≡ d.height = length-text_rows p.cols (shift_at d.shown.row d.shown.shift) 0 d.height (drop d.shown.start text) in
+    let high : length pane ≡ d.height = length-shown_rows p.cols d d.shown.row d.shown.shift text in
     let long : ℕ = length q.lines in
     let fits : d.first + d.height < long = omega (arith, put_long d.first (pane ++ mode ∷ []) p q put, put.fits, length-append pane (mode ∷ []), high) in
     let there : rows_at d.first d.height q.lines ≡ pane =
@@ -222,18 +230,14 @@ texts_kept bs p q d b text olds ds es put found serial size start stop same is s
     let now : Stands bs q d =
     stands_drawn bs q d b found serial (size ∙ ap length same) (omega (arith, start, ap length same)) fits (
     there
-    ∙ ap (λ n. text_rows n (shift_at d.shown.row d.shown.shift) 0 d.height (drop d.shown.start text)) (sym put.wide)
-    ∙ ap (λ (ys : List ℕ). text_rows q.cols (shift_at d.shown.row d.shown.shift) 0 d.height (drop d.shown.start ys)) same)
+    ∙ ap (λ n. shown_rows n d d.shown.row d.shown.shift text) (sym put.wide)
+    ∙ ap (λ (ys : List ℕ). shown_rows q.cols d d.shown.row d.shown.shift ys) same)
     (subst (λ (ys : List ℕ). IsTabStop ys d.shown.stop) same stop)
     (last ∙ ap (λ n. mode_row n (mode_text d.name d.shown.mode) ∷ []) (sym put.wide)) in
     let k : ℕ = d.first + (d.height + 1) in
     let inside : d.first + d.height < k = omega arith in
-    record {
-      from = from_stay bs p q d.first k (pane ++ mode ∷ []) olds put (omega (arith, length-append pane (mode ∷ []), high)) s.from;
-      above = subst (λ (xs : List (Option DrawnText)). AreStandingAbove k bs q xs) (sym is) (
-          above_pushed d.first k bs q ds (Some d) (omega arith) (above_stay bs p q d.first d.first (pane ++ mode ∷ []) ds put (omega arith) s.above)
-          (λ e kept. subst (λ (x : DrawnText). Stands bs q x × (x.first + x.height < k)) (same_Some d e kept) (now, inside)));
-    }
+    texts_pushed bs p q d.first k (pane ++ mode ∷ []) (Some d) olds ds es put (omega (arith, length-append pane (mode ∷ []), high)) is
+    (λ e kept. subst (λ (x : DrawnText). Stands bs q x × (x.first + x.height < k)) (same_Some d e kept) (now, inside)) s
 
 -- THE MODE LINE
 

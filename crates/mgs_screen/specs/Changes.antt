@@ -3,7 +3,7 @@ use Rattle.std.specs.Prelude.{◌≡◌, ℕ, List, ◌++◌, Option, drop, coun
 use Rattle.mgs_laws.specs.Apart.{Follows, IsEditedOnce}
 use Rattle.mgs_model.specs.Lines.{is_feed}
 use Rattle.mgs_model.specs.Picture.{Picture}
-use Rattle.mgs_model.specs.Rows.{Row, shift_at, text_rows}
+use Rattle.mgs_model.specs.Rows.{Row, shift_at}
 use Rattle.mgs_model.specs.World.{Buffer}
 use Rattle.mgs_grid.specs.Panes.{AreSameBut}
 use Rattle.mgs_undo.specs.Numbered.{item_of}
@@ -11,7 +11,7 @@ use Rattle.mgs_undo.specs.declared.Edit.{Edit}
 use Rattle.mgs_screen.specs.TabStops.{IsKnown, IsTabStop}
 use Rattle.mgs_screen.specs.declared.change.Change.{Change}
 use Rattle.mgs_screen.specs.declared.change.Change.TheVariants.{Nothing, Line, Anything}
-use Rattle.mgs_screen.specs.TextsDrawn.{DoesShow, rows_at, showing}
+use Rattle.mgs_screen.specs.TextsDrawn.{DoesShow, rows_at, showing, shown_rows}
 use Rattle.mgs_screen.specs.declared.drawn_texts.DrawnText.{DrawnText}
 use Rattle.mgs_screen.specs.declared.drawn_texts.Shown.{Shown}
 use Rattle.mgs_screen.specs.declared.tab_stops.TabStop.{TabStop}
@@ -40,7 +40,7 @@ IsChange Anything from start old new = Unit {0}
 abbrev pub CompletesRow : DrawnText → ℕ → ℕ → List ℕ → Picture → Picture → Type 0
 CompletesRow d row shift text p q =
     (top from : ℕ) (olds : List Row) → shift ≡ shift_at top from row → rows_at d.first d.height p.lines ≡ olds
-    → AreSameBut row olds (text_rows p.cols (shift_at top from) 0 d.height (drop d.shown.start text)) → q ≡ showing d top from text p
+    → AreSameBut row olds (shown_rows p.cols d top from text) → q ≡ showing d top from text p
 
 -- the line that was edited: row `row` was shown from a column, and is shown from another one then
 abbrev pub CompletesLine : DrawnText → ℕ → ℕ → ℕ → ℕ → List ℕ → Picture → Picture → Type 0

@@ -4,7 +4,7 @@ use Rattle.mgs_laws.specs.Apart.{Follows}
 use Rattle.mgs_model.specs.Picture.{Picture}
 use Rattle.mgs_model.specs.Rows.{Row, buffer_mode, mode_row, text_rows, shift_at}
 use Rattle.mgs_model.specs.World.{Buffer, find_buffer}
-use Rattle.mgs_grid.specs.Panes.{text_put}
+use Rattle.mgs_grid.specs.Panes.{with_rows}
 use Rattle.mgs_screen.specs.TabStops.{IsKnown, IsTabStop}
 use Rattle.mgs_screen.specs.declared.drawn_texts.DrawnText.{DrawnText}
 use Rattle.mgs_screen.specs.declared.drawn_texts.Shown.{Shown}
@@ -15,9 +15,13 @@ use Rattle.mgs_screen.specs.declared.tab_stops.TabStop.{TabStop}
 abbrev pub rows_at : ℕ → ℕ → List Row → List Row
 rows_at first height lines = take height (drop first lines)
 
--- where a text is drawn, the rows of a picture are those of such a text, of which one row is shown from another column than 0
+-- the rows that a text is drawn in, of which one is shown from another column than 0
+abbrev pub shown_rows : ℕ → DrawnText → ℕ → ℕ → List ℕ → List Row
+shown_rows cols d row shift text = text_rows cols (shift_at row shift) 0 d.height (drop d.shown.start text)
+
+-- a picture shows them there
 abbrev pub DoesShow : DrawnText → ℕ → ℕ → List ℕ → Picture → Type 0
-DoesShow d row shift text p = rows_at d.first d.height p.lines ≡ text_rows p.cols (shift_at row shift) 0 d.height (drop d.shown.start text)
+DoesShow d row shift text p = rows_at d.first d.height p.lines ≡ shown_rows p.cols d row shift text
 
 -- a buffer of this name, whose flag may be told or not
 abbrev pub told_as : List ℕ → Option Bool → Option (List ℕ × Bool)
@@ -31,9 +35,9 @@ mode_text name m = buffer_mode (told_as name m.heading) (Some (m.line, m.column)
 abbrev pub DoesShowMode : ℕ → List ℕ → ModeLine → Picture → Type 0
 DoesShowMode row name m p = rows_at row 1 p.lines ≡ mode_row p.cols (mode_text name m) ∷ []
 
--- a picture that shows it there
+-- a picture with them there
 abbrev pub showing : DrawnText → ℕ → ℕ → List ℕ → Picture → Picture
-showing d row shift text p = record p { lines = text_put d.first d.height row shift (drop d.shown.start text) p }
+showing d row shift text p = with_rows d.first (shown_rows p.cols d row shift text) p
 
 -- one that was drawn earlier
 abbrev pub text_then : List ℕ → ℕ → ℕ → Shown → DrawnText
