@@ -41,19 +41,20 @@ on_start text start =
     }
 
 -- the line's start
-pub start_before : (text : List ℕ) (start p : ℕ) → start ≡ line_start text p → IsStopBefore text start p (record { place = start; column = 0 })
-start_before text start p is = record { on = on_start text start; order = omega (arith, is) }
+pub start_before : (text : List ℕ) (start p : ℕ) → start ≡ line_start text p → p ≤ length text → IsStopBefore text start p (record { place = start; column = 0 })
+start_before text start p is within = record { on = on_start text start; order = omega (arith, is); within = within }
 
 pub known_before : (text : List ℕ) (start p : ℕ) (stop : TabStop) → start ≡ line_start text p → p ≤ length text → start ≤ stop.place → stop.place ≤ p → IsTabStop text stop → IsStopBefore text start p stop
 known_before text start p stop is within from order known = record {
   on = subst (λ n. IsOn text n stop) (same_line text stop.place p within (omega (arith, is, from)) order ∙ sym is) known.on;
   order = order;
+  within = within;
 }
 
-pub stop_on : (text : List ℕ) (start p : ℕ) (stop : TabStop) → start ≡ line_start text p → p ≤ length text → IsStopBefore text start p stop → IsTabStop text stop
-stop_on text start p stop is within before = record {
-  within = omega (arith, within, before.order);
-  on = subst (λ n. IsOn text n stop) (is ∙ sym (same_line text stop.place p within (omega (arith, is, before.on.from)) before.order)) before.on;
+pub stop_on : (text : List ℕ) (start p : ℕ) (stop : TabStop) → start ≡ line_start text p → IsStopBefore text start p stop → IsTabStop text stop
+stop_on text start p stop is before = record {
+  within = omega (arith, before.within, before.order);
+  on = subst (λ n. IsOn text n stop) (is ∙ sym (same_line text stop.place p before.within (omega (arith, is, before.on.from)) before.order)) before.on;
 }
 
 -- ONE CHARACTER FURTHER

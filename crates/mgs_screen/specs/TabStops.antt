@@ -13,10 +13,11 @@ pub record IsOn (text : List ℕ) (start : ℕ) (stop : TabStop) : Type 0 where
   pub whole : stop.column % 8 ≡ 0
   pub few : stop.column ≤ 12 * stop.place
 
--- and no further than a position
+-- and no further than a position of the text
 pub record IsStopBefore (text : List ℕ) (start p : ℕ) (stop : TabStop) : Type 0 where
   pub on : IsOn text start stop
   pub order : stop.place ≤ p
+  pub within : p ≤ length text
 
 -- in its own line
 pub record IsTabStop (text : List ℕ) (stop : TabStop) : Type 0 where

@@ -81,7 +81,6 @@ pub(crate) fn first_stop(known: Option<TabStop>, start: usize, p: usize) -> TabS
 /// The number of cells before a position in the line that starts at `start`, counted from a tab stop on.
 pub(crate) fn cells_to<T: Text>(text: &T, start: usize, stop: TabStop, p: usize) -> usize
     requires stop { IsStopBefore (T.text text.now) start p stop }
-    requires within { p ≤ length (T.text text.now) }
     requires short { length (T.text text.now) < 2 ^ 32 }
     ensures value { result ≡ length (cells (slice_range (T.text text.now) start p)) }
     ensures few { result ≤ 12 * p }
@@ -123,7 +122,6 @@ pub(crate) fn near_stop<T: Text>(
     cols: usize,
 ) -> TabStop
     requires stop { IsStopBefore (T.text text.now) start p stop }
-    requires within { p ≤ length (T.text text.now) }
     requires short { length (T.text text.now) < 2 ^ 32 }
     requires narrow { cols < 2 ^ 32 }
     ensures { IsStopBefore (T.text text.now) start p result }

@@ -50,4 +50,4 @@ returns-clause-stop g c =
     let text : List ℕ = g.T.Text.text c.args.text.now in
     let point : ℕ = c.pos-point.result in
     let here : c.start_of-line_start.result ≡ line_start text point = line_begins text c.line_of-line.result c.start_of-line_start.result point c.start_of-line_start.ensures.value c.line_of-line.ensures c.pos-point.ensures.within in
-    stop_on text c.start_of-line_start.result point c.near_stop-stop.result here c.pos-point.ensures.within c.near_stop-stop.ensures
+    stop_on text c.start_of-line_start.result point c.near_stop-stop.result here c.near_stop-stop.ensures
