@@ -48,7 +48,7 @@ use Rattle.mgs_core.specs.declared.keying.ByteStep.{ByteStep}
 use Rattle.mgs_core.specs.declared.keying.ByteStep.TheVariants.{Kept, Acts}
 use Rattle.mgs_core.specs.Prompted.{names_for, state_turn}
 use Rattle.mgs_mini.specs.Typing.{IsFirst}
-use Rattle.mgs_core.specs.ByteActs.{asked_of, model_act, deciding_state, deciding_world, refused_again}
+use Rattle.mgs_core.specs.ByteActs.{asked_of, model_act, deciding_state, deciding_world, refused}
 use Rattle.mgs_core.specs.ByteSteps.{IsAlone, IsAnswerStep, IsAskedStep, IsByteStep, IsCommandStep, IsNamedStep, IsReplyStep, SeesNames, second_input}
 use Rattle.mgs_core.proofs.Stepped.{command_step, fit_same, left_same, none_stays, acts_same, kept_none, kept_same}
 
@@ -178,7 +178,7 @@ named_at v y p o byte is turn names found =
     ∙ ap (named_turn (plain_state state) (value_of (unsearched y).state.keyboard.argument)) found
 
 -- the session that is at its prompt again has what it had
-again_prompted : (y : Session) (p : PromptInput) → (unsearched y).state.prompt ≡ Some p → p.waiting ≡ NoKey → refused_again (befores.Prompt p) (unsearched y).state.kind (unsearched y).state.player.playing (state_of (resting (unsearched y)).state) ≡ refused_state (state_of (unsearched y).state)
+again_prompted : (y : Session) (p : PromptInput) → (unsearched y).state.prompt ≡ Some p → p.waiting ≡ NoKey → state_of (refused (befores.Prompt p) (unsearched y).state.kind (unsearched y).state.player.playing (resting (unsearched y))).state ≡ refused_state (state_of (unsearched y).state)
 again_prompted y p is none =
     let state : model.State = state_of (resting (unsearched y)).state in
     ap (λ (w : Waiting). record state { echo = NoMemory; keys = keys_of w; mode = Prompt p.question; input = p.input; old = p.first; todo = [] }) none

@@ -1,14 +1,16 @@
 -- A turn of the session at a place, in the world.
 use Rattle.std.proofs.Common.{◌≡◌, ℕ, zero, suc, ◌<◌, Bool, true, false, List, [], ◌∷◌, get_or, length, map, cond, Option, Some, None, refl, sym, ap, subst, ◌∙◌, arith}
-use Rattle.std.specs.Prelude.{slice_get, slice_set, is_some, not, ◌≤◌, ◌||◌}
-use Rattle.std.specs.List.{flat_map, list_any, position_or_len}
-use Rattle.std.proofs.lemmas.List.{length-map}
+use Rattle.std.specs.Prelude.{slice_get, slice_set, is_some, not, ◌≤◌}
+use Rattle.std.specs.List.{flat_map, position_or_len}
+use Rattle.std.specs.Option.{option_map}
+use Rattle.std.proofs.lemmas.List.{length-map, map-set}
+use Rattle.std.proofs.lemmas.Option.{slice_get-map}
 use Rattle.mgs_model.specs.Access.{Directory}
 use Rattle.mgs_model.specs.World.{World, Buffer, Todo, find_buffer, find_session, has_id, is_named}
 use Rattle.mgs_model.specs.World as model
 use Rattle.mgs_model.specs.Outcome.{Act, Run}
-use Rattle.mgs_laws.specs.Apart.{Apart, bare, may_show, unchanged}
-use Rattle.mgs_model.specs.Apply.{act, change_first, outcome_in, searches}
+use Rattle.mgs_laws.specs.Apart.{Apart}
+use Rattle.mgs_model.specs.Apply.{act, outcome_in, searches}
 use Rattle.mgs_model.specs.Acts.{without_all}
 use Rattle.mgs_model.specs.View.{View, view}
 use Rattle.mgs_model.specs.Turns.{Turn, Keep, Do, todo_turn}
@@ -19,7 +21,7 @@ use Rattle.mgs_model.specs.declared.search.SearchStep.{SearchStep}
 use Rattle.mgs_model.specs.declared.session.Command.TheVariants as commands
 use Rattle.mgs_model.specs.declared.session.Command.TheVariants.{Exit, LeaveSearch, Seek}
 use Rattle.mgs_model.specs.declared.session.Mode.{Mode}
-use Rattle.mgs_model.specs.declared.session.Mode.TheVariants.{Replacing as replacing_mode, Searching}
+use Rattle.mgs_model.specs.declared.session.Mode.TheVariants.{Prompt, Replacing as replacing_mode, Searching}
 use Rattle.mgs_model.specs.declared.session.Seeking.TheVariants.{SearchOn, SkipMatch, StartReplace}
 use Rattle.mgs_model.specs.Searching.{Sought}
 use Rattle.mgs_mini.specs.Typing.{PromptInput}
@@ -30,18 +32,18 @@ use Rattle.mgs_seek.specs.Replacing.{remaining_at, remaining_in, replacement, re
 use Rattle.mgs_model.specs.declared.session.Kind.{Kind}
 use Rattle.mgs_model.specs.declared.touched.Touched.{Touched}
 use Rattle.mgs_model.specs.declared.touched.Touched.TheVariants.{Nowhere}
+use Rattle.mgs_model.specs.declared.message.Message.TheVariants.{NoMemory}
 use Rattle.mgs_laws.proofs.Apart.{apart_state}
-use Rattle.mgs_model.proofs.Blind.{change_inside}
 use Rattle.mgs_mini.proofs.Completions.{shown_names_of}
 use Rattle.mgs_laws.proofs.Ends.{act_fails}
 use Rattle.mgs_model.proofs.Firsts.{change_first_found, change_twice}
-use Rattle.mgs_laws.proofs.Follow.{followed_same}
 use Rattle.mgs_laws.proofs.LeftToDo.{is_single, single_brief, todo_acted}
 use Rattle.mgs_laws.proofs.Turned.{turn_todo}
 use Rattle.mgs_plan.specs.Beginning.{search_held, search_or_none}
 use Rattle.mgs_plan.specs.Actions.{act_of}
 use Rattle.mgs_plan.specs.declared.key_act.KeyAct.{KeyAct}
 use Rattle.mgs_plan.specs.Tells.{touched_in}
+use Rattle.mgs_plan.proofs.Deeds.{set_twice}
 use Rattle.mgs_plan.proofs.Quiet.{quiet_leaving, quiet_seeking}
 use Rattle.mgs_plan.specs.Searching.{meant}
 use Rattle.mgs_buffers.specs.MarkedBuffer.{AreWithinLimit, MarkedBuffer}
@@ -49,7 +51,7 @@ use Rattle.mgs_session.specs.declared.Session.{Session}
 use Rattle.mgs_session.specs.declared.search.Search.{Search}
 use Rattle.mgs_store.specs.Stores.{StoreTold}
 use Rattle.mgs_store.proofs.Told.{told_none}
-use Rattle.mgs_world.specs.Worlds.{aim_input, aim_mode, aim_old, buffers_of, input_in, keys_in, mode_in, old_in, state_at, state_of, state_or_first, search_of, session_id, session_of, size_found, size_in, size_named, sizes_in, world_of}
+use Rattle.mgs_world.specs.Worlds.{aim_input, aim_mode, aim_old, buffers_of, count_in, input_in, keys_in, mode_in, old_in, state_at, state_of, state_or_first, search_of, session_id, session_of, size_found, size_in, size_named, sizes_in, world_of}
 use Rattle.mgs_world.proofs.Sessions.{session_some}
 use Rattle.mgs_world.proofs.Soundness.{sizes_set}
 use Rattle.mgs_core.specs.declared.byte_acts.ByteAct.{ByteAct}
@@ -60,7 +62,7 @@ use Rattle.mgs_core.specs.declared.keying.ByteStep.TheVariants.{Kept, Failed, En
 use Rattle.mgs_act.specs.Doing.{ActedBy, DoneBy}
 use Rattle.mgs_core.specs.KeyActs.{started_by, started_state, started_world}
 use Rattle.mgs_core.specs.Calls.{closed}
-use Rattle.mgs_core.specs.ByteActs.{CanDo, IsReady, asked_of, before_of, model_act, deciding_state, deciding_world, finds, is_finding, is_replacement, is_replacing, keys_left, may_want_memory, put_back, refused, search_again, search_before, seek_act, starts_replacing, world_back}
+use Rattle.mgs_core.specs.ByteActs.{CanDo, IsReady, asked_of, before_of, model_act, deciding_state, deciding_world, finds, is_finding, is_replacement, is_replacing, may_want_memory, refused, search_before, seek_act, starts_replacing}
 use Rattle.mgs_core.specs.AtPlace.{IsActRefused}
 use Rattle.mgs_core.specs.ByteSteps.{IsTurnStep, SearchStays, SeesNames, TurnLeft}
 use Rattle.mgs_core.specs.Turns.{IsLess, IsWithin, TurnDone, TurnEnds, TurnRefused, IsFit, has_all, is_played, is_quiet, weight}
@@ -70,7 +72,7 @@ use Rattle.mgs_core.proofs.Prompted.{answered_single}
 use Rattle.mgs_core.proofs.Sizes.{place_same}
 use Rattle.mgs_core.proofs.Started.{begun_act}
 use Rattle.mgs_core.proofs.Stays.{state_rests, settled_as}
-use Rattle.mgs_core.proofs.Steps.{session_changed, session_there, set_there, world_changed}
+use Rattle.mgs_core.proofs.Steps.{session_there, set_there, world_changed}
 use Rattle.mgs_core.proofs.Turned.{AllLeft, all_less, all_none, all_same, all_without, more_weight, none_weight, some_left, without_same, without_within}
 use Rattle.mgs_core.proofs.Fitting.{replaced_fits}
 use Rattle.mgs_core.proofs.Stepped.{fit_empty, fit_none}
@@ -221,50 +223,59 @@ quit_quietly old new t id state b byte_act is world =
 
 -- AN ACT THAT IS REFUSED
 
--- what was there before is there again, in the model's words
-again_of : (ks : List MarkedBuffer) (x : Session) (b : Before) (kind : Kind) (playing : Bool) → session_of ks (refused b kind playing x) ≡ put_back (buffers_of ks) b kind playing (session_of ks x)
-again_of ks x befores.Plain kind playing = refl
-again_of ks x (befores.Prompt p) kind playing = refl
-again_of ks x (befores.Search s last) kind playing = refl
-again_of ks x befores.Held kind playing = ap (λ (keys : List ℕ). record (session_of ks (refused befores.Held kind playing x)) { state = record (state_of (refused befores.Held kind playing x).state) { keys = keys } }) (by x.state.search x.state.prompt)
+-- no key is half read but at a prompt, which has its own
+abbrev keys_left : Mode → List ℕ → List ℕ
+keys_left (Prompt c) keys = keys
+keys_left _ keys = []
+
+left_of : (s : Option Search) (p : Option PromptInput) (keys : List ℕ) → keys_in s [] p ≡ keys_left (mode_in s p) (keys_in s keys p)
+left_of None None keys = refl
+left_of None (Some p) keys = refl
+left_of (Some s) p keys = by s.aim
   where
-    aims : (s : Search) (a : Aim) (p : Option PromptInput) → [] ≡ keys_left (aim_mode a) x.state.keyboard.keys
-    aims s (Find f) p = refl
-    aims s (Replace r) p = refl
+    by : (a : Aim) → [] ≡ keys_left (aim_mode a) keys
+    by (Find f) = refl
+    by (Replace r) = refl
 
-    by : (s : Option Search) (p : Option PromptInput) → keys_in s [] p ≡ keys_left (mode_in s p) (keys_in s x.state.keyboard.keys p)
-    by None None = refl
-    by None (Some p) = refl
-    by (Some s) p = aims s s.aim p
+-- where memory is refused, sessions that the model cannot tell apart are left so
+module _ (ks ls : List MarkedBuffer) (kind : Kind) (playing : Bool) (x z : Session) (texts : buffers_of ls ≡ buffers_of ks) (same : session_of ls z ≡ session_of ks x) where
+  -- with this search or prompt, and this searched for last
+  abbrev restored : Option model.Search → Option Search → Option PromptInput → List ℕ → model.Session → model.Session
+  restored found s p pattern w = record w {
+    search = found;
+    state = record w.state { echo = NoMemory; pattern = pattern; argument = None; keys = keys_in s [] p; kind = kind; mode = mode_in s p; input = input_in s p; old = old_in s p; count = count_in s; playing = playing; todo = [] };
+  }
 
-search_back : (bs : List Buffer) (b : Before) (s : Option Search) → search_again bs b (search_of bs s) ≡ search_of bs (search_before b s)
-search_back bs befores.Plain s = refl
-search_back bs (befores.Prompt p) s = refl
-search_back bs (befores.Search t last) s = refl
-search_back bs befores.Held s = refl
+  keys_alike : keys_in z.state.search [] z.state.prompt ≡ keys_in x.state.search [] x.state.prompt
+  keys_alike =
+      left_of z.state.search z.state.prompt z.state.keyboard.keys
+      ∙ ap (λ (w : model.Session). keys_left w.state.mode w.state.keys) same
+      ∙ sym (left_of x.state.search x.state.prompt x.state.keyboard.keys)
+
+  refused_alike : (b : Before) → session_of ls (refused b kind playing z) ≡ session_of ks (refused b kind playing x)
+  refused_alike befores.Plain = ap (λ (w : model.Session). restored None None None w.state.pattern w) same
+  refused_alike (befores.Prompt p) = ap (λ (w : model.Session). restored None None (Some p) w.state.pattern w) same
+  refused_alike (befores.Search s last) = λ i. restored (search_of (texts i) (Some s)) (Some s) None last (same i)
+  refused_alike befores.Held = λ i. record (same i) { state = record (same i).state { echo = NoMemory; argument = None; keys = keys_alike i; kind = kind; playing = playing; todo = [] } }
 
 -- the session is told so, where an act left the world as it was
-pub refused_in_world : (d : Directory) (ks K : List MarkedBuffer) (xs ys : List Session) (next : Option ℕ) (id at : ℕ) (k z : Session) (b e : Before) (kind : Kind) (playing : Bool) → at ≡ position_or_len (session_id id) xs → at < length xs → sizes_in ys ≡ sizes_in xs → k ≡ get_or ys at k → e ≡ b → z ≡ refused e kind playing k
-    → world_of d K ys next ≡ world_of d ks xs next
-    → world_of d K (slice_set ys at z) next ≡ world_back (buffers_of ks) b kind playing id (world_of d ks xs next)
-refused_in_world d ks K xs ys next id at k z b e kind playing place within same is_k of_b does stays =
-    session_changed (put_back (buffers_of K) b kind playing) d K ys next id at k z (place_same id at xs ys place same) (within_still at xs ys within same) is_k
-    (ap (session_of K) (does ∙ ap (λ (c : Before). refused c kind playing k) of_b) ∙ again_of K k b kind playing)
-    ∙ ap (λ (w : World). world_back w.buffers b kind playing id w) stays
-
-others_unchanged : (id : ℕ) (f : model.Session → model.Session) → ((x : model.Session) → (f x).id ≡ x.id) → (xs : List model.Session) → map (unchanged Nowhere id) (change_first (has_id id) f xs) ≡ map (unchanged Nowhere id) xs
-others_unchanged id f same xs =
-    change_inside (unchanged Nowhere id) (has_id id) f xs
-    (λ x e. state_none (f x) (ap (λ (n : ℕ). has_id id (record x { id = n })) (same x) ∙ e) ∙ sym (state_none x e))
+pub refused_in_world : (d : Directory) (ks ls : List MarkedBuffer) (xs zs : List Session) (next : Option ℕ) (at : ℕ) (x z r : Session) (b e : Before) (kind : Kind) (playing : Bool) → at < length zs → slice_get xs at ≡ Some x → z ≡ get_or zs at z → e ≡ b → r ≡ refused e kind playing z
+    → world_of d ls zs next ≡ world_of d ks xs next
+    → world_of d ls (slice_set zs at r) next ≡ world_of d ks (slice_set xs at (refused b kind playing x)) next
+refused_in_world d ks ls xs zs next at x z r b e kind playing within is_x is_z of_b does same =
+    set_in ls zs r ∙ (λ i. record (same i) { sessions = slice_set (same i).sessions at (left i) }) ∙ sym (set_in ks xs (refused b kind playing x))
   where
-    state_none : (x : model.Session) → has_id id x ≡ true → unchanged Nowhere id x ≡ None
-    state_none x e = ap (λ (c : Bool). cond (c || list_any (λ (w : model.Window). may_show Nowhere w.shows) x.windows) None (Some (bare x))) e
+    set_in : (K : List MarkedBuffer) (ys : List Session) (y : Session) → world_of d K (slice_set ys at y) next ≡ record (world_of d K ys next) { sessions = slice_set (map (session_of K) ys) at (session_of K y) }
+    set_in K ys y = ap (λ (ss : List model.Session). record (world_of d K ys next) { sessions = ss }) (map-set (session_of K) ys at y)
 
--- which touches nothing
-pub refused_apart : (bs : List Buffer) (b : Before) (kind : Kind) (playing : Bool) (id : ℕ) (w v : World) → v ≡ world_back bs b kind playing id w → Apart Nowhere id w v
-refused_apart bs b kind playing id w v is =
-    let stays : Apart Nowhere id w (world_back bs b kind playing id w) = record { directory = refl; buffers = refl; rules = λ h. refl; texts = λ h. followed_same w.buffers; sessions = λ h. others_unchanged id (put_back bs b kind playing) (λ x. refl) w.sessions } in
-    subst (Apart Nowhere id w) (sym is) stays
+    held_in : (K : List MarkedBuffer) (ys : List Session) (y : Session) → slice_get ys at ≡ Some y → slice_get (map (session_of K) ys) at ≡ Some (session_of K y)
+    held_in K ys y is = slice_get-map (session_of K) ys at ∙ ap (option_map (session_of K)) is
+
+    held : session_of ls z ≡ session_of ks x
+    held = let now = held_in ls zs z (session_there zs at z within is_z) in let then = held_in ks xs x is_x in let at_once = ap (λ (w : World). slice_get w.sessions at) same in cc
+
+    left : session_of ls r ≡ session_of ks (refused b kind playing x)
+    left = ap (session_of ls) (does ∙ ap (λ (c : Before). refused c kind playing z) of_b) ∙ refused_alike ks ls kind playing x z (ap (λ (w : World). w.buffers) same) held b
 
 -- A TURN
 
@@ -555,30 +566,26 @@ module _ (d : Directory) (ks : List MarkedBuffer) (xs : List Session) (next : Op
         }
 
     -- what was there before is there again in the session as it was before the turn
-    back : may_want_memory byte_act ≡ true → (let f : model.Session → model.Session = put_back (buffers_of ks) (before_of b byte_act) h.state.kind h.state.player.playing in f (state_set (λ was. state_of y.state) (session_of ks h)) ≡ state_set refused_state (session_of ks h))
-    back wants =
-        let found : search_again (buffers_of ks) (before_of b byte_act) (cond (searches (state_of y.state).mode) (search_of (buffers_of ks) h.state.search) None) ≡ cond (searches (state_of h.state).mode) (search_of (buffers_of ks) h.state.search) None =
-        ap (search_again (buffers_of ks) (before_of b byte_act)) (sym (s.stays (buffers_of ks))) ∙ search_back (buffers_of ks) (before_of b byte_act) y.state.search ∙ ap (search_of (buffers_of ks)) (s.search wants) ∙ search_still (buffers_of ks) h.state.search h.state.prompt in
-        λ i. record (session_of ks h) { search = found i; state = s.again wants i }
+    abbrev again : Session
+    again = refused (before_of b byte_act) h.state.kind h.state.player.playing y
 
-    pub refused_turn : (K : List MarkedBuffer) (ys : List Session) (before after : StoreTold) (kind : Kind) (playing : Bool) → kind ≡ h.state.kind → playing ≡ h.state.player.playing → IsActRefused d id at b byte_act kind playing ks K (slice_set xs at y) ys → after ≡ before
+    back : may_want_memory byte_act ≡ true → session_of ks again ≡ state_set refused_state (session_of ks h)
+    back wants =
+        ap (λ (z : Session). session_of ks (refused (before_of b byte_act) h.state.kind h.state.player.playing z)) s.state
+        ∙ (λ i. record (session_of ks h) { search = (ap (search_of (buffers_of ks)) (s.search wants) ∙ search_still (buffers_of ks) h.state.search h.state.prompt) i; state = s.again wants i })
+
+    pub refused_turn : (K : List MarkedBuffer) (ys : List Session) (before after : StoreTold) (kind : Kind) (playing : Bool) → kind ≡ h.state.kind → playing ≡ h.state.player.playing → IsActRefused d at b byte_act kind playing ks K (slice_set xs at y) ys → after ≡ before
         → TurnRefused old (world_of d K ys next) before after id
     refused_turn K ys before after kind playing of_kind of_play r stays =
-        let f : model.Session → model.Session = put_back (buffers_of ks) (before_of b byte_act) h.state.kind h.state.player.playing in
-        let g : model.Session → model.Session = state_set (λ was. state_of y.state) in
         let still : at ≡ position_or_len (session_id id) (slice_set xs at y) = place_same id at xs (slice_set xs at y) place (sizes_set xs at h y is_h (ap size_in s.state)) in
         record {
           state = state;
           act = act_done;
           turn = byte_act_turn;
           told =
-              r.told next
-              ∙ ap (λ (c : Kind). world_back (buffers_of ks) (before_of b byte_act) c playing id begun) of_kind
-              ∙ ap (λ (p : Bool). world_back (buffers_of ks) (before_of b byte_act) h.state.kind p id begun) of_play
-              ∙ ap (world_back (buffers_of ks) (before_of b byte_act) h.state.kind h.state.player.playing id) (changed s.state s.stays)
-              ∙ ap (λ (zs : List model.Session). record old { sessions = zs })
-              (change_twice (has_id id) f g (λ (x : model.Session). f (g x)) (λ x. refl) (λ x. refl) (world_of d ks xs next).sessions
-              ∙ change_first_found (has_id id) (λ (x : model.Session). f (g x)) (state_set refused_state) (session_of ks h) (world_of d ks xs next).sessions (session_some d ks xs next id at h place within is_h) (back r.wants));
+              r.told y next (set_there xs at y within)
+              ∙ ap (λ (zs : List Session). world_of d ks zs next) (set_twice xs at y (refused (before_of b byte_act) kind playing y) ∙ (λ i. slice_set xs at (refused (before_of b byte_act) (of_kind i) (of_play i) y)))
+              ∙ world_changed refused_state d ks xs next id at h again place within is_h (back r.wants);
           may =
               ap (λ (o : model.State). may_be_refused (outcome_in (with_state id (λ was. o) old) id act_done true)) (unstarted b byte_act (state_of y.state) r.wants)
               ∙ sym (ap (λ (v : World). may_be_refused (outcome_in v id act_done true)) (changed s.state s.stays))

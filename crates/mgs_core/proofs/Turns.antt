@@ -20,7 +20,6 @@ use Rattle.mgs_model.specs.declared.session.Kind.{Kind}
 use Rattle.mgs_model.specs.declared.session.Kind.TheVariants.{Other}
 use Rattle.mgs_buffers.specs.MarkedBuffer.{MarkedBuffer}
 use Rattle.mgs_mini.specs.Typing.{PromptInput}
-use Rattle.mgs_session.specs.declared.State.{State}
 use Rattle.mgs_session.specs.declared.search.Aim.{Aim}
 use Rattle.mgs_session.specs.declared.search.Aim.TheVariants.{Find, Replace}
 use Rattle.mgs_session.specs.declared.Session.{Session}
@@ -36,7 +35,7 @@ use Rattle.mgs_core.specs.declared.byte_acts.Before.TheVariants as befores
 use Rattle.mgs_core.specs.declared.keying.ByteStep.{ByteStep}
 use Rattle.mgs_core.specs.declared.keying.ByteStep.TheVariants.{Kept, Failed, Ends, Acts}
 use Rattle.mgs_core.specs.Prompted.{state_turn}
-use Rattle.mgs_core.specs.ByteActs.{IsReady, before_of, model_act, deciding_state, finds, is_replacing, refused_again, search_before}
+use Rattle.mgs_core.specs.ByteActs.{IsReady, before_of, model_act, deciding_state, finds, is_replacing, refused, search_before}
 use Rattle.mgs_core.specs.ByteSteps.{IsByteStep, IsFirstStep, IsFurther, IsLeft, IsStep, IsTurnStep, SearchStays, SeesNames, TurnLeft, replaces}
 use Rattle.mgs_core.specs.KeyActs.{started_by, started_state}
 use Rattle.mgs_core.proofs.Begun.{search_still}
@@ -78,12 +77,6 @@ started_other (Some d) o = refl
 byte_act_other : (b : Before) (byte_act : ByteAct) (o : model.State) → record (deciding_state b byte_act o) { kind = Other } ≡ deciding_state b byte_act (record o { kind = Other })
 byte_act_other b (byte_acts.Act a) o = started_other (started_by a) o
 byte_act_other b _ o = refl
-
-again_other : (b : Before) (k : Kind) (p : Bool) (o : model.State) → refused_again b k p (record o { kind = Other }) ≡ refused_again b k p o
-again_other befores.Plain k p o = refl
-again_other (befores.Prompt q) k p o = refl
-again_other (befores.Search s last) k p o = refl
-again_other befores.Held k p o = refl
 
 -- THE FIRST BYTE of a play
 
@@ -131,7 +124,7 @@ module _ (d : Directory) (ks : List MarkedBuffer) (state : model.State) (x y new
             ∙ s.playing plays;
         typed = λ e. cc;
         left = subst (IsWithin (1048578 + weight 1048576 x.state.player.todo)) (sym (ap (λ (z : Session). z.state.player.todo) is)) (omega (arith, within.0), within.1);
-        again = λ wants. ap (λ (z : Session). refused_again (before_of b byte_act) x.state.kind x.state.player.playing (state_of z.state)) is ∙ again_other (before_of b byte_act) x.state.kind x.state.player.playing (state_of y.state) ∙ s.again wants;
+        again = λ wants. ap (λ (z : Session). state_of (refused (before_of b byte_act) x.state.kind x.state.player.playing z).state) is ∙ s.again wants;
         search = λ wants. ap (λ (z : Session). search_before (before_of b byte_act) z.state.search) is ∙ s.search wants;
         fit = subst (λ (z : Session). IsFit (state_of z.state)) (sym is) s.fit;
         begins = s.begins;
@@ -277,7 +270,7 @@ module _ (d : Directory) (ks : List MarkedBuffer) (x y new : Session) (taken : y
         playing = λ e. or_true new.state.player.playing;
         typed = λ e. not_both (is_played x.state.player.todo) typed e;
         left = record { played = ap is_played left ∙ typed; less = λ e. not_both (has_all x.state.player.todo) (ap has_all todo ∙ all) e; same = λ e. (refl, left, ap (λ (ts : List Todo). has_all (without_all ts)) todo ∙ rest) };
-        again = λ wants. ap (λ (z : Session). refused_again befores.Held x.state.kind x.state.player.playing (state_of z.state)) is ∙ held_again x.state replaces;
+        again = λ wants. ap (λ (z : Session). state_of (refused befores.Held x.state.kind x.state.player.playing z).state) is ∙ held_again x.state.search replaces;
         search = λ wants. ap (λ (z : Session). z.state.search) is;
         fit = subst (λ (z : Session). IsFit (state_of z.state)) (sym is) fit;
         begins = λ h. cc;
@@ -288,16 +281,9 @@ module _ (d : Directory) (ks : List MarkedBuffer) (x y new : Session) (taken : y
       or_true true = refl
       or_true false = refl
 
-      aims : (o : State) (g : Search) (a : Aim) → not (finds a) ≡ true → refused_again befores.Held o.kind o.player.playing (state_of (record o { search = Some (record g { aim = a }) })) ≡ refused_state (state_of (record o { search = Some (record g { aim = a }) }))
-      aims o g (Find f) e = cc
-      aims o g (Replace r) e = refl
-
-      by : (o : State) (g : Option Search) → is_replacing g ≡ true → refused_again befores.Held o.kind o.player.playing (state_of (record o { search = g })) ≡ refused_state (state_of (record o { search = g }))
-      by o None e = cc
-      by o (Some g) e = aims o g g.aim e
-
-      held_again : (o : State) → is_replacing o.search ≡ true → refused_again befores.Held o.kind o.player.playing (state_of o) ≡ refused_state (state_of o)
-      held_again o e = by o o.search e
+      held_again : (g : Option Search) → is_replacing g ≡ true → (let o : Session = record x { state = record x.state { search = g } } in state_of (refused befores.Held x.state.kind x.state.player.playing o).state ≡ refused_state (state_of o.state))
+      held_again None e = cc
+      held_again (Some g) e = refl
 
   -- the session replaces where further replacements are to be done
   fit_replacing : IsFit (state_of x.state) → has_all x.state.player.todo ≡ true → is_replacing x.state.search ≡ true

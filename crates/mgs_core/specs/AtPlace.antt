@@ -1,5 +1,5 @@
 -- What a call on the session at a place leaves, whatever its id, and whichever id comes next.
-use Rattle.std.specs.Prelude.{◌≡◌, ◌+◌, ◌<◌, ℕ, Bool, zero, suc, true, List, [], ◌∷◌, length, Option, None, Some, Result, IfOk}
+use Rattle.std.specs.Prelude.{◌≡◌, ◌+◌, ◌<◌, ℕ, Bool, zero, suc, true, List, [], ◌∷◌, length, slice_get, slice_set, Option, None, Some, Result, IfOk}
 use Rattle.std.specs.List.{position_or_len}
 use Rattle.mgs_model.specs.Access.{Directory}
 use Rattle.mgs_model.specs.World.{World, find_session, has_id}
@@ -24,7 +24,7 @@ use Rattle.mgs_session.specs.declared.State.{State}
 use Rattle.mgs_session.specs.declared.Session.{Session}
 use Rattle.mgs_session.specs.declared.search.Search.{Search}
 use Rattle.mgs_store.specs.Stores.{StoreTold, store_told}
-use Rattle.mgs_world.specs.Worlds.{aim_old, buffers_of, state_at, session_id, world_of}
+use Rattle.mgs_world.specs.Worlds.{aim_old, state_at, session_id, world_of}
 use Rattle.mgs_core.specs.declared.byte_acts.Before.{Before}
 use Rattle.mgs_core.specs.declared.byte_acts.ByteAct.{ByteAct}
 use Rattle.mgs_core.specs.Held.{AreSettled}
@@ -32,7 +32,7 @@ use Rattle.mgs_act.specs.Doing.{DoneBy}
 use Rattle.mgs_world.specs.Acted.{IsRefusable}
 use Rattle.mgs_core.specs.KeyActs.{started_by, started_world}
 use Rattle.mgs_core.specs.Calls.{IsStill, KeyedBy, closed, differs_at}
-use Rattle.mgs_core.specs.ByteActs.{before_of, deciding_world, is_replacement, may_want_memory, model_act, world_back}
+use Rattle.mgs_core.specs.ByteActs.{before_of, deciding_world, is_replacement, may_want_memory, model_act, refused}
 use Rattle.mgs_core.specs.Turns.{EventBy, IsLess, TurnedBy, is_played}
 
 -- all that was not touched is as it was
@@ -107,9 +107,9 @@ IsActDone failed accepted directory at byte_act b ks xs s ls ys t result =
     → DoneBy touched (deciding_world b byte_act id (world_of directory ks xs next)) (world_of directory ls ys next) (store_told failed accepted s) (store_told failed accepted t) id (model_act (state_at at xs) b byte_act))
 
 -- memory was refused to it, if it takes any: the session is told so, and what was there before is there again
-pub record IsActRefused (directory : Directory) (id at : ℕ) (b : Before) (byte_act : ByteAct) (kind : Kind) (playing : Bool) (ks ls : List MarkedBuffer) (xs ys : List Session) : Type 0 where
+pub record IsActRefused (directory : Directory) (at : ℕ) (b : Before) (byte_act : ByteAct) (kind : Kind) (playing : Bool) (ks ls : List MarkedBuffer) (xs ys : List Session) : Type 0 where
   pub wants : may_want_memory byte_act ≡ true
-  pub told : (next : Option ℕ) → world_of directory ls ys next ≡ world_back (buffers_of ks) (before_of b byte_act) kind playing id (world_of directory ks xs next)
+  pub told : (x : Session) (next : Option ℕ) → slice_get xs at ≡ Some x → world_of directory ls ys next ≡ world_of directory ks (slice_set xs at (refused (before_of b byte_act) kind playing x)) next
   pub may : IsRefusable directory at (model_act (state_at at xs) b byte_act) ks xs
 
 -- a replacement leaves fewer characters of the text that is replaced in

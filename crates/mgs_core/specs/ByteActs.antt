@@ -1,16 +1,15 @@
 -- What is to be done for a byte: which act of the model it is, and what is there again where memory is refused to it.
 use Rattle.std.specs.Prelude.{◌≡◌, ℕ, Bool, true, false, List, [], Option, None, Some, is_some, not}
 use Rattle.mgs_model.specs.World as model
-use Rattle.mgs_model.specs.World.{World, Buffer, has_id}
+use Rattle.mgs_model.specs.World.{World}
 use Rattle.mgs_model.specs.Outcome.{Act, Run, Unbound}
 use Rattle.mgs_model.specs.Turns.{command_for}
-use Rattle.mgs_model.specs.Apply.{change_first}
 use Rattle.mgs_model.specs.Events.{with_state}
 use Rattle.mgs_model.specs.declared.message.Message.TheVariants.{NoMemory, Silent}
 use Rattle.mgs_model.specs.declared.session.Command.TheVariants as commands
 use Rattle.mgs_model.specs.declared.session.Command.TheVariants.{LeaveSearch, Seek}
 use Rattle.mgs_model.specs.declared.session.Mode.{Mode}
-use Rattle.mgs_model.specs.declared.session.Mode.TheVariants.{Prompt, Searching}
+use Rattle.mgs_model.specs.declared.session.Mode.TheVariants.{Searching}
 use Rattle.mgs_model.specs.declared.session.Seeking.TheVariants.{SearchOn, SkipMatch, StartReplace}
 use Rattle.mgs_model.specs.declared.session.Question.TheVariants.{RunWhich}
 use Rattle.mgs_model.specs.declared.search.SearchStep.{SearchStep}
@@ -27,7 +26,7 @@ use Rattle.mgs_session.specs.declared.search.Aim.{Aim}
 use Rattle.mgs_session.specs.declared.search.Aim.TheVariants.{Find, Replace}
 use Rattle.mgs_session.specs.declared.search.Search.{Search}
 use Rattle.mgs_session.specs.Sessions.{acted, playing_as, told}
-use Rattle.mgs_world.specs.Worlds.{count_in, idle, input_in, keys_in, mode_in, old_in, search_of}
+use Rattle.mgs_world.specs.Worlds.{idle}
 use Rattle.mgs_core.specs.declared.byte_acts.ByteAct.{ByteAct}
 use Rattle.mgs_core.specs.declared.byte_acts.ByteAct.TheVariants as byte_acts
 use Rattle.mgs_core.specs.declared.byte_acts.Before.{Before}
@@ -167,70 +166,8 @@ state_before b state =
 
 -- the session is told so, has nothing more to do, and what was there before is there again, with the last command's kind and the macro's
 -- play as they were
-
 abbrev pub refused : Before → Kind → Bool → Session → Session
 refused b k playing x =
     let again : Session = record x { state = state_before b x.state } in
     let z : Session = acted k again in
     playing_as (record { playing = playing; todo = [] }) (told NoMemory z)
-
--- no key is half read but at a prompt, which has its own
-abbrev pub keys_left : Mode → List ℕ → List ℕ
-keys_left (Prompt c) keys = keys
-keys_left _ keys = []
-
-abbrev pub keys_again : Before → Mode → List ℕ → List ℕ
-keys_again befores.Plain m keys = keys_in None [] None
-keys_again (befores.Prompt p) m keys = keys_in None [] (Some p)
-keys_again (befores.Search s last) m keys = keys_in (Some s) [] None
-keys_again befores.Held m keys = keys_left m keys
-
-abbrev pub mode_again : Before → Mode → Mode
-mode_again befores.Plain m = mode_in None None
-mode_again (befores.Prompt p) m = mode_in None (Some p)
-mode_again (befores.Search s last) m = mode_in (Some s) None
-mode_again befores.Held m = m
-
-abbrev pub input_again : Before → List ℕ → List ℕ
-input_again befores.Plain input = input_in None None
-input_again (befores.Prompt p) input = input_in None (Some p)
-input_again (befores.Search s last) input = input_in (Some s) None
-input_again befores.Held input = input
-
-abbrev pub old_again : Before → List ℕ → List ℕ
-old_again befores.Plain old = old_in None None
-old_again (befores.Prompt p) old = old_in None (Some p)
-old_again (befores.Search s last) old = old_in (Some s) None
-old_again befores.Held old = old
-
-abbrev pub count_again : Before → ℕ → ℕ
-count_again (befores.Search s last) count = count_in (Some s)
-count_again befores.Held count = count
-count_again _ count = 0
-
--- the same of what the model's session holds, and of its search over these texts
-abbrev pub state_again : Before → model.State → model.State
-state_again b state =
-    record state {
-      pattern = pattern_before b state.pattern;
-      keys = keys_again b state.mode state.keys;
-      mode = mode_again b state.mode;
-      input = input_again b state.input;
-      old = old_again b state.old;
-      count = count_again b state.count;
-    }
-
-abbrev pub refused_again : Before → Kind → Bool → model.State → model.State
-refused_again b k playing state = record (state_again b state) { echo = NoMemory; argument = None; kind = k; playing = playing; todo = [] }
-
-abbrev pub search_again : List Buffer → Before → Option model.Search → Option model.Search
-search_again bs (befores.Search s last) old = search_of bs (Some s)
-search_again bs befores.Held old = old
-search_again bs _ old = None
-
-abbrev pub put_back : List Buffer → Before → Kind → Bool → model.Session → model.Session
-put_back bs b k playing x = record x { search = search_again bs b x.search; state = refused_again b k playing x.state }
-
--- in the session of an id
-abbrev pub world_back : List Buffer → Before → Kind → Bool → ℕ → World → World
-world_back bs b k playing id w = record w { sessions = change_first (has_id id) (put_back bs b k playing) w.sessions }

@@ -37,7 +37,7 @@ use Rattle.mgs_session.specs.Seeking.{searching}
 use Rattle.mgs_session.specs.declared.search.Search.{Search}
 use Rattle.mgs_model.specs.Searching.{Sought}
 use Rattle.mgs_session.specs.Playing.{Playing, are_behind, are_played}
-use Rattle.mgs_session.specs.Sessions.{failed, macro_called, prompting, resting, told}
+use Rattle.mgs_session.specs.Sessions.{failed, macro_called, prompting, resting}
 use Rattle.mgs_world.specs.Worlds.{buffers_of, state_of, search_of}
 use Rattle.mgs_core.specs.declared.byte_acts.ByteAct.{ByteAct}
 use Rattle.mgs_core.specs.declared.byte_acts.ByteAct.TheVariants as byte_acts
@@ -49,7 +49,7 @@ use Rattle.mgs_core.specs.declared.typing.ReplaceKey.{ReplaceKey}
 use Rattle.mgs_core.specs.declared.typing.ReplaceKey.TheVariants as keys
 use Rattle.mgs_core.specs.Prompted.{state_turn}
 use Rattle.mgs_core.specs.KeyActs.{command_act}
-use Rattle.mgs_core.specs.ByteActs.{CanDo, IsReady, before_of, deciding_state, is_replacement, may_want_memory, model_act, refused_again, search_before, starts_replacing}
+use Rattle.mgs_core.specs.ByteActs.{CanDo, IsReady, before_of, deciding_state, is_replacement, may_want_memory, model_act, refused, search_before, starts_replacing}
 use Rattle.mgs_core.specs.Turns.{IsFit, IsWithin, has_all, is_played, is_quiet, weight}
 
 -- WHAT IS LEFT TO DO
@@ -118,7 +118,7 @@ pub record StepActs (Sees : View → Type 0) (comes : View → Turn) (plays : Bo
   pub playing : plays ≡ true → is_quiet new.state.player.playing (model_act (state_of new.state) b byte_act) ≡ true
   pub typed : plays ≡ false → new.state.player.todo ≡ []
   pub left : Left new.state.player.todo
-  pub again : may_want_memory byte_act ≡ true → refused_again (before_of b byte_act) old.state.kind old.state.player.playing (state_of new.state) ≡ refused_state (state_of old.state)
+  pub again : may_want_memory byte_act ≡ true → state_of (refused (before_of b byte_act) old.state.kind old.state.player.playing new).state ≡ refused_state (state_of old.state)
   pub search : may_want_memory byte_act ≡ true → search_before (before_of b byte_act) new.state.search ≡ old.state.search
   pub fit : IsFit (state_of new.state)
   pub begins : starts_replacing byte_act ≡ true → old.state.search ≡ None

@@ -16,7 +16,6 @@ ghost use Rattle.mgs_core.specs.Held.{AreSettled};
 ghost use Rattle.mgs_core.specs.Judged.{judged_touched};
 ghost use Rattle.mgs_core.specs.ByteActs.{CanDo, IsReady, state_before, refused};
 ghost use Rattle.mgs_core.specs.ByteSteps.{IsFirstStep, IsTurnStep};
-ghost use Rattle.mgs_model.specs.declared.touched.Touched.TheVariants.{Nowhere};
 ghost use Rattle.mgs_core.specs.Turns.{IsFit, goes_on, has_all, touched_both, weight};
 
 use crate::byte_acts::{Before, ByteAct, do_byte_act, take_before};
@@ -186,11 +185,10 @@ fn act_turn<T: Marked + Drop, S: Store>(
     ensures sound { IsSound buffers.new sessions.new }
     ensures sizes { sizes_in sessions.new ≡ sizes_in sessions.old }
     ensures ok { IsActDone S.failed S.accepted directory.now at act before.old buffers.old sessions.old store.old buffers.new sessions.new store.new result }
-    ensures err { OnErr result (IsActRefused directory.now id at before.old act kind is_playing buffers.old buffers.new sessions.old sessions.new) }
+    ensures err { OnErr result (IsActRefused directory.now at before.old act kind is_playing buffers.old buffers.new sessions.old sessions.new) }
     ensures unasked { OnErr result (store.new ≡ store.old) }
     ensures further { OnOk result (LeavesFewer act at buffers.old buffers.new sessions.old sessions.new) }
     ensures touched { IfOk result (λ touched. AreApart touched id directory.now buffers.old buffers.new sessions.old sessions.new) }
-    ensures untouched { OnErr result (AreApart Nowhere id directory.now buffers.old buffers.new sessions.old sessions.new) }
 {
     match do_byte_act(alloc, buffers, directory, sessions, at, store, act, before) {
         Ok(touched) => {

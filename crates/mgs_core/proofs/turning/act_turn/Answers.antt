@@ -1,16 +1,16 @@
-use Rattle.std.proofs.Common.{◌∙◌, List, None, get_or, refl, ap, sym, subst}
+use Rattle.std.proofs.Common.{◌∙◌, List, None, get_or, refl, ap, sym, subst, arith}
 use Rattle.mgs_cache.specs.Kept.{Kept}
 use Rattle.mgs_buffers.specs.Judging.{AreJudged, rules_kept}
 use Rattle.mgs_laws.specs.Apart.{Apart}
 use Rattle.mgs_model.specs.declared.touched.Touched.TheVariants.{Nowhere}
 use Rattle.mgs_laws.proofs.Apart.{apart_same}
-use Rattle.mgs_world.specs.Worlds.{buffers_of, world_of}
+use Rattle.mgs_world.specs.Worlds.{world_of}
 use Rattle.mgs_world.proofs.Sizes.{sizes_seen}
 use Rattle.mgs_world.proofs.Soundness.{sound_set, sizes_set}
 use Rattle.mgs_core.specs.ByteActs.{before_of}
 use Rattle.mgs_core.proofs.Acted.{byte_act_apart, byte_act_sizes}
 use Rattle.mgs_core.proofs.Judged.{touched_judged}
-use Rattle.mgs_core.proofs.Taken.{refused_apart, refused_in_world}
+use Rattle.mgs_core.proofs.Taken.{refused_in_world}
 use Rattle.mgs_core.proofs.turning.act_turn.Goals as goal
 
 pub returns-in-Ok-clause-judged : goal.returns-in-Ok-clause-judged
@@ -65,21 +65,8 @@ returns-in-Err-clause-err g c =
     let h = get_or ys at c.index-sessions-at.result in
     record {
       wants = c.in-Err.ensures.wants;
-      told = λ next.
-          refused_in_world d ks ls xs ys next c.args.id at h c.refuse.new.session (before_of c.args.before.now c.args.act) c.take_before-before.result c.args.kind c.args.is_playing
-          c.requires.place c.requires.within (sizes_seen d ks ls xs ys None (c.in-Err.ensures.err None)) (ap (get_or ys at) c.index-sessions-at.is) c.take_before-before.ensures c.refuse.ensures (c.in-Err.ensures.err next);
+      told = λ x next is.
+          refused_in_world d ks ls xs ys next at x h c.refuse.new.session (before_of c.args.before.now c.args.act) c.take_before-before.result c.args.kind c.args.is_playing
+          (omega (arith, c.requires.within, c.do_byte_act.auto.sessions)) is (ap (get_or ys at) c.index-sessions-at.is) c.take_before-before.ensures c.refuse.ensures (c.in-Err.ensures.err next);
       may = c.in-Err.ensures.may;
     }
-
-pub returns-in-Err-clause-untouched : goal.returns-in-Err-clause-untouched
-returns-in-Err-clause-untouched g c next =
-    let d = c.args.directory.now in
-    let ks = c.args.buffers.now in
-    let ls = c.do_byte_act.new.buffers in
-    let xs = c.args.sessions.now in
-    let ys = c.do_byte_act.new.sessions in
-    let at = c.args.at in
-    let h = get_or ys at c.index-sessions-at.result in
-    refused_apart (buffers_of ks) (before_of c.args.before.now c.args.act) c.args.kind c.args.is_playing c.args.id (world_of d ks xs next) _
-    (refused_in_world d ks ls xs ys next c.args.id at h c.refuse.new.session (before_of c.args.before.now c.args.act) c.take_before-before.result c.args.kind c.args.is_playing
-    c.requires.place c.requires.within (sizes_seen d ks ls xs ys None (c.in-Err.ensures.err None)) (ap (get_or ys at) c.index-sessions-at.is) c.take_before-before.ensures c.refuse.ensures (c.in-Err.ensures.err next))

@@ -1,8 +1,10 @@
-use Rattle.std.proofs.Common.{◌∙◌, ℕ, Option, None, get_or, ap}
+use Rattle.std.proofs.Common.{◌∙◌, ℕ, Option, None, get_or, ap, subst, sym}
 use Rattle.std.specs.Prelude.{slice_set}
 use Rattle.std.proofs.lemmas.List.{get_or_default}
 use Rattle.mgs_model.specs.declared.touched.Touched.TheVariants.{Anywhere, Nowhere}
-use Rattle.mgs_laws.proofs.Apart.{apart_then}
+use Rattle.mgs_model.specs.Events.{refused_state}
+use Rattle.mgs_laws.specs.Apart.{Apart}
+use Rattle.mgs_laws.proofs.Apart.{apart_state, apart_then}
 use Rattle.mgs_store.specs.Stores.{store_told}
 use Rattle.mgs_session.specs.declared.Session.{Session}
 use Rattle.mgs_world.specs.Sound.{session_uses}
@@ -170,20 +172,19 @@ returns-in-Err g c =
     let ys = did.new.sessions in
     let put = sizes_set xs at h y is_h (ap size_in s.state) in
     let same = did.ensures.sizes ∙ put in
+    let turned = λ (next : Option ℕ).
+    refused_turn d ks xs next id at h y place within is_h b act s ls ys _ _ _ _
+    (ap (λ (x : Session). x.state.kind) (get_or_default xs at c.index-sessions-at.result c.index-sessions-at-3.result within))
+    (c.is_playing-is_playing.ensures ∙ ap (λ (x : Session). x.state.player.playing) (get_or_default xs at c.index-sessions-at-2.result c.index-sessions-at-3.result within))
+    c.in-Err.ensures.err (ap (λ s. store_told g.S.Store.failed g.S.Store.accepted s) c.in-Err.ensures.unasked) in
     record {
       judged = did.ensures.judged;
       sound = did.ensures.sound;
       sizes = same;
       less = λ e. cc;
       fit = λ e. cc;
-      turned = λ next.
-          refused_turn d ks xs next id at h y place within is_h b act s ls ys _ _ _ _
-          (ap (λ (x : Session). x.state.kind) (get_or_default xs at c.index-sessions-at.result c.index-sessions-at-3.result within))
-          (c.is_playing-is_playing.ensures ∙ ap (λ (x : Session). x.state.player.playing) (get_or_default xs at c.index-sessions-at-2.result c.index-sessions-at-3.result within))
-          c.in-Err.ensures.err (ap (λ s. store_told g.S.Store.failed g.S.Store.accepted s) c.in-Err.ensures.unasked);
+      turned = turned;
       stands = λ still. cc;
       alone = λ still. cc;
-      touched = λ next.
-          apart_then Nowhere id (world_of d ks xs next) (world_of d ks (slice_set xs at y) next) (world_of d ls ys next)
-          (step_apart d ks xs next id at h y place within is_h Nowhere s.state s.stays) (c.in-Err.ensures.untouched next);
+      touched = λ next. subst (Apart Nowhere id (world_of d ks xs next)) (sym (turned next).told) (apart_state Nowhere id refused_state (world_of d ks xs next));
     }
