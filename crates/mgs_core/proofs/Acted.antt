@@ -20,7 +20,7 @@ use Rattle.mgs_seek.specs.Replacing.{replacing_state}
 use Rattle.mgs_world.specs.Worlds.{is_size_of, session_id, session_size, size_in, sizes, sizes_in, world_of}
 use Rattle.mgs_world.proofs.Sizes.{sizes_act, sizes_of_world}
 use Rattle.mgs_world.proofs.Worlds.{map-change_first_same}
-use Rattle.mgs_core.specs.declared.byte_acts.Before.{Before}
+use Rattle.mgs_core.specs.declared.byte_acts.ModeBefore.{ModeBefore}
 use Rattle.mgs_core.specs.declared.byte_acts.ByteAct.{ByteAct}
 use Rattle.mgs_core.specs.declared.byte_acts.ByteAct.TheVariants as byte_acts
 use Rattle.mgs_act.specs.Doing.{DoneBy}
@@ -34,7 +34,7 @@ sizes_started : (o : Option Direction) (id : ℕ) (w : World) → sizes (started
 sizes_started None id w = refl
 sizes_started (Some d) id w = map-change_first_same session_size (has_id id) (state_set (searching_state d)) (λ x. refl) w.sessions
 
-sizes_begun : (b : Before) (byte_act : ByteAct) (id : ℕ) (w : World) → sizes (deciding_world b byte_act id w) ≡ sizes w
+sizes_begun : (b : ModeBefore) (byte_act : ByteAct) (id : ℕ) (w : World) → sizes (deciding_world b byte_act id w) ≡ sizes w
 sizes_begun b (byte_acts.Act a) id w = sizes_started (started_by a) id w
 sizes_begun b byte_acts.StartReplacing id w = map-change_first_same session_size (has_id id) (state_set (replacing_state (asked_of b).first (asked_of b).input)) (λ x. refl) w.sessions
 sizes_begun b _ id w = refl
@@ -43,7 +43,7 @@ started_apart : (t : Touched) (o : Option Direction) (id : ℕ) (w : World) → 
 started_apart t None id w = apart_same t id w
 started_apart t (Some d) id w = apart_state t id (searching_state d) w
 
-begun_apart : (t : Touched) (b : Before) (byte_act : ByteAct) (id : ℕ) (w : World) → Apart t id w (deciding_world b byte_act id w)
+begun_apart : (t : Touched) (b : ModeBefore) (byte_act : ByteAct) (id : ℕ) (w : World) → Apart t id w (deciding_world b byte_act id w)
 begun_apart t b (byte_acts.Act a) id w = started_apart t (started_by a) id w
 begun_apart t b byte_acts.StartReplacing id w = apart_state t id (replacing_state (asked_of b).first (asked_of b).input) w
 begun_apart t b _ id w = apart_same t id w
@@ -55,13 +55,13 @@ done_apart t old new before after id c did =
     let stored = did.acted.stored in
     subst (Apart t id old) (sym did.acted.world) (subst (λ (s : Touched). Apart s id old (act old id c stored)) (sym did.tells) (apart_act old id c stored))
 
-pub byte_act_apart : (t : Touched) (b : Before) (byte_act : ByteAct) (w new : World) (before after : StoreTold) (id : ℕ) (c : Act) → DoneBy t (deciding_world b byte_act id w) new before after id c → Apart t id w new
+pub byte_act_apart : (t : Touched) (b : ModeBefore) (byte_act : ByteAct) (w new : World) (before after : StoreTold) (id : ℕ) (c : Act) → DoneBy t (deciding_world b byte_act id w) new before after id c → Apart t id w new
 byte_act_apart t b byte_act w new before after id c did =
     let begun : World = deciding_world b byte_act id w in
     apart_then t id w begun new (begun_apart t b byte_act id w) (done_apart t begun new before after id c did)
 
 -- SIZES: no session went, so that none has quit
-pub byte_act_sizes : (t : Touched) (b : Before) (byte_act : ByteAct) (d : Directory) (ks ls : List MarkedBuffer) (xs ys : List Session) (id at : ℕ) (before after : StoreTold) (c : Act)
+pub byte_act_sizes : (t : Touched) (b : ModeBefore) (byte_act : ByteAct) (d : Directory) (ks ls : List MarkedBuffer) (xs ys : List Session) (id at : ℕ) (before after : StoreTold) (c : Act)
     → at ≡ position_or_len (session_id id) xs → at < length xs → length ys ≡ length xs → DoneBy t (deciding_world b byte_act id (world_of d ks xs None)) (world_of d ls ys None) before after id c → sizes_in ys ≡ sizes_in xs
 byte_act_sizes t b byte_act d ks ls xs ys id at before after c place within many did =
     let w : World = world_of d ks xs None in

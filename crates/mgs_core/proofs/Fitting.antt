@@ -21,7 +21,7 @@ use Rattle.mgs_laws.proofs.After.{find_after, find_without}
 use Rattle.mgs_laws.proofs.LeftToDo.{seen_begun}
 use Rattle.mgs_laws.proofs.Turning.{begun_view}
 use Rattle.mgs_seek.specs.Replacing.{replacement}
-use Rattle.mgs_core.specs.declared.byte_acts.Before.{Before}
+use Rattle.mgs_core.specs.declared.byte_acts.ModeBefore.{ModeBefore}
 use Rattle.mgs_core.specs.declared.byte_acts.ByteAct.{ByteAct}
 use Rattle.mgs_core.specs.declared.byte_acts.ByteAct.TheVariants as byte_acts
 use Rattle.mgs_core.specs.ByteActs.{model_act, deciding_state, is_replacement}
@@ -90,7 +90,7 @@ replacement_acted w id state c n typed stored x y found mode some rest stays =
     (sym (ap (λ o. find_session id (applied (with_state id (λ was. state) w) id (option_map (λ z. outcome z (Run (Replace c) n typed) stored) o)).sessions) (seen_begun w id (λ was. state) x found)) ∙ stays)
 
 -- of a replacement, where all further ones are to be done
-pub replaced_fits : (w : World) (id : ℕ) (state : State) (b : Before) (byte_act : ByteAct) (stored : Bool) (x y : Session) → find_session id w.sessions ≡ Some x → is_replacement byte_act ≡ true → IsFit state → has_all state.todo ≡ true → has_all (without_all state.todo) ≡ false
+pub replaced_fits : (w : World) (id : ℕ) (state : State) (b : ModeBefore) (byte_act : ByteAct) (stored : Bool) (x y : Session) → find_session id w.sessions ≡ Some x → is_replacement byte_act ≡ true → IsFit state → has_all state.todo ≡ true → has_all (without_all state.todo) ≡ false
     → find_session id (act (with_state id (λ was. deciding_state b byte_act state) w) id (model_act state b byte_act) stored).sessions ≡ Some y → IsFit y.state
 replaced_fits w id state b (byte_acts.Replace last) stored x y found is fit all rest stays =
     let fits = fit all in replacement_acted w id state (replacement last) None state.input stored x y found fits.0 fits.1 rest stays

@@ -42,13 +42,13 @@ use Rattle.mgs_world.specs.Worlds.{aim_mode, buffers_of, idle, mode_in, state_of
 use Rattle.mgs_world.proofs.Owns.{prompt_fed}
 use Rattle.mgs_core.specs.declared.byte_acts.ByteAct.{ByteAct}
 use Rattle.mgs_core.specs.declared.byte_acts.ByteAct.TheVariants as byte_acts
-use Rattle.mgs_core.specs.declared.byte_acts.Before.{Before}
-use Rattle.mgs_core.specs.declared.byte_acts.Before.TheVariants as befores
+use Rattle.mgs_core.specs.declared.byte_acts.ModeBefore.{ModeBefore}
+use Rattle.mgs_core.specs.declared.byte_acts.ModeBefore.TheVariants as befores
 use Rattle.mgs_core.specs.declared.keying.ByteStep.{ByteStep}
 use Rattle.mgs_core.specs.declared.keying.ByteStep.TheVariants.{Kept, Acts}
 use Rattle.mgs_core.specs.Prompted.{names_for, state_turn}
 use Rattle.mgs_mini.specs.Typing.{IsFirst}
-use Rattle.mgs_core.specs.ByteActs.{asked_of, model_act, deciding_state, deciding_world, refused}
+use Rattle.mgs_core.specs.ByteActs.{asked_of, before_turn, model_act, deciding_state, deciding_world, refused}
 use Rattle.mgs_core.specs.ByteSteps.{IsAlone, IsAnswerStep, IsAskedStep, IsByteStep, IsCommandStep, IsNamedStep, IsReplyStep, SeesNames, second_input}
 use Rattle.mgs_core.proofs.Stepped.{command_step, fit_same, left_same, none_stays, acts_same, kept_none, kept_same}
 
@@ -178,17 +178,17 @@ named_at v y p o byte is turn names found =
     ∙ ap (named_turn (plain_state state) (value_of (unsearched y).state.keyboard.argument)) found
 
 -- the session that is at its prompt again has what it had
-again_prompted : (y : Session) (p : PromptInput) → (unsearched y).state.prompt ≡ Some p → p.waiting ≡ NoKey → state_of (refused (befores.Prompt p) (unsearched y).state.kind (unsearched y).state.player.playing (resting (unsearched y))).state ≡ refused_state (state_of (unsearched y).state)
+again_prompted : (y : Session) (p : PromptInput) → (unsearched y).state.prompt ≡ Some p → p.waiting ≡ NoKey → state_of (refused (before_turn (befores.Prompt p) (unsearched y).state) (resting (unsearched y))).state ≡ refused_state (state_of (unsearched y).state)
 again_prompted y p is none =
     let state : model.State = state_of (resting (unsearched y)).state in
     ap (λ (w : Waiting). record state { echo = NoMemory; keys = keys_of w; mode = Prompt p.question; input = p.input; old = p.first; todo = [] }) none
     ∙ sym (ap (λ (r : Option PromptInput). refused_state (state_of (record (unsearched y).state { prompt = r }))) is)
 
-module _ (d : Directory) (ks : List MarkedBuffer) (y taken new : Session) (p : PromptInput) (byte : ℕ) (b : Before) (alone : IsAlone (unsearched y).state.player) (is : (unsearched y).state.prompt ≡ Some p) (none : p.waiting ≡ NoKey) (turn : IsFed p p byte Answered) (took : taken ≡ unprompted (unsearched y)) where
+module _ (d : Directory) (ks : List MarkedBuffer) (y taken new : Session) (p : PromptInput) (byte : ℕ) (b : ModeBefore) (alone : IsAlone (unsearched y).state.player) (is : (unsearched y).state.prompt ≡ Some p) (none : p.waiting ≡ NoKey) (turn : IsFed p p byte Answered) (took : taken ≡ unprompted (unsearched y)) where
   -- its prompt was there before
   prompt_was : (step k : ByteStep) → step ≡ k → b ≡ befores.Prompt p → IsByteStep d ks (unsearched y) new byte (befores.Prompt p) k → IsByteStep d ks (unsearched y) new byte b step
   prompt_was step k same was s =
-      subst (λ (e : Before). IsByteStep d ks (unsearched y) new byte e step) (sym was)
+      subst (λ (e : ModeBefore). IsByteStep d ks (unsearched y) new byte e step) (sym was)
       (subst (IsByteStep d ks (unsearched y) new byte (befores.Prompt p)) (sym same) s)
 
   -- where it names a command
@@ -239,29 +239,29 @@ module _ (d : Directory) (ks : List MarkedBuffer) (y taken new : Session) (p : P
   reply_step step ReplaceWith of_c first did = prompt_was step (Acts byte_acts.StartReplacing) did.0 did.1 (replacing_step of_c (did.2 ∙ ap resting took))
   reply_step step _ of_c first did = other_step step (ap is_answered of_c) first did
 
-pub answers : (d : Directory) (ks : List MarkedBuffer) (y taken new : Session) (p q : PromptInput) (byte : ℕ) (b : Before) (step : ByteStep) → IsAlone (unsearched y).state.player → (unsearched y).state.prompt ≡ Some p → (q ≡ p) × (p.waiting ≡ NoKey) → IsFed p q byte Answered → taken ≡ unprompted (unsearched y) → IsFirst q.question q.first → IsAnswerStep taken new q b step → IsByteStep d ks (unsearched y) new byte b step
+pub answers : (d : Directory) (ks : List MarkedBuffer) (y taken new : Session) (p q : PromptInput) (byte : ℕ) (b : ModeBefore) (step : ByteStep) → IsAlone (unsearched y).state.player → (unsearched y).state.prompt ≡ Some p → (q ≡ p) × (p.waiting ≡ NoKey) → IsFed p q byte Answered → taken ≡ unprompted (unsearched y) → IsFirst q.question q.first → IsAnswerStep taken new q b step → IsByteStep d ks (unsearched y) new byte b step
 answers d ks y taken new p q byte b step alone is same turn took first did =
     reply_step d ks y taken new p byte b alone is same.1 (subst (λ (k : PromptInput). IsFed p k byte Answered) same.0 turn) took step p.question refl (subst (λ (k : PromptInput). IsFirst k.question k.first) same.0 first) (subst (λ (k : PromptInput). IsAnswerStep taken new k b step) same.0 did)
 
 -- WITHOUT A SEARCH
 
-pub still_step : (d : Directory) (ks : List MarkedBuffer) (y new : Session) (byte : ℕ) (b : Before) (step : ByteStep) → y ≡ unsearched y → IsByteStep d ks (unsearched y) new byte b step → IsByteStep d ks y new byte b step
+pub still_step : (d : Directory) (ks : List MarkedBuffer) (y new : Session) (byte : ℕ) (b : ModeBefore) (step : ByteStep) → y ≡ unsearched y → IsByteStep d ks (unsearched y) new byte b step → IsByteStep d ks y new byte b step
 still_step d ks y new byte b step still s = subst (λ (z : Session). IsByteStep d ks z new byte b step) (sym still) s
 
 -- WHAT AN ANSWER DOES
 
-answer_act : {X : Type 0} (f : Act → X) (state : model.State) (b : Before) (byte_act : ByteAct) (p : PromptInput) (n : Option ℕ) (c : Question) (typed : List ℕ) → byte_act ≡ byte_acts.Answer n → p ≡ asked_of b → c ≡ p.question → typed ≡ p.input → f (Run (command_for c) n (meant c state.pattern typed)) ≡ f (model_act state b byte_act)
+answer_act : {X : Type 0} (f : Act → X) (state : model.State) (b : ModeBefore) (byte_act : ByteAct) (p : PromptInput) (n : Option ℕ) (c : Question) (typed : List ℕ) → byte_act ≡ byte_acts.Answer n → p ≡ asked_of b → c ≡ p.question → typed ≡ p.input → f (Run (command_for c) n (meant c state.pattern typed)) ≡ f (model_act state b byte_act)
 answer_act f state b byte_act p n c typed is asked question input =
     ap (λ (q : Question). f (Run (command_for q) n (meant q state.pattern typed))) question
     ∙ ap (λ (t : List ℕ). f (Run (command_for p.question) n (meant p.question state.pattern t))) input
     ∙ ap (λ (q : PromptInput). f (Run (command_for q.question) n (meant q.question state.pattern q.input))) asked
     ∙ sym (ap (λ (d : ByteAct). f (model_act state b d)) is)
 
-pub answer_done : (touched : Touched) (old new : World) (before after : StoreTold) (id : ℕ) (state : model.State) (b : Before) (byte_act : ByteAct) (p : PromptInput) (n : Option ℕ) (c : Question) (typed : List ℕ) → byte_act ≡ byte_acts.Answer n → p ≡ asked_of b → c ≡ p.question → typed ≡ p.input
+pub answer_done : (touched : Touched) (old new : World) (before after : StoreTold) (id : ℕ) (state : model.State) (b : ModeBefore) (byte_act : ByteAct) (p : PromptInput) (n : Option ℕ) (c : Question) (typed : List ℕ) → byte_act ≡ byte_acts.Answer n → p ≡ asked_of b → c ≡ p.question → typed ≡ p.input
     → DoneBy touched old new before after id (Run (command_for c) n (meant c state.pattern typed)) → DoneBy touched (deciding_world b byte_act id old) new before after id (model_act state b byte_act)
 answer_done touched old new before after id state b byte_act p n c typed is asked question input did =
     subst (λ (e : ByteAct). DoneBy touched (deciding_world b e id old) new before after id (model_act state b e)) (sym is)
     (subst (DoneBy touched old new before after id) (answer_act (λ (e : Act). e) state b (byte_acts.Answer n) p n c typed refl asked question input) did)
 
-pub answer_may : (w : World) (id : ℕ) (state : model.State) (b : Before) (byte_act : ByteAct) (p : PromptInput) (n : Option ℕ) (c : Question) (typed : List ℕ) → byte_act ≡ byte_acts.Answer n → p ≡ asked_of b → c ≡ p.question → typed ≡ p.input → may_be_refused (outcome_in w id (Run (command_for c) n (meant c state.pattern typed)) true) ≡ true → may_be_refused (outcome_in w id (model_act state b byte_act) true) ≡ true
+pub answer_may : (w : World) (id : ℕ) (state : model.State) (b : ModeBefore) (byte_act : ByteAct) (p : PromptInput) (n : Option ℕ) (c : Question) (typed : List ℕ) → byte_act ≡ byte_acts.Answer n → p ≡ asked_of b → c ≡ p.question → typed ≡ p.input → may_be_refused (outcome_in w id (Run (command_for c) n (meant c state.pattern typed)) true) ≡ true → may_be_refused (outcome_in w id (model_act state b byte_act) true) ≡ true
 answer_may w id state b byte_act p n c typed is asked question input may = sym (answer_act (λ (a : Act). may_be_refused (outcome_in w id a true)) state b byte_act p n c typed is asked question input) ∙ may

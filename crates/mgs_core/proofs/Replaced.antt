@@ -22,8 +22,8 @@ use Rattle.mgs_session.specs.Seeking.{searching, unsearched}
 use Rattle.mgs_session.specs.Sessions.{failed, playing_as, told, unprompted}
 use Rattle.mgs_world.specs.Worlds.{state_of}
 use Rattle.mgs_core.specs.declared.byte_acts.ByteAct.TheVariants as byte_acts
-use Rattle.mgs_core.specs.declared.byte_acts.Before.{Before}
-use Rattle.mgs_core.specs.declared.byte_acts.Before.TheVariants as befores
+use Rattle.mgs_core.specs.declared.byte_acts.ModeBefore.{ModeBefore}
+use Rattle.mgs_core.specs.declared.byte_acts.ModeBefore.TheVariants as befores
 use Rattle.mgs_core.specs.declared.keying.ByteStep.TheVariants.{Kept, Acts}
 use Rattle.mgs_core.specs.declared.typing.ReplaceKey.{ReplaceKey}
 use Rattle.mgs_core.specs.declared.typing.ReplaceKey.TheVariants as keys
@@ -98,20 +98,20 @@ module _ (d : Directory) (ks : List MarkedBuffer) (y new : Session) (name : List
   replace_quits k of_byte e still is =
       kept_none (SeesNames d ks x.user) (λ v. state_turn v x.state byte) x new (failed Quitting z) (is ∙ ap (failed Quitting) still) refl (none_stays x.state (failed Quitting z).state refl) (λ v sees. comes v k keys.Quits of_byte e) refl
 
-  pub replace_skips : (b : Before) (k : ReplaceKey) → k ≡ replace_key byte → k ≡ keys.Skips → new ≡ searching s (told Silent (unsearched y)) → IsByteStep d ks (searching s (unsearched y)) new byte b (Acts byte_acts.Skip)
+  pub replace_skips : (b : ModeBefore) (k : ReplaceKey) → k ≡ replace_key byte → k ≡ keys.Skips → new ≡ searching s (told Silent (unsearched y)) → IsByteStep d ks (searching s (unsearched y)) new byte b (Acts byte_acts.Skip)
   replace_skips b k of_byte e is =
       acts_same (SeesNames d ks x.user) (λ v. state_turn v x.state byte) x new (searching s (told Silent z)) is refl (λ bs. refl) b byte_acts.Skip alone refl tt (λ v sees. comes v k keys.Skips of_byte e) refl (λ wants. cc) (λ wants. cc) (λ h. cc)
 
   -- a match is replaced
   abbrev replaced_turn : (last : Bool) → Turn
-  replaced_turn last = Do state (model_act state befores.Plain (byte_acts.Replace last))
+  replaced_turn last = Do state (model_act state befores.Held (byte_acts.Replace last))
 
-  replaces_step : (b : Before) (last : Bool) → ((v : View) → state_turn v x.state byte ≡ replaced_turn last) → new ≡ searching s (told Silent z) → IsByteStep d ks x new byte b (Acts (byte_acts.Replace last))
-  replaces_step b last turn is =
-      acts_same (SeesNames d ks x.user) (λ v. state_turn v x.state byte) x new (searching s (told Silent z)) is refl (λ bs. refl) b (byte_acts.Replace last) alone refl tt (λ v sees. turn v) refl (λ wants. refl) (λ wants. refl) (λ h. cc)
+  replaces_step : (last : Bool) → ((v : View) → state_turn v x.state byte ≡ replaced_turn last) → new ≡ searching s (told Silent z) → IsByteStep d ks x new byte befores.Held (Acts (byte_acts.Replace last))
+  replaces_step last turn is =
+      acts_same (SeesNames d ks x.user) (λ v. state_turn v x.state byte) x new (searching s (told Silent z)) is refl (λ bs. refl) befores.Held (byte_acts.Replace last) alone refl tt (λ v sees. turn v) refl (λ wants. refl) (λ wants. refl) (λ h. cc)
 
-  pub replace_one : (b : Before) (k : ReplaceKey) → k ≡ replace_key byte → k ≡ keys.Replaces → new ≡ searching s (told Silent (unsearched y)) → IsByteStep d ks (searching s (unsearched y)) new byte b (Acts (byte_acts.Replace false))
-  replace_one b k of_byte e is = replaces_step b false (λ v. comes v k keys.Replaces of_byte e) is
+  pub replace_one : (k : ReplaceKey) → k ≡ replace_key byte → k ≡ keys.Replaces → new ≡ searching s (told Silent (unsearched y)) → IsByteStep d ks (searching s (unsearched y)) new byte befores.Held (Acts (byte_acts.Replace false))
+  replace_one k of_byte e is = replaces_step false (λ v. comes v k keys.Replaces of_byte e) is
 
-  pub replace_last : (b : Before) (k : ReplaceKey) → k ≡ replace_key byte → k ≡ keys.ReplacesLast → new ≡ searching s (told Silent (unsearched y)) → IsByteStep d ks (searching s (unsearched y)) new byte b (Acts (byte_acts.Replace true))
-  replace_last b k of_byte e is = replaces_step b true (λ v. comes v k keys.ReplacesLast of_byte e) is
+  pub replace_last : (k : ReplaceKey) → k ≡ replace_key byte → k ≡ keys.ReplacesLast → new ≡ searching s (told Silent (unsearched y)) → IsByteStep d ks (searching s (unsearched y)) new byte befores.Held (Acts (byte_acts.Replace true))
+  replace_last k of_byte e is = replaces_step true (λ v. comes v k keys.ReplacesLast of_byte e) is

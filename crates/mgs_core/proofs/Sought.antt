@@ -29,8 +29,8 @@ use Rattle.mgs_session.specs.declared.Session.{Session}
 use Rattle.mgs_session.specs.Seeking.{search_left, searching, unsearched}
 use Rattle.mgs_session.specs.Sessions.{reading, told, unbound}
 use Rattle.mgs_world.specs.Worlds.{aim_mode, mode_in, state_of, search_of}
-use Rattle.mgs_core.specs.declared.byte_acts.Before.{Before}
-use Rattle.mgs_core.specs.declared.byte_acts.Before.TheVariants as befores
+use Rattle.mgs_core.specs.declared.byte_acts.ModeBefore.{ModeBefore}
+use Rattle.mgs_core.specs.declared.byte_acts.ModeBefore.TheVariants as befores
 use Rattle.mgs_core.specs.declared.byte_acts.ByteAct.TheVariants as byte_acts
 use Rattle.mgs_core.specs.declared.keying.ByteStep.{ByteStep}
 use Rattle.mgs_core.specs.declared.keying.ByteStep.TheVariants.{Kept, Failed, Ends, Acts}
@@ -81,7 +81,7 @@ sought_over last s q byte k e over = by (is_graphic byte) (byte == 19) (byte == 
     by false false false false false false e = sym (same_sought s q step.Leaves k e)
 
 -- a search that was taken out is put back
-pub searched_step : (d : Directory) (ks : List MarkedBuffer) (y taken new : Session) (s : Search) (byte : ℕ) (b : Before) (k : ByteStep) → y.state.search ≡ Some s → taken ≡ unsearched y → IsByteStep d ks (searching s taken) new byte b k → IsByteStep d ks y new byte b k
+pub searched_step : (d : Directory) (ks : List MarkedBuffer) (y taken new : Session) (s : Search) (byte : ℕ) (b : ModeBefore) (k : ByteStep) → y.state.search ≡ Some s → taken ≡ unsearched y → IsByteStep d ks (searching s taken) new byte b k → IsByteStep d ks y new byte b k
 searched_step d ks y taken new s byte b k is took t =
     subst (λ (z : Session). IsByteStep d ks z new byte b k)
     (ap (searching s) took ∙ sym (ap (λ (o : Option Search). record y { state = record y.state { search = o } }) is)) t
@@ -115,7 +115,7 @@ module _ (y : Session) (name : List ℕ) (origin anchor : ℕ) (f : Sought) (byt
   comes_past v q is read = by_character v true is ∙ ap (pattern_turn then_state f byte) read
 
 -- the session that was searching
-module _ (d : Directory) (ks : List MarkedBuffer) (y new : Session) (name : List ℕ) (origin anchor : ℕ) (f g : Sought) (byte : ℕ) (b : Before) (alone : IsAlone y.state.player) where
+module _ (d : Directory) (ks : List MarkedBuffer) (y new : Session) (name : List ℕ) (origin anchor : ℕ) (f g : Sought) (byte : ℕ) (b : ModeBefore) (alone : IsAlone y.state.player) where
   abbrev pub s : Search
   s = finding name origin anchor f
 
@@ -277,14 +277,14 @@ read_again pattern s r byte read =
     ap (λ (q : Sought). read_byte pattern q byte) same ∙ read
 
 -- such a byte leaves the search as it was
-pub foreign_step : (d : Directory) (ks : List MarkedBuffer) (y new : Session) (name : List ℕ) (origin anchor : ℕ) (f g : Sought) (byte : ℕ) (b : Before) (k : ByteStep) → read_byte y.state.pattern f byte ≡ (g, step.Leaves) → IsByteStep d ks (searching (finding name origin anchor g) y) new byte b k → IsByteStep d ks (searching (finding name origin anchor f) y) new byte b k
+pub foreign_step : (d : Directory) (ks : List MarkedBuffer) (y new : Session) (name : List ℕ) (origin anchor : ℕ) (f g : Sought) (byte : ℕ) (b : ModeBefore) (k : ByteStep) → read_byte y.state.pattern f byte ≡ (g, step.Leaves) → IsByteStep d ks (searching (finding name origin anchor g) y) new byte b k → IsByteStep d ks (searching (finding name origin anchor f) y) new byte b k
 foreign_step d ks y new name origin anchor f g byte b k read t =
     subst (λ (h : Sought). IsByteStep d ks (searching (finding name origin anchor h) y) new byte b k) (sought_over y.state.pattern f g byte step.Leaves read tt) t
 
 -- a session that does not search
-pub still_search : (d : Directory) (ks : List MarkedBuffer) (y new : Session) (s : Search) (byte : ℕ) (b : Before) (k : ByteStep) → y ≡ unsearched y → IsByteStep d ks (searching s (unsearched y)) new byte b k → IsByteStep d ks (searching s y) new byte b k
+pub still_search : (d : Directory) (ks : List MarkedBuffer) (y new : Session) (s : Search) (byte : ℕ) (b : ModeBefore) (k : ByteStep) → y ≡ unsearched y → IsByteStep d ks (searching s (unsearched y)) new byte b k → IsByteStep d ks (searching s y) new byte b k
 still_search d ks y new s byte b k still t = subst (λ (z : Session). IsByteStep d ks (searching s z) new byte b k) (sym still) t
 
 -- a search by its parts
-pub aimed : (d : Directory) (ks : List MarkedBuffer) (y new : Session) (s : Search) (a : Aim) (byte : ℕ) (b : Before) (k : ByteStep) → s.aim ≡ a → IsByteStep d ks (searching (record s { aim = a }) y) new byte b k → IsByteStep d ks (searching s y) new byte b k
+pub aimed : (d : Directory) (ks : List MarkedBuffer) (y new : Session) (s : Search) (a : Aim) (byte : ℕ) (b : ModeBefore) (k : ByteStep) → s.aim ≡ a → IsByteStep d ks (searching (record s { aim = a }) y) new byte b k → IsByteStep d ks (searching s y) new byte b k
 aimed d ks y new s a byte b k is t = subst (λ (c : Aim). IsByteStep d ks (searching (record s { aim = c }) y) new byte b k) (sym is) t

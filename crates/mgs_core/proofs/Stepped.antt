@@ -38,13 +38,13 @@ use Rattle.mgs_session.specs.Sessions.{failed, holding, resting}
 use Rattle.mgs_world.specs.Worlds.{mode_in, state_of, search_of}
 use Rattle.mgs_core.specs.declared.byte_acts.ByteAct.{ByteAct}
 use Rattle.mgs_core.specs.declared.byte_acts.ByteAct.TheVariants as byte_acts
-use Rattle.mgs_core.specs.declared.byte_acts.Before.{Before}
-use Rattle.mgs_core.specs.declared.byte_acts.Before.TheVariants as befores
+use Rattle.mgs_core.specs.declared.byte_acts.ModeBefore.{ModeBefore}
+use Rattle.mgs_core.specs.declared.byte_acts.ModeBefore.TheVariants as befores
 use Rattle.mgs_core.specs.declared.keying.ByteStep.{ByteStep}
 use Rattle.mgs_core.specs.declared.keying.ByteStep.TheVariants.{Kept, Failed, Ends, Acts}
 use Rattle.mgs_core.specs.Prompted.{state_turn}
 use Rattle.mgs_core.specs.KeyActs.{command_act}
-use Rattle.mgs_core.specs.ByteActs.{refused, search_before, CanDo, IsReady, before_of, model_act, deciding_state, may_want_memory, starts_replacing}
+use Rattle.mgs_core.specs.ByteActs.{refused, search_before, CanDo, IsReady, before_turn, model_act, deciding_state, may_want_memory, starts_replacing}
 use Rattle.mgs_core.specs.ByteSteps.{IsAlone, IsByteStep, IsCommandStep, IsLeft, IsStep, MacroPlayed, SearchStays, SeesNames, StepActs, StepEnds, StepFailed, StepKept, call_fault, fault_of, is_call, is_exit}
 use Rattle.mgs_core.specs.Turns.{IsFit, IsWithin, has_all, is_played, is_quiet, weight}
 use Rattle.mgs_core.proofs.Keyed.{command_done, command_here, turn_command, turn_kept, turn_unbound}
@@ -184,10 +184,10 @@ module _ (Sees : View → Type 0) (comes : View → Turn) (x new it : Session) (
       (record { state = state; stays = stays; turn = turn; left = left_none x.state.player it.state.player.todo none; fit = fit_empty (state_of it.state) none })
 
   -- an act of a session that has the same to do, no macro plays that did not
-  pub acts_same : (b : Before) (byte_act : ByteAct) → IsAlone x.state.player → IsReady byte_act it.state.search (state_of it.state) → CanDo b byte_act
+  pub acts_same : (b : ModeBefore) (byte_act : ByteAct) → IsAlone x.state.player → IsReady byte_act it.state.search (state_of it.state) → CanDo b byte_act
       → ((v : View) → Sees v → comes v ≡ Do (deciding_state b byte_act (state_of it.state)) (model_act (state_of it.state) b byte_act)) → it.state.player ≡ x.state.player
-      → (may_want_memory byte_act ≡ true → state_of (refused (before_of b byte_act) x.state.kind x.state.player.playing it).state ≡ refused_state (state_of x.state))
-      → (may_want_memory byte_act ≡ true → search_before (before_of b byte_act) it.state.search ≡ x.state.search) → (starts_replacing byte_act ≡ true → x.state.search ≡ None)
+      → (may_want_memory byte_act ≡ true → state_of (refused (before_turn b x.state) it).state ≡ refused_state (state_of x.state))
+      → (may_want_memory byte_act ≡ true → search_before b it.state.search ≡ x.state.search) → (starts_replacing byte_act ≡ true → x.state.search ≡ None)
       → StepActs Sees comes x.state.player.playing (IsLeft x.state.player) x new b byte_act
   acts_same b byte_act alone ready here turn same again search begins =
       let todo : it.state.player.todo ≡ x.state.player.todo = ap (λ (p : Playing). p.todo) same in
@@ -297,8 +297,8 @@ module _ (Sees : View → Type 0) (comes : View → Turn) (x new : Session) (c :
       }
 
   -- or it is an act
-  acts_step : (b : Before) → is_bound c ≡ true → is_exit c ≡ false → is_call c ≡ false → IsAlone x.state.player → new ≡ resting x
-      → state_of (refused b x.state.kind x.state.player.playing (resting x)).state ≡ refused_state (state_of x.state)
+  acts_step : (b : ModeBefore) → is_bound c ≡ true → is_exit c ≡ false → is_call c ≡ false → IsAlone x.state.player → new ≡ resting x
+      → state_of (refused (before_turn b x.state) (resting x)).state ≡ refused_state (state_of x.state)
       → ((s : Option Search) → search_before b s ≡ x.state.search)
       → StepActs Sees comes x.state.player.playing (IsLeft x.state.player) x new b (byte_acts.Act (command_act c n))
   acts_step b bound goes_on calls alone same again search =
@@ -315,8 +315,8 @@ is_call_of (Set CallMacro) h = refl
 is_call_of (Set _) h = cc
 is_call_of _ h = cc
 
-pub command_step : (Sees : View → Type 0) (comes : View → Turn) (x new : Session) (c : Command) (n : Option ℕ) (b : Before) (step : ByteStep) → ((v : View) → Sees v → comes v ≡ command_turn (state_of (resting x).state) n c) → is_bound c ≡ true → IsAlone x.state.player
-    → state_of (refused b x.state.kind x.state.player.playing (resting x)).state ≡ refused_state (state_of x.state)
+pub command_step : (Sees : View → Type 0) (comes : View → Turn) (x new : Session) (c : Command) (n : Option ℕ) (b : ModeBefore) (step : ByteStep) → ((v : View) → Sees v → comes v ≡ command_turn (state_of (resting x).state) n c) → is_bound c ≡ true → IsAlone x.state.player
+    → state_of (refused (before_turn b x.state) (resting x)).state ≡ refused_state (state_of x.state)
     → ((s : Option Search) → search_before b s ≡ x.state.search)
     → IsCommandStep (resting x) new c n step
     → IsStep Sees comes x.state.player.playing (IsLeft x.state.player) x new b step
@@ -349,7 +349,7 @@ plain x = record x { state = record x.state { search = None; prompt = None } }
 plain_same : (x : Session) → x.state.search ≡ None → x.state.prompt ≡ None → x ≡ plain x
 plain_same x still none = λ i. record x { state = record x.state { search = still i; prompt = none i } }
 
-again_plain : (x : Session) → x.state.search ≡ None → x.state.prompt ≡ None → state_of (refused befores.Plain x.state.kind x.state.player.playing (resting x)).state ≡ refused_state (state_of x.state)
+again_plain : (x : Session) → x.state.search ≡ None → x.state.prompt ≡ None → state_of (refused (before_turn befores.Plain x.state) (resting x)).state ≡ refused_state (state_of x.state)
 again_plain x still none = sym (ap (λ (y : Session). refused_state (state_of y.state)) (plain_same x still none))
 
 pub key_kept : (d : Directory) (ks : List MarkedBuffer) (x new : Session) (byte : ℕ) (k : Held) → x.state.search ≡ None → x.state.prompt ≡ None → IsAlone x.state.player → FedBy fed.Pending (key_read x.state.keyboard.argument x.state.keyboard.keys byte) k → new ≡ holding k x → IsByteStep d ks x new byte befores.Plain Kept

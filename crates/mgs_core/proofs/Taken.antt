@@ -51,18 +51,19 @@ use Rattle.mgs_session.specs.declared.Session.{Session}
 use Rattle.mgs_session.specs.declared.search.Search.{Search}
 use Rattle.mgs_store.specs.Stores.{StoreTold}
 use Rattle.mgs_store.proofs.Told.{told_none}
-use Rattle.mgs_world.specs.Worlds.{aim_input, aim_mode, aim_old, buffers_of, count_in, input_in, keys_in, mode_in, old_in, state_at, state_of, state_or_first, search_of, session_id, session_of, size_found, size_in, size_named, sizes_in, world_of}
+use Rattle.mgs_world.specs.Worlds.{aim_input, aim_mode, aim_old, buffers_of, count_in, input_in, keys_in, mode_in, old_in, state_at, state_of, state_or_first, search_at, search_of, session_id, session_of, size_found, size_in, size_named, sizes_in, world_of}
 use Rattle.mgs_world.proofs.Sessions.{session_some}
 use Rattle.mgs_world.proofs.Soundness.{sizes_set}
 use Rattle.mgs_core.specs.declared.byte_acts.ByteAct.{ByteAct}
 use Rattle.mgs_core.specs.declared.byte_acts.ByteAct.TheVariants as byte_acts
 use Rattle.mgs_core.specs.declared.byte_acts.Before.{Before}
-use Rattle.mgs_core.specs.declared.byte_acts.Before.TheVariants as befores
+use Rattle.mgs_core.specs.declared.byte_acts.ModeBefore.{ModeBefore}
+use Rattle.mgs_core.specs.declared.byte_acts.ModeBefore.TheVariants as befores
 use Rattle.mgs_core.specs.declared.keying.ByteStep.TheVariants.{Kept, Failed, Ends, Acts}
 use Rattle.mgs_act.specs.Doing.{ActedBy, DoneBy}
 use Rattle.mgs_core.specs.KeyActs.{started_by, started_state, started_world}
 use Rattle.mgs_core.specs.Calls.{closed}
-use Rattle.mgs_core.specs.ByteActs.{CanDo, IsReady, asked_of, before_of, model_act, deciding_state, deciding_world, finds, is_finding, is_replacement, is_replacing, may_want_memory, refused, search_before, seek_act, starts_replacing}
+use Rattle.mgs_core.specs.ByteActs.{CanDo, IsReady, asked_of, before_turn, model_act, deciding_state, deciding_world, finds, is_finding, is_replacement, is_replacing, may_want_memory, refused, search_before, seek_act, starts_replacing}
 use Rattle.mgs_core.specs.AtPlace.{IsActRefused}
 use Rattle.mgs_core.specs.ByteSteps.{IsTurnStep, SearchStays, SeesNames, TurnLeft}
 use Rattle.mgs_core.specs.Turns.{IsLess, IsWithin, TurnDone, TurnEnds, TurnRefused, IsFit, has_all, is_played, is_quiet, weight}
@@ -166,11 +167,11 @@ pub replace_there : (xs : List Session) (at : ℕ) → is_replacing (search_held
 replace_there xs at h = replace_found (slice_get xs at) h
 
 -- an act of a key is done as it is
-pub acted_byte_act : (touched : Touched) (old new : World) (before after : StoreTold) (id : ℕ) (state : model.State) (b : Before) (byte_act : ByteAct) (a : KeyAct) → byte_act ≡ byte_acts.Act a
+pub acted_byte_act : (touched : Touched) (old new : World) (before after : StoreTold) (id : ℕ) (state : model.State) (b : ModeBefore) (byte_act : ByteAct) (a : KeyAct) → byte_act ≡ byte_acts.Act a
     → DoneBy touched (started_world (started_by a) id old) new before after id (act_of a) → DoneBy touched (deciding_world b byte_act id old) new before after id (model_act state b byte_act)
 acted_byte_act touched old new before after id state b byte_act a is did = subst (λ (e : ByteAct). DoneBy touched (deciding_world b e id old) new before after id (model_act state b e)) (sym is) did
 
-pub skipped_quietly : (old new : World) (t : StoreTold) (id : ℕ) (xs : List Session) (at : ℕ) (b : Before) (byte_act : ByteAct) → byte_act ≡ byte_acts.Skip → IsReady byte_act (search_held at xs) (state_at at xs)
+pub skipped_quietly : (old new : World) (t : StoreTold) (id : ℕ) (xs : List Session) (at : ℕ) (b : ModeBefore) (byte_act : ByteAct) → byte_act ≡ byte_acts.Skip → IsReady byte_act (search_held at xs) (state_at at xs)
     → ((s : Search) (r : Replacing) → search_held at xs ≡ Some s → s.aim ≡ Replace r → new ≡ act old id (Run (Seek SkipMatch) None r.put) true) → DoneBy Nowhere (deciding_world b byte_act id old) new t t id (model_act (state_at at xs) b byte_act)
 skipped_quietly old new t id xs at b byte_act is ready world =
     let there = replace_there xs at (subst (λ (e : ByteAct). IsReady e (search_held at xs) (state_at at xs)) is ready) in
@@ -179,7 +180,7 @@ skipped_quietly old new t id xs at b byte_act is ready world =
     (subst (λ (put : List ℕ). DoneBy Nowhere old new t t id (Run (Seek SkipMatch) None put)) (sym there.4)
     (quietly Nowhere old new t id (Run (Seek SkipMatch) None put) refl (world there.0 there.1 there.2 there.3) (sym (quiet_seeking old id None put true SkipMatch))))
 
-pub replaced_quietly : (touched : Touched) (old new : World) (t : StoreTold) (id : ℕ) (xs : List Session) (at : ℕ) (b : Before) (byte_act : ByteAct) (last : Bool) → byte_act ≡ byte_acts.Replace last → IsReady byte_act (search_held at xs) (state_at at xs)
+pub replaced_quietly : (touched : Touched) (old new : World) (t : StoreTold) (id : ℕ) (xs : List Session) (at : ℕ) (b : ModeBefore) (byte_act : ByteAct) (last : Bool) → byte_act ≡ byte_acts.Replace last → IsReady byte_act (search_held at xs) (state_at at xs)
     → ((s : Search) (r : Replacing) → search_held at xs ≡ Some s → s.aim ≡ Replace r → new ≡ act old id (Run (commands.Replace (replacement last)) None r.put) true)
     → ((s : Search) (r : Replacing) → search_held at xs ≡ Some s → s.aim ≡ Replace r → touched ≡ touched_in (outcome_in old id (Run (commands.Replace (replacement last)) None r.put) true))
     → DoneBy touched (deciding_world b byte_act id old) new t t id (model_act (state_at at xs) b byte_act)
@@ -189,7 +190,7 @@ replaced_quietly touched old new t id xs at b byte_act last is ready world tells
     (subst (λ (put : List ℕ). DoneBy touched old new t t id (Run (commands.Replace (replacement last)) None put)) (sym there.4)
     (quietly touched old new t id (Run (commands.Replace (replacement last)) None there.1.put) refl (world there.0 there.1 there.2 there.3) (tells there.0 there.1 there.2 there.3)))
 
-pub replaced_may : (w : World) (id : ℕ) (xs : List Session) (at : ℕ) (b : Before) (byte_act : ByteAct) (last : Bool) → byte_act ≡ byte_acts.Replace last → IsReady byte_act (search_held at xs) (state_at at xs)
+pub replaced_may : (w : World) (id : ℕ) (xs : List Session) (at : ℕ) (b : ModeBefore) (byte_act : ByteAct) (last : Bool) → byte_act ≡ byte_acts.Replace last → IsReady byte_act (search_held at xs) (state_at at xs)
     → ((s : Search) (r : Replacing) → search_held at xs ≡ Some s → s.aim ≡ Replace r → may_be_refused (outcome_in w id (Run (commands.Replace (replacement last)) None r.put) true) ≡ true) → may_be_refused (outcome_in w id (model_act (state_at at xs) b byte_act) true) ≡ true
 replaced_may w id xs at b byte_act last is ready may =
     let there = replace_there xs at (subst (λ (e : ByteAct). IsReady e (search_held at xs) (state_at at xs)) is ready) in
@@ -197,7 +198,7 @@ replaced_may w id xs at b byte_act last is ready may =
     ∙ ap (λ (put : List ℕ). may_be_refused (outcome_in w id (Run (commands.Replace (replacement last)) None put) true)) there.4
     ∙ may there.0 there.1 there.2 there.3
 
-pub started_replacing : (old new : World) (t : StoreTold) (id : ℕ) (state : model.State) (b : Before) (byte_act : ByteAct) (p : PromptInput) (pattern put : List ℕ) → byte_act ≡ byte_acts.StartReplacing → p ≡ asked_of b → pattern ≡ p.first → put ≡ p.input
+pub started_replacing : (old new : World) (t : StoreTold) (id : ℕ) (state : model.State) (b : ModeBefore) (byte_act : ByteAct) (p : PromptInput) (pattern put : List ℕ) → byte_act ≡ byte_acts.StartReplacing → p ≡ asked_of b → pattern ≡ p.first → put ≡ p.input
     → new ≡ act (with_state id (replacing_state pattern put) old) id (Run (Seek StartReplace) None put) true → DoneBy Nowhere (deciding_world b byte_act id old) new t t id (model_act state b byte_act)
 started_replacing old new t id state b byte_act p pattern put is asked first input world =
     let f : List ℕ = (asked_of b).first in
@@ -207,7 +208,7 @@ started_replacing old new t id state b byte_act p pattern put is asked first inp
     (subst (λ (xs : List ℕ). DoneBy Nowhere (with_state id (replacing_state xs put) old) new t t id (Run (Seek StartReplace) None put)) (first ∙ ap (λ (q : PromptInput). q.first) asked)
     (quietly Nowhere v new t id (Run (Seek StartReplace) None put) refl world (sym (quiet_seeking v id None put true StartReplace)))))
 
-pub sought_quietly : (old new : World) (t : StoreTold) (id : ℕ) (xs : List Session) (at : ℕ) (b : Before) (byte_act : ByteAct) (step : SearchStep) → byte_act ≡ byte_acts.Seek step → IsReady byte_act (search_held at xs) (state_at at xs)
+pub sought_quietly : (old new : World) (t : StoreTold) (id : ℕ) (xs : List Session) (at : ℕ) (b : ModeBefore) (byte_act : ByteAct) (step : SearchStep) → byte_act ≡ byte_acts.Seek step → IsReady byte_act (search_held at xs) (state_at at xs)
     → ((s : Search) (f : Sought) → search_held at xs ≡ Some s → s.aim ≡ Find f → new ≡ act old id (Run (Seek (SearchOn f.direction step)) None f.pattern) true) → DoneBy Nowhere (deciding_world b byte_act id old) new t t id (model_act (state_at at xs) b byte_act)
 sought_quietly old new t id xs at b byte_act step is ready world =
     let there = seek_there xs at step (subst (λ (e : ByteAct). IsReady e (search_held at xs) (state_at at xs)) is ready) in
@@ -216,7 +217,7 @@ sought_quietly old new t id xs at b byte_act step is ready world =
     (subst (DoneBy Nowhere old new t t id) (sym there.4)
     (quietly Nowhere old new t id (Run (Seek (SearchOn f.direction step)) None f.pattern) refl (world there.0 f there.2 there.3) (sym (quiet_seeking old id None f.pattern true (SearchOn f.direction step)))))
 
-pub quit_quietly : (old new : World) (t : StoreTold) (id : ℕ) (state : model.State) (b : Before) (byte_act : ByteAct) → byte_act ≡ byte_acts.QuitSearch → new ≡ act old id (Run LeaveSearch None []) true → DoneBy Nowhere (deciding_world b byte_act id old) new t t id (model_act state b byte_act)
+pub quit_quietly : (old new : World) (t : StoreTold) (id : ℕ) (state : model.State) (b : ModeBefore) (byte_act : ByteAct) → byte_act ≡ byte_acts.QuitSearch → new ≡ act old id (Run LeaveSearch None []) true → DoneBy Nowhere (deciding_world b byte_act id old) new t t id (model_act state b byte_act)
 quit_quietly old new t id state b byte_act is world =
     subst (λ (e : ByteAct). DoneBy Nowhere (deciding_world b e id old) new t t id (model_act state b e)) (sym is)
     (quietly Nowhere old new t id (Run LeaveSearch None []) refl world (sym (quiet_leaving old id None [] true)))
@@ -252,18 +253,18 @@ module _ (ks ls : List MarkedBuffer) (kind : Kind) (playing : Bool) (x z : Sessi
       ∙ ap (λ (w : model.Session). keys_left w.state.mode w.state.keys) same
       ∙ sym (left_of x.state.search x.state.prompt x.state.keyboard.keys)
 
-  refused_alike : (b : Before) → session_of ls (refused b kind playing z) ≡ session_of ks (refused b kind playing x)
+  refused_alike : (m : ModeBefore) → (let b : Before = record { mode = m; kind = kind; is_playing = playing } in session_of ls (refused b z) ≡ session_of ks (refused b x))
   refused_alike befores.Plain = ap (λ (w : model.Session). restored None None None w.state.pattern w) same
   refused_alike (befores.Prompt p) = ap (λ (w : model.Session). restored None None (Some p) w.state.pattern w) same
   refused_alike (befores.Search s last) = λ i. restored (search_of (texts i) (Some s)) (Some s) None last (same i)
   refused_alike befores.Held = λ i. record (same i) { state = record (same i).state { echo = NoMemory; argument = None; keys = keys_alike i; kind = kind; playing = playing; todo = [] } }
 
 -- the session is told so, where an act left the world as it was
-pub refused_in_world : (d : Directory) (ks ls : List MarkedBuffer) (xs zs : List Session) (next : Option ℕ) (at : ℕ) (x z r : Session) (b e : Before) (kind : Kind) (playing : Bool) → at < length zs → slice_get xs at ≡ Some x → z ≡ get_or zs at z → e ≡ b → r ≡ refused e kind playing z
+pub refused_in_world : (d : Directory) (ks ls : List MarkedBuffer) (xs zs : List Session) (next : Option ℕ) (at : ℕ) (x z r : Session) (b : Before) → at < length zs → slice_get xs at ≡ Some x → z ≡ get_or zs at z → r ≡ refused b z
     → world_of d ls zs next ≡ world_of d ks xs next
-    → world_of d ls (slice_set zs at r) next ≡ world_of d ks (slice_set xs at (refused b kind playing x)) next
-refused_in_world d ks ls xs zs next at x z r b e kind playing within is_x is_z of_b does same =
-    set_in ls zs r ∙ (λ i. record (same i) { sessions = slice_set (same i).sessions at (left i) }) ∙ sym (set_in ks xs (refused b kind playing x))
+    → world_of d ls (slice_set zs at r) next ≡ world_of d ks (slice_set xs at (refused b x)) next
+refused_in_world d ks ls xs zs next at x z r b within is_x is_z does same =
+    set_in ls zs r ∙ (λ i. record (same i) { sessions = slice_set (same i).sessions at (left i) }) ∙ sym (set_in ks xs (refused b x))
   where
     set_in : (K : List MarkedBuffer) (ys : List Session) (y : Session) → world_of d K (slice_set ys at y) next ≡ record (world_of d K ys next) { sessions = slice_set (map (session_of K) ys) at (session_of K y) }
     set_in K ys y = ap (λ (ss : List model.Session). record (world_of d K ys next) { sessions = ss }) (map-set (session_of K) ys at y)
@@ -274,8 +275,8 @@ refused_in_world d ks ls xs zs next at x z r b e kind playing within is_x is_z o
     held : session_of ls z ≡ session_of ks x
     held = let now = held_in ls zs z (session_there zs at z within is_z) in let then = held_in ks xs x is_x in let at_once = ap (λ (w : World). slice_get w.sessions at) same in cc
 
-    left : session_of ls r ≡ session_of ks (refused b kind playing x)
-    left = ap (session_of ls) (does ∙ ap (λ (c : Before). refused c kind playing z) of_b) ∙ refused_alike ks ls kind playing x z (ap (λ (w : World). w.buffers) same) held b
+    left : session_of ls r ≡ session_of ks (refused b x)
+    left = ap (session_of ls) does ∙ refused_alike ks ls b.kind b.is_playing x z (ap (λ (w : World). w.buffers) same) held b.mode
 
 -- A TURN
 
@@ -293,15 +294,20 @@ replacing_ready : (byte_act : ByteAct) (s : Option Search) (state : model.State)
 replacing_ready (byte_acts.Replace last) s state is ready = ready
 replacing_ready _ s state is ready = cc
 
-replacing_same : (b : Before) (byte_act : ByteAct) (s old : Option Search) → is_replacement byte_act ≡ true → (may_want_memory byte_act ≡ true → search_before (before_of b byte_act) s ≡ old) → s ≡ old
-replacing_same b (byte_acts.Replace last) s old is same = same refl
-replacing_same b _ s old is same = cc
+-- no more of a text is left to a search that goes on, or is over
+left_stays : (ks : List MarkedBuffer) (s t : Option Search) (c : Bool) → search_of (buffers_of ks) s ≡ cond c (search_of (buffers_of ks) t) None → remaining_in ks s ≤ remaining_in ks t
+left_stays ks None t c e = omega arith
+left_stays ks (Some s) t false e = cc
+left_stays ks (Some s) None true e = cc
+left_stays ks (Some s) (Some t) true e =
+    let same : search_at (buffers_of ks) s ≡ search_at (buffers_of ks) t = cc in
+    omega (arith, ap (λ (m : model.Search). size_named m.name (buffers_of ks)) same, ap (λ (m : model.Search). m.anchor) same)
 
 seek_single : (mode : Mode) (step : SearchStep) (input : List ℕ) → is_single (seek_act mode step input) ≡ true
 seek_single (Searching d failing) step input = refl
 seek_single _ step input = refl
 
-byte_act_single : (state : model.State) (b : Before) (byte_act : ByteAct) → CanDo b byte_act → is_single (model_act state b byte_act) ≡ true
+byte_act_single : (state : model.State) (b : ModeBefore) (byte_act : ByteAct) → CanDo b byte_act → is_single (model_act state b byte_act) ≡ true
 byte_act_single state b (byte_acts.Act a) here = acted_single a here
 byte_act_single state b (byte_acts.Answer n) here = answered_single (asked_of b).question n (meant (asked_of b).question state.pattern (asked_of b).input)
 byte_act_single state b (byte_acts.Seek step) here = seek_single state.mode step state.input
@@ -312,7 +318,7 @@ started_playing : (d : Option Direction) (state : model.State) → (started_stat
 started_playing None state = refl
 started_playing (Some d) state = refl
 
-byte_act_todo : (b : Before) (byte_act : ByteAct) (state : model.State) → (deciding_state b byte_act state).todo ≡ state.todo
+byte_act_todo : (b : ModeBefore) (byte_act : ByteAct) (state : model.State) → (deciding_state b byte_act state).todo ≡ state.todo
 byte_act_todo b (byte_acts.Act a) state = by (started_by a)
   where
     by : (d : Option Direction) → (started_state d state).todo ≡ state.todo
@@ -320,12 +326,12 @@ byte_act_todo b (byte_acts.Act a) state = by (started_by a)
     by (Some d) = refl
 byte_act_todo b _ state = refl
 
-byte_act_playing : (b : Before) (byte_act : ByteAct) (state : model.State) → (deciding_state b byte_act state).playing ≡ state.playing
+byte_act_playing : (b : ModeBefore) (byte_act : ByteAct) (state : model.State) → (deciding_state b byte_act state).playing ≡ state.playing
 byte_act_playing b (byte_acts.Act a) state = started_playing (started_by a) state
 byte_act_playing b _ state = refl
 
 -- one that takes memory starts nothing
-unstarted : (b : Before) (byte_act : ByteAct) (state : model.State) → may_want_memory byte_act ≡ true → deciding_state b byte_act state ≡ state
+unstarted : (b : ModeBefore) (byte_act : ByteAct) (state : model.State) → may_want_memory byte_act ≡ true → deciding_state b byte_act state ≡ state
 unstarted b (byte_acts.Act a) state wants = by (started_by a) wants
   where
     by : (d : Option Direction) → not (is_some d) ≡ true → started_state d state ≡ state
@@ -350,7 +356,7 @@ begun_replacing w id o pattern put x found none =
         by true = refl
         by false = refl
 
-begun_byte_act : (w : World) (id : ℕ) (o : model.State) (b : Before) (byte_act : ByteAct) (state : model.State) (x : model.Session) (new : World) (before after : StoreTold) → find_session id w.sessions ≡ Some x → (starts_replacing byte_act ≡ true → x.search ≡ None)
+begun_byte_act : (w : World) (id : ℕ) (o : model.State) (b : ModeBefore) (byte_act : ByteAct) (state : model.State) (x : model.Session) (new : World) (before after : StoreTold) → find_session id w.sessions ≡ Some x → (starts_replacing byte_act ≡ true → x.search ≡ None)
     → ActedBy (deciding_world b byte_act id (with_state id (λ was. o) w)) new before after id (model_act state b byte_act) → ActedBy (with_state id (λ was. deciding_state b byte_act o) w) new before after id (model_act state b byte_act)
 begun_byte_act w id o b (byte_acts.Act a) state x new before after found none did = begun_act w id o a x new before after found did
 begun_byte_act w id o b byte_acts.StartReplacing state x new before after found none did =
@@ -393,7 +399,7 @@ module _ (d : Directory) (ks : List MarkedBuffer) (xs : List Session) (next : Op
   turn_less m n replaces left within s none =
       omega (arith, s.less none, more_weight n 1048576 left within, none_weight m 1048576 h.state.player.todo none)
 
-  pub kept_less : (b : Before) (m n : ℕ) → n ≤ 1048576 → IsTurnStep d ks h y b Kept → IsLess m n (state_at at xs).todo (state_at at (slice_set xs at y)).todo
+  pub kept_less : (b : ModeBefore) (m n : ℕ) → n ≤ 1048576 → IsTurnStep d ks h y b Kept → IsLess m n (state_at at xs).todo (state_at at (slice_set xs at y)).todo
   kept_less b m n within s =
       subst (λ (todo : List Todo). IsLess m n todo (state_at at (slice_set xs at y)).todo) (sym todo_there)
       (subst (IsLess m n h.state.player.todo) (sym todo_put) (turn_less m n false y.state.player.todo within s.left (by (has_all h.state.player.todo) refl), s.left.played))
@@ -402,22 +408,22 @@ module _ (d : Directory) (ks : List MarkedBuffer) (xs : List Session) (next : Op
       by true e = (let replaces = (s.left.same e).0 in cc)
       by false e = e
 
-  pub kept_fit : (b : Before) → IsTurnStep d ks h y b Kept → IsFit (state_at at (slice_set xs at y))
+  pub kept_fit : (b : ModeBefore) → IsTurnStep d ks h y b Kept → IsFit (state_at at (slice_set xs at y))
   kept_fit b s = subst IsFit (sym (state_put xs at y within)) s.fit
 
-  pub kept_turn : (b : Before) (t : StoreTold) → IsTurnStep d ks h y b Kept → TurnDone (is_played (state_at at xs).todo) (state_at at (slice_set xs at y)).todo (world_of d ks xs next) (world_of d ks (slice_set xs at y) next) t t id
+  pub kept_turn : (b : ModeBefore) (t : StoreTold) → IsTurnStep d ks h y b Kept → TurnDone (is_played (state_at at xs).todo) (state_at at (slice_set xs at y)).todo (world_of d ks xs next) (world_of d ks (slice_set xs at y) next) t t id
   kept_turn b t s = record { state = state_of y.state; act = None; turn = next_turn (Keep (state_of y.state)) s.turn; done = (changed s.state s.stays, refl) }
 
-  failed_none : (b : Before) → IsTurnStep d ks h y b Failed → (state_at at (slice_set xs at y)).todo ≡ []
+  failed_none : (b : ModeBefore) → IsTurnStep d ks h y b Failed → (state_at at (slice_set xs at y)).todo ≡ []
   failed_none b s = todo_put ∙ ap (λ (o : model.State). o.todo) s.told
 
-  pub failed_less : (b : Before) (m n : ℕ) → IsTurnStep d ks h y b Failed → ((state_at at xs).todo ≡ [] → ⊥) → IsLess m n (state_at at xs).todo (state_at at (slice_set xs at y)).todo
+  pub failed_less : (b : ModeBefore) (m n : ℕ) → IsTurnStep d ks h y b Failed → ((state_at at xs).todo ≡ [] → ⊥) → IsLess m n (state_at at xs).todo (state_at at (slice_set xs at y)).todo
   failed_less b m n s some = subst (IsLess m n (state_at at xs).todo) (sym (failed_none b s)) (some_left m (state_at at xs).todo some, refl)
 
-  pub failed_fit : (b : Before) → IsTurnStep d ks h y b Failed → IsFit (state_at at (slice_set xs at y))
+  pub failed_fit : (b : ModeBefore) → IsTurnStep d ks h y b Failed → IsFit (state_at at (slice_set xs at y))
   failed_fit b s = fit_empty (state_at at (slice_set xs at y)) (failed_none b s)
 
-  pub failed_turn : (b : Before) (t : StoreTold) → IsTurnStep d ks h y b Failed → TurnDone (is_played (state_at at xs).todo) (state_at at (slice_set xs at y)).todo (world_of d ks xs next) (world_of d ks (slice_set xs at y) next) t t id
+  pub failed_turn : (b : ModeBefore) (t : StoreTold) → IsTurnStep d ks h y b Failed → TurnDone (is_played (state_at at xs).todo) (state_at at (slice_set xs at y)).todo (world_of d ks xs next) (world_of d ks (slice_set xs at y) next) t t id
   failed_turn b t s =
       let w : World = world_of d ks xs next in
       let v : World = with_state id (λ was. s.before) w in
@@ -440,7 +446,7 @@ module _ (d : Directory) (ks : List MarkedBuffer) (xs : List Session) (next : Op
         );
       }
 
-  pub ends_turn : (b : Before) (t : StoreTold) → IsTurnStep d ks h y b Ends → TurnEnds (is_played (state_at at xs).todo) (world_of d ks xs next) (world_of d ks (slice_set xs at y) next) t t id
+  pub ends_turn : (b : ModeBefore) (t : StoreTold) → IsTurnStep d ks h y b Ends → TurnEnds (is_played (state_at at xs).todo) (world_of d ks xs next) (world_of d ks (slice_set xs at y) next) t t id
   ends_turn b t s = record {
     state = s.before;
     argument = s.argument;
@@ -452,7 +458,7 @@ module _ (d : Directory) (ks : List MarkedBuffer) (xs : List Session) (next : Op
   }
 
   -- and where there is an act
-  module _ (b : Before) (byte_act : ByteAct) (s : IsTurnStep d ks h y b (Acts byte_act)) where
+  module _ (b : ModeBefore) (byte_act : ByteAct) (s : IsTurnStep d ks h y b (Acts byte_act)) where
     -- with this record it is decided
     abbrev state : model.State
     state = deciding_state b byte_act (state_of y.state)
@@ -544,8 +550,8 @@ module _ (d : Directory) (ks : List MarkedBuffer) (xs : List Session) (next : Op
             let then = search_is (search_held at ys) (replacing_held (slice_get ys at) (acted_fit K ys before after same by all).0) in
             let some = subst (λ (o : Option Search). 0 < length (old_in o y.state.prompt)) now.1 (s.fit (ap has_all stays.1 ∙ e)).1 in
             let less = further now.0 then.0 stays.0 (search_put xs at y within ∙ now.1) then.1 some in
-            let alike : remaining_at at ks (slice_set xs at y) ≡ remaining_at at ks xs = ap (remaining_in ks) (search_put xs at y within ∙ replacing_same b byte_act y.state.search h.state.search stays.0 s.search ∙ sym (ap search_or_none (session_there xs at h within is_h))) in
-            omega (arith, less, alike)
+            let stay = left_stays ks y.state.search h.state.search (searches (state_of y.state).mode) (s.stays (buffers_of ks)) in
+            omega (arith, less, stay, ap (remaining_in ks) (search_put xs at y within), ap (λ (o : Option Session). remaining_in ks (search_or_none o)) (session_there xs at h within is_h))
 
         either : (all : Bool) → has_all h.state.player.todo ≡ all → IsLess (remaining_at at ks xs) (remaining_at at K ys) (state_at at xs).todo (state_at at ys).todo
         either true e = replaced_less (remaining_at at ks xs) (remaining_at at K ys) K ys before after same by e (fewer e)
@@ -567,16 +573,17 @@ module _ (d : Directory) (ks : List MarkedBuffer) (xs : List Session) (next : Op
 
     -- what was there before is there again in the session as it was before the turn
     abbrev again : Session
-    again = refused (before_of b byte_act) h.state.kind h.state.player.playing y
+    again = refused (before_turn b h.state) y
 
     back : may_want_memory byte_act ≡ true → session_of ks again ≡ state_set refused_state (session_of ks h)
     back wants =
-        ap (λ (z : Session). session_of ks (refused (before_of b byte_act) h.state.kind h.state.player.playing z)) s.state
+        ap (λ (z : Session). session_of ks (refused (before_turn b h.state) z)) s.state
         ∙ (λ i. record (session_of ks h) { search = (ap (search_of (buffers_of ks)) (s.search wants) ∙ search_still (buffers_of ks) h.state.search h.state.prompt) i; state = s.again wants i })
 
-    pub refused_turn : (K : List MarkedBuffer) (ys : List Session) (before after : StoreTold) (kind : Kind) (playing : Bool) → kind ≡ h.state.kind → playing ≡ h.state.player.playing → IsActRefused d at b byte_act kind playing ks K (slice_set xs at y) ys → after ≡ before
+    pub refused_turn : (K : List MarkedBuffer) (ys : List Session) (before after : StoreTold) (was : Before) → was ≡ before_turn b h.state → IsActRefused d at was byte_act ks K (slice_set xs at y) ys → after ≡ before
         → TurnRefused old (world_of d K ys next) before after id
-    refused_turn K ys before after kind playing of_kind of_play r stays =
+    refused_turn K ys before after was of_was did stays =
+        let r = subst (λ (e : Before). IsActRefused d at e byte_act ks K (slice_set xs at y) ys) of_was did in
         let still : at ≡ position_or_len (session_id id) (slice_set xs at y) = place_same id at xs (slice_set xs at y) place (sizes_set xs at h y is_h (ap size_in s.state)) in
         record {
           state = state;
@@ -584,7 +591,7 @@ module _ (d : Directory) (ks : List MarkedBuffer) (xs : List Session) (next : Op
           turn = byte_act_turn;
           told =
               r.told y next (set_there xs at y within)
-              ∙ ap (λ (zs : List Session). world_of d ks zs next) (set_twice xs at y (refused (before_of b byte_act) kind playing y) ∙ (λ i. slice_set xs at (refused (before_of b byte_act) (of_kind i) (of_play i) y)))
+              ∙ ap (λ (zs : List Session). world_of d ks zs next) (set_twice xs at y again)
               ∙ world_changed refused_state d ks xs next id at h again place within is_h (back r.wants);
           may =
               ap (λ (o : model.State). may_be_refused (outcome_in (with_state id (λ was. o) old) id act_done true)) (unstarted b byte_act (state_of y.state) r.wants)

@@ -30,12 +30,12 @@ use Rattle.mgs_session.specs.Sessions.{acted, playing_as}
 use Rattle.mgs_world.specs.Worlds.{aim_mode, mode_in, state_of, search_of}
 use Rattle.mgs_core.specs.declared.byte_acts.ByteAct.{ByteAct}
 use Rattle.mgs_core.specs.declared.byte_acts.ByteAct.TheVariants as byte_acts
-use Rattle.mgs_core.specs.declared.byte_acts.Before.{Before}
-use Rattle.mgs_core.specs.declared.byte_acts.Before.TheVariants as befores
+use Rattle.mgs_core.specs.declared.byte_acts.ModeBefore.{ModeBefore}
+use Rattle.mgs_core.specs.declared.byte_acts.ModeBefore.TheVariants as befores
 use Rattle.mgs_core.specs.declared.keying.ByteStep.{ByteStep}
 use Rattle.mgs_core.specs.declared.keying.ByteStep.TheVariants.{Kept, Failed, Ends, Acts}
 use Rattle.mgs_core.specs.Prompted.{state_turn}
-use Rattle.mgs_core.specs.ByteActs.{IsReady, before_of, model_act, deciding_state, finds, is_replacing, refused, search_before}
+use Rattle.mgs_core.specs.ByteActs.{IsReady, before_turn, model_act, deciding_state, finds, is_replacing, refused, search_before}
 use Rattle.mgs_core.specs.ByteSteps.{IsByteStep, IsFirstStep, IsFurther, IsLeft, IsStep, IsTurnStep, SearchStays, SeesNames, TurnLeft, replaces}
 use Rattle.mgs_core.specs.KeyActs.{started_by, started_state}
 use Rattle.mgs_core.proofs.Begun.{search_still}
@@ -67,20 +67,20 @@ ready_other (byte_acts.Answer n) s o h = ap (λ (p : model.State). record p { ki
 ready_other byte_acts.StartReplacing s o h = ap (λ (p : model.State). record p { kind = Other }) h
 ready_other _ s o h = h
 
-act_other : (b : Before) (byte_act : ByteAct) (o : model.State) → model_act o b byte_act ≡ model_act (record o { kind = Other }) b byte_act
+act_other : (b : ModeBefore) (byte_act : ByteAct) (o : model.State) → model_act o b byte_act ≡ model_act (record o { kind = Other }) b byte_act
 act_other b _ o = refl
 
 started_other : (d : Option Direction) (o : model.State) → record (started_state d o) { kind = Other } ≡ started_state d (record o { kind = Other })
 started_other None o = refl
 started_other (Some d) o = refl
 
-byte_act_other : (b : Before) (byte_act : ByteAct) (o : model.State) → record (deciding_state b byte_act o) { kind = Other } ≡ deciding_state b byte_act (record o { kind = Other })
+byte_act_other : (b : ModeBefore) (byte_act : ByteAct) (o : model.State) → record (deciding_state b byte_act o) { kind = Other } ≡ deciding_state b byte_act (record o { kind = Other })
 byte_act_other b (byte_acts.Act a) o = started_other (started_by a) o
 byte_act_other b _ o = refl
 
 -- THE FIRST BYTE of a play
 
-module _ (d : Directory) (ks : List MarkedBuffer) (state : model.State) (x y new : Session) (byte : ℕ) (b : Before) (plays : x.state.player.playing ≡ true) (all : are_played x.state.player.todo ≡ true) where
+module _ (d : Directory) (ks : List MarkedBuffer) (state : model.State) (x y new : Session) (byte : ℕ) (b : ModeBefore) (plays : x.state.player.playing ≡ true) (all : are_played x.state.player.todo ≡ true) where
   at_most : (todo : List Todo) → IsLeft x.state.player todo → IsWithin (1048577 + weight 1048576 x.state.player.todo) todo
   at_most todo left = left.played plays (weight 1048576 x.state.player.todo) (omega arith, played_of x.state.player.todo all)
 
@@ -124,8 +124,8 @@ module _ (d : Directory) (ks : List MarkedBuffer) (state : model.State) (x y new
             ∙ s.playing plays;
         typed = λ e. cc;
         left = subst (IsWithin (1048578 + weight 1048576 x.state.player.todo)) (sym (ap (λ (z : Session). z.state.player.todo) is)) (omega (arith, within.0), within.1);
-        again = λ wants. ap (λ (z : Session). state_of (refused (before_of b byte_act) x.state.kind x.state.player.playing z).state) is ∙ s.again wants;
-        search = λ wants. ap (λ (z : Session). search_before (before_of b byte_act) z.state.search) is ∙ s.search wants;
+        again = λ wants. ap (λ (z : Session). state_of (refused (before_turn b x.state) z).state) is ∙ s.again wants;
+        search = λ wants. ap (λ (z : Session). search_before b z.state.search) is ∙ s.search wants;
         fit = subst (λ (z : Session). IsFit (state_of z.state)) (sym is) s.fit;
         begins = s.begins;
         further = subst (λ (z : Session). IsFurther byte_act z.state.player.todo) (sym is) s.further;
@@ -155,7 +155,7 @@ module _ (d : Directory) (ks : List MarkedBuffer) (state : model.State) (x y new
 
 -- A TURN
 
-step_from : (Sees : View → Type 0) (comes mine : View → Turn) (a p : Bool) (Left Mine : List Todo → Type 0) (q : Playing) (x new : Session) (b : Before) → ((v : View) → mine v ≡ comes v) → p ≡ a → ((todo : List Todo) → Left todo → Mine todo) → (step : ByteStep) → IsStep Sees comes a Left (playing_as q x) new b step → IsStep Sees mine p Mine x new b step
+step_from : (Sees : View → Type 0) (comes mine : View → Turn) (a p : Bool) (Left Mine : List Todo → Type 0) (q : Playing) (x new : Session) (b : ModeBefore) → ((v : View) → mine v ≡ comes v) → p ≡ a → ((todo : List Todo) → Left todo → Mine todo) → (step : ByteStep) → IsStep Sees comes a Left (playing_as q x) new b step → IsStep Sees mine p Mine x new b step
 step_from Sees comes mine a p Left Mine q x new b same is less Kept s = record { state = s.state; stays = s.stays; turn = λ v sees. same v ∙ s.turn v sees; left = less new.state.player.todo s.left; fit = s.fit }
 step_from Sees comes mine a p Left Mine q x new b same is less Failed s = record {
   state = s.state;
@@ -210,7 +210,7 @@ module _ (d : Directory) (ks : List MarkedBuffer) (x y new : Session) (taken : y
   byte_comes : (byte : ℕ) (playing : Bool) (v : View) → y.state.player.playing ≡ playing → byte_turn v (record (state_of x.state) { echo = Silent; playing = playing; todo = y.state.player.todo }) byte (mode_in x.state.search x.state.prompt) ≡ comes_of byte v
   byte_comes byte playing v is = sym (ap (λ (b : Bool). byte_turn v (record (state_of x.state) { echo = Silent; playing = b; todo = y.state.player.todo }) byte (mode_in x.state.search x.state.prompt)) is)
 
-  pub typed_turn : (byte : ℕ) (b : Before) (step : ByteStep) → IsNext (tasks.Typed byte) x.state.player y.state.player → IsByteStep d ks y new byte b step → IsTurnStep d ks x new b step
+  pub typed_turn : (byte : ℕ) (b : ModeBefore) (step : ByteStep) → IsNext (tasks.Typed byte) x.state.player y.state.player → IsByteStep d ks y new byte b step → IsTurnStep d ks x new b step
   typed_turn byte b step next s =
       step_from (SeesNames d ks x.user) (comes_of byte) mine y.state.player.playing (is_played x.state.player.todo) (IsLeft y.state.player) (TurnLeft (replaces step) x.state.player.todo) y.state.player x new b
       (λ v. ap (todo_turn v (state_of x.state)) next.todo ∙ byte_comes byte false v next.playing)
@@ -219,7 +219,7 @@ module _ (d : Directory) (ks : List MarkedBuffer) (x y new : Session) (taken : y
       step
       (subst (λ (z : Session). IsByteStep d ks z new byte b step) taken s)
 
-  pub played_turn : (byte : ℕ) (b : Before) (step : ByteStep) → IsNext (tasks.Played byte) x.state.player y.state.player → IsByteStep d ks y new byte b step → IsTurnStep d ks x new b step
+  pub played_turn : (byte : ℕ) (b : ModeBefore) (step : ByteStep) → IsNext (tasks.Played byte) x.state.player y.state.player → IsByteStep d ks y new byte b step → IsTurnStep d ks x new b step
   played_turn byte b step next s =
       let all : is_played y.state.player.todo ≡ true = played_of y.state.player.todo next.taken in
       step_from (SeesNames d ks x.user) (comes_of byte) mine y.state.player.playing (is_played x.state.player.todo) (IsLeft y.state.player) (TurnLeft (replaces step) x.state.player.todo) y.state.player x new b
@@ -229,7 +229,7 @@ module _ (d : Directory) (ks : List MarkedBuffer) (x y new : Session) (taken : y
       step
       (subst (λ (z : Session). IsByteStep d ks z new byte b step) taken s)
 
-  pub first_turn : (byte : ℕ) (b : Before) (step : ByteStep) → IsNext (tasks.First byte) x.state.player y.state.player → IsFirstStep d ks (state_of x.state) y new byte b step → IsTurnStep d ks x new b step
+  pub first_turn : (byte : ℕ) (b : ModeBefore) (step : ByteStep) → IsNext (tasks.First byte) x.state.player y.state.player → IsFirstStep d ks (state_of x.state) y new byte b step → IsTurnStep d ks x new b step
   first_turn byte b step next s =
       let all : is_played y.state.player.todo ≡ true = played_of y.state.player.todo next.taken in
       step_from (SeesNames d ks x.user) (λ v. first_played (state_of x.state) (comes_of byte v)) mine true (is_played x.state.player.todo) (IsWithin (1048578 + weight 1048576 y.state.player.todo)) (TurnLeft (replaces step) x.state.player.todo) y.state.player x new b
@@ -256,9 +256,9 @@ module _ (d : Directory) (ks : List MarkedBuffer) (x y new : Session) (taken : y
       }
 
   -- a further replacement, whose session is as it was but for the last command's kind
-  replacement_turn : (b : Before) (k : Kind) (task : List Todo) (more : List Todo) → x.state.player.todo ≡ task → has_all task ≡ true → is_played task ≡ true → has_all (without_all task) ≡ false → new ≡ acted k x
-      → ((v : View) → mine v ≡ Do (record (state_of x.state) { kind = k }) (model_act (state_of x.state) b (byte_acts.Replace false))) → IsFit (state_of x.state) → is_replacing x.state.search ≡ true → IsTurnStep d ks x new b (Acts (byte_acts.Replace false))
-  replacement_turn b k task more todo all played rest is turn fit replaces =
+  replacement_turn : (k : Kind) (task : List Todo) (more : List Todo) → x.state.player.todo ≡ task → has_all task ≡ true → is_played task ≡ true → has_all (without_all task) ≡ false → new ≡ acted k x
+      → ((v : View) → mine v ≡ Do (record (state_of x.state) { kind = k }) (model_act (state_of x.state) befores.Held (byte_acts.Replace false))) → IsFit (state_of x.state) → is_replacing x.state.search ≡ true → IsTurnStep d ks x new befores.Held (Acts (byte_acts.Replace false))
+  replacement_turn k task more todo all played rest is turn fit replaces =
       let left : new.state.player.todo ≡ x.state.player.todo = ap (λ (z : Session). z.state.player.todo) is in
       let typed : is_played x.state.player.todo ≡ true = ap is_played todo ∙ played in
       record {
@@ -266,11 +266,11 @@ module _ (d : Directory) (ks : List MarkedBuffer) (x y new : Session) (taken : y
         stays = λ bs. ap (λ (z : Session). search_of bs z.state.search) is ∙ search_still bs x.state.search x.state.prompt ∙ sym (ap (λ (z : Session). cond (searches (state_of z.state).mode) (search_of bs x.state.search) None) is);
         ready = ap (λ (z : Session). is_replacing z.state.search) is ∙ replaces;
         here = tt;
-        turn = λ v sees. turn v ∙ sym (ap (λ (z : Session). Do (state_of z.state) (model_act (state_of z.state) b (byte_acts.Replace false))) is);
+        turn = λ v sees. turn v ∙ sym (ap (λ (z : Session). Do (state_of z.state) (model_act (state_of z.state) befores.Held (byte_acts.Replace false))) is);
         playing = λ e. or_true new.state.player.playing;
         typed = λ e. not_both (is_played x.state.player.todo) typed e;
         left = record { played = ap is_played left ∙ typed; less = λ e. not_both (has_all x.state.player.todo) (ap has_all todo ∙ all) e; same = λ e. (refl, left, ap (λ (ts : List Todo). has_all (without_all ts)) todo ∙ rest) };
-        again = λ wants. ap (λ (z : Session). state_of (refused befores.Held x.state.kind x.state.player.playing z).state) is ∙ held_again x.state.search replaces;
+        again = λ wants. ap (λ (z : Session). state_of (refused (before_turn befores.Held x.state) z).state) is ∙ held_again x.state.search replaces;
         search = λ wants. ap (λ (z : Session). z.state.search) is;
         fit = subst (λ (z : Session). IsFit (state_of z.state)) (sym is) fit;
         begins = λ h. cc;
@@ -281,7 +281,7 @@ module _ (d : Directory) (ks : List MarkedBuffer) (x y new : Session) (taken : y
       or_true true = refl
       or_true false = refl
 
-      held_again : (g : Option Search) → is_replacing g ≡ true → (let o : Session = record x { state = record x.state { search = g } } in state_of (refused befores.Held x.state.kind x.state.player.playing o).state ≡ refused_state (state_of o.state))
+      held_again : (g : Option Search) → is_replacing g ≡ true → (let o : Session = record x { state = record x.state { search = g } } in state_of (refused (before_turn befores.Held x.state) o).state ≡ refused_state (state_of o.state))
       held_again None e = cc
       held_again (Some g) e = refl
 
@@ -289,21 +289,21 @@ module _ (d : Directory) (ks : List MarkedBuffer) (x y new : Session) (taken : y
   fit_replacing : IsFit (state_of x.state) → has_all x.state.player.todo ≡ true → is_replacing x.state.search ≡ true
   fit_replacing fit all = mode_replacing x.state.search x.state.prompt (fit all).0
 
-  pub replace_turn : (b : Before) → IsFit (state_of x.state) → IsNext tasks.Replacement x.state.player y.state.player → new ≡ y → IsTurnStep d ks x new b (Acts (byte_acts.Replace false))
-  replace_turn b fit next is =
+  pub replace_turn : IsFit (state_of x.state) → IsNext tasks.Replacement x.state.player y.state.player → new ≡ y → IsTurnStep d ks x new befores.Held (Acts (byte_acts.Replace false))
+  replace_turn fit next is =
       let more = next.taken.0 in
       let todo : x.state.player.todo ≡ Replace_all ∷ more = next.todo ∙ next.taken.1 in
       let played : is_played more ≡ true = played_of more next.taken.2 in
       let same : y.state.player ≡ x.state.player = (λ i. record { playing = next.playing i; todo = sym next.todo i }) in
-      replacement_turn b x.state.kind (Replace_all ∷ more) more todo refl played (none_all more next.taken.2) (is ∙ taken ∙ ap (λ (q : Playing). playing_as q x) same) (λ v. ap (todo_turn v (state_of x.state)) todo) fit (fit_replacing fit (ap has_all todo))
+      replacement_turn x.state.kind (Replace_all ∷ more) more todo refl played (none_all more next.taken.2) (is ∙ taken ∙ ap (λ (q : Playing). playing_as q x) same) (λ v. ap (todo_turn v (state_of x.state)) todo) fit (fit_replacing fit (ap has_all todo))
 
-  pub first_replace_turn : (b : Before) → IsFit (state_of x.state) → IsNext tasks.FirstReplacement x.state.player y.state.player → new ≡ acted Other y → IsTurnStep d ks x new b (Acts (byte_acts.Replace false))
-  first_replace_turn b fit next is =
+  pub first_replace_turn : IsFit (state_of x.state) → IsNext tasks.FirstReplacement x.state.player y.state.player → new ≡ acted Other y → IsTurnStep d ks x new befores.Held (Acts (byte_acts.Replace false))
+  first_replace_turn fit next is =
       let more = next.taken.0 in
       let todo : x.state.player.todo ≡ Play ∷ Replace_all ∷ more = next.todo ∙ next.taken.1 in
       let played : is_played more ≡ true = played_of more next.taken.2 in
       let same : y.state.player ≡ x.state.player = (λ i. record { playing = next.playing i; todo = sym next.todo i }) in
-      replacement_turn b Other (Play ∷ Replace_all ∷ more) more todo refl played (none_all more next.taken.2) (is ∙ ap (acted Other) (taken ∙ ap (λ (q : Playing). playing_as q x) same)) (λ v. ap (todo_turn v (state_of x.state)) todo) fit (fit_replacing fit (ap has_all todo))
+      replacement_turn Other (Play ∷ Replace_all ∷ more) more todo refl played (none_all more next.taken.2) (is ∙ ap (acted Other) (taken ∙ ap (λ (q : Playing). playing_as q x) same)) (λ v. ap (todo_turn v (state_of x.state)) todo) fit (fit_replacing fit (ap has_all todo))
 
-  pub nothing_turn : (b : Before) (step : ByteStep) → (x.state.player.todo ≡ [] → ⊥) → IsNext tasks.Nothing x.state.player y.state.player → IsTurnStep d ks x new b step
+  pub nothing_turn : (b : ModeBefore) (step : ByteStep) → (x.state.player.todo ≡ [] → ⊥) → IsNext tasks.Nothing x.state.player y.state.player → IsTurnStep d ks x new b step
   nothing_turn b step some next = absurd (some (next.todo ∙ next.taken))

@@ -13,7 +13,6 @@ use Rattle.mgs_model.specs.declared.errors.Keyed.{Keyed}
 use Rattle.mgs_model.specs.declared.errors.Keyed.TheVariants as keyed
 use Rattle.mgs_model.specs.declared.errors.Short.{Short}
 use Rattle.mgs_model.specs.declared.message.Message.TheVariants.{Silent}
-use Rattle.mgs_model.specs.declared.session.Kind.{Kind}
 use Rattle.mgs_model.specs.declared.touched.Touched.{Touched}
 use Rattle.mgs_buffers.specs.MarkedBuffer.{MarkedBuffer}
 use Rattle.mgs_plan.specs.Actions.{act_of}
@@ -26,13 +25,14 @@ use Rattle.mgs_session.specs.declared.search.Search.{Search}
 use Rattle.mgs_store.specs.Stores.{StoreTold, store_told}
 use Rattle.mgs_world.specs.Worlds.{aim_old, state_at, session_id, world_of}
 use Rattle.mgs_core.specs.declared.byte_acts.Before.{Before}
+use Rattle.mgs_core.specs.declared.byte_acts.ModeBefore.{ModeBefore}
 use Rattle.mgs_core.specs.declared.byte_acts.ByteAct.{ByteAct}
 use Rattle.mgs_core.specs.Held.{AreSettled}
 use Rattle.mgs_act.specs.Doing.{DoneBy}
 use Rattle.mgs_world.specs.Acted.{IsRefusable}
 use Rattle.mgs_core.specs.KeyActs.{started_by, started_world}
 use Rattle.mgs_core.specs.Calls.{IsStill, KeyedBy, closed, differs_at}
-use Rattle.mgs_core.specs.ByteActs.{before_of, deciding_world, is_replacement, may_want_memory, model_act, refused}
+use Rattle.mgs_core.specs.ByteActs.{deciding_world, is_replacement, may_want_memory, model_act, refused}
 use Rattle.mgs_core.specs.Turns.{EventBy, IsLess, TurnedBy, is_played}
 
 -- all that was not touched is as it was
@@ -101,16 +101,16 @@ IsKeyActDone failed accepted directory at done ks xs s ls ys t touched =
     → DoneBy touched (started_world (started_by done) id (world_of directory ks xs next)) (world_of directory ls ys next) (store_told failed accepted s) (store_told failed accepted t) id (act_of done)
 
 -- an act, where this was there before
-abbrev pub IsActDone : {S : Type 0} → (S → ℕ) → (S → Option (List Saved)) → Directory → ℕ → ByteAct → Before → List MarkedBuffer → List Session → S → List MarkedBuffer → List Session → S → Result Touched Short → Type 0
+abbrev pub IsActDone : {S : Type 0} → (S → ℕ) → (S → Option (List Saved)) → Directory → ℕ → ByteAct → ModeBefore → List MarkedBuffer → List Session → S → List MarkedBuffer → List Session → S → Result Touched Short → Type 0
 IsActDone failed accepted directory at byte_act b ks xs s ls ys t result =
     IfOk result (λ touched. (id : ℕ) (next : Option ℕ) → at ≡ position_or_len (session_id id) xs
     → DoneBy touched (deciding_world b byte_act id (world_of directory ks xs next)) (world_of directory ls ys next) (store_told failed accepted s) (store_told failed accepted t) id (model_act (state_at at xs) b byte_act))
 
 -- memory was refused to it, if it takes any: the session is told so, and what was there before is there again
-pub record IsActRefused (directory : Directory) (at : ℕ) (b : Before) (byte_act : ByteAct) (kind : Kind) (playing : Bool) (ks ls : List MarkedBuffer) (xs ys : List Session) : Type 0 where
+pub record IsActRefused (directory : Directory) (at : ℕ) (b : Before) (byte_act : ByteAct) (ks ls : List MarkedBuffer) (xs ys : List Session) : Type 0 where
   pub wants : may_want_memory byte_act ≡ true
-  pub told : (x : Session) (next : Option ℕ) → slice_get xs at ≡ Some x → world_of directory ls ys next ≡ world_of directory ks (slice_set xs at (refused (before_of b byte_act) kind playing x)) next
-  pub may : IsRefusable directory at (model_act (state_at at xs) b byte_act) ks xs
+  pub told : (x : Session) (next : Option ℕ) → slice_get xs at ≡ Some x → world_of directory ls ys next ≡ world_of directory ks (slice_set xs at (refused b x)) next
+  pub may : IsRefusable directory at (model_act (state_at at xs) b.mode byte_act) ks xs
 
 -- a replacement leaves fewer characters of the text that is replaced in
 abbrev pub LeavesFewer : ByteAct → ℕ → List MarkedBuffer → List MarkedBuffer → List Session → List Session → Type 0

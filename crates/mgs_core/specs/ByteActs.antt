@@ -13,7 +13,6 @@ use Rattle.mgs_model.specs.declared.session.Mode.TheVariants.{Searching}
 use Rattle.mgs_model.specs.declared.session.Seeking.TheVariants.{SearchOn, SkipMatch, StartReplace}
 use Rattle.mgs_model.specs.declared.session.Question.TheVariants.{RunWhich}
 use Rattle.mgs_model.specs.declared.search.SearchStep.{SearchStep}
-use Rattle.mgs_model.specs.declared.session.Kind.{Kind}
 use Rattle.mgs_mini.specs.Typing.{PromptInput}
 use Rattle.mgs_mini.specs.declared.Waiting.TheVariants.{NoKey}
 use Rattle.mgs_maps.specs.Held.{nothing_held}
@@ -30,17 +29,18 @@ use Rattle.mgs_world.specs.Worlds.{idle}
 use Rattle.mgs_core.specs.declared.byte_acts.ByteAct.{ByteAct}
 use Rattle.mgs_core.specs.declared.byte_acts.ByteAct.TheVariants as byte_acts
 use Rattle.mgs_core.specs.declared.byte_acts.Before.{Before}
-use Rattle.mgs_core.specs.declared.byte_acts.Before.TheVariants as befores
+use Rattle.mgs_core.specs.declared.byte_acts.ModeBefore.{ModeBefore}
+use Rattle.mgs_core.specs.declared.byte_acts.ModeBefore.TheVariants as befores
 use Rattle.mgs_core.specs.KeyActs.{is_acted, started_by, started_state, started_world}
 
 -- WHAT WAS THERE BEFORE AN ACT OF A BYTE
 
 -- the prompt that was answered, if one was
-abbrev pub is_asked : Before → Bool
+abbrev pub is_asked : ModeBefore → Bool
 is_asked (befores.Prompt p) = true
 is_asked _ = false
 
-abbrev pub asked_of : Before → PromptInput
+abbrev pub asked_of : ModeBefore → PromptInput
 asked_of (befores.Prompt p) = p
 asked_of _ = record { question = RunWhich; first = []; input = []; waiting = NoKey }
 
@@ -52,7 +52,7 @@ seek_act (Searching d failing) step input = Run (Seek (SearchOn d step)) None in
 seek_act _ step input = Unbound
 
 -- which act of the model it is, by a session that holds this, where this was there before
-abbrev pub model_act : model.State → Before → ByteAct → Act
+abbrev pub model_act : model.State → ModeBefore → ByteAct → Act
 model_act state b (byte_acts.Act a) = act_of a
 model_act state b (byte_acts.Answer n) = Run (command_for (asked_of b).question) n (meant (asked_of b).question state.pattern (asked_of b).input)
 model_act state b (byte_acts.Seek step) = seek_act state.mode step state.input
@@ -62,7 +62,7 @@ model_act state b (byte_acts.Replace last) = Run (commands.Replace (replacement 
 model_act state b byte_acts.Skip = Run (Seek SkipMatch) None state.input
 
 -- the record with which it is decided, and the world in which it is: what begins has its mode
-abbrev pub deciding_state : Before → ByteAct → model.State → model.State
+abbrev pub deciding_state : ModeBefore → ByteAct → model.State → model.State
 deciding_state b (byte_acts.Act a) state = started_state (started_by a) state
 deciding_state b (byte_acts.Answer n) state = state
 deciding_state b (byte_acts.Seek step) state = state
@@ -71,7 +71,7 @@ deciding_state b byte_acts.StartReplacing state = replacing_state (asked_of b).f
 deciding_state b (byte_acts.Replace last) state = state
 deciding_state b byte_acts.Skip state = state
 
-abbrev pub deciding_world : Before → ByteAct → ℕ → World → World
+abbrev pub deciding_world : ModeBefore → ByteAct → ℕ → World → World
 deciding_world b (byte_acts.Act a) id w = started_world (started_by a) id w
 deciding_world b (byte_acts.Answer n) id w = w
 deciding_world b (byte_acts.Seek step) id w = w
@@ -113,7 +113,7 @@ IsReady (byte_acts.Replace last) s state = is_replacing s ≡ true
 IsReady byte_acts.Skip s state = is_replacing s ≡ true
 
 -- the server does it: an answer is for a command of its own, and what is answered was there before
-abbrev pub CanDo : Before → ByteAct → Type 0
+abbrev pub CanDo : ModeBefore → ByteAct → Type 0
 CanDo b (byte_acts.Act a) = is_acted a ≡ true
 CanDo b (byte_acts.Answer n) = (is_asked b ≡ true) × (is_answered (asked_of b).question ≡ true)
 CanDo b byte_acts.StartReplacing = is_asked b ≡ true
@@ -131,30 +131,29 @@ may_want_memory byte_acts.Skip = false
 
 -- WHERE MEMORY IS REFUSED TO IT
 
--- what is there again: a session that replaces holds its search
-abbrev pub before_of : Before → ByteAct → Before
-before_of b (byte_acts.Replace last) = befores.Held
-before_of b _ = b
+-- what is there before a turn, with this mode
+abbrev pub before_turn : ModeBefore → State → Before
+before_turn m state = record { mode = m; kind = state.kind; is_playing = state.player.playing }
 
--- what a session has of it that holds this
-abbrev pub prompt_before : Before → Option PromptInput → Option PromptInput
+-- what a session has of the mode that holds this
+abbrev pub prompt_before : ModeBefore → Option PromptInput → Option PromptInput
 prompt_before befores.Plain p = None
 prompt_before (befores.Prompt q) p = Some q
 prompt_before (befores.Search s last) p = None
 prompt_before befores.Held p = p
 
-abbrev pub search_before : Before → Option Search → Option Search
+abbrev pub search_before : ModeBefore → Option Search → Option Search
 search_before befores.Plain s = None
 search_before (befores.Prompt p) s = None
 search_before (befores.Search t last) s = Some t
 search_before befores.Held s = s
 
-abbrev pub pattern_before : Before → List ℕ → List ℕ
+abbrev pub pattern_before : ModeBefore → List ℕ → List ℕ
 pattern_before (befores.Search s last) pattern = last
 pattern_before _ pattern = pattern
 
 -- nothing is half read, and it is there again
-abbrev pub state_before : Before → State → State
+abbrev pub state_before : ModeBefore → State → State
 state_before b state =
     record state {
       echo = Silent;
@@ -164,10 +163,8 @@ state_before b state =
       pattern = pattern_before b state.pattern;
     }
 
--- the session is told so, has nothing more to do, and what was there before is there again, with the last command's kind and the macro's
--- play as they were
-abbrev pub refused : Before → Kind → Bool → Session → Session
-refused b k playing x =
-    let again : Session = record x { state = state_before b x.state } in
-    let z : Session = acted k again in
-    playing_as (record { playing = playing; todo = [] }) (told NoMemory z)
+-- the session is told so, has nothing more to do, and what was there before is there again
+abbrev pub refused : Before → Session → Session
+refused b x =
+    let again : Session = record x { state = state_before b.mode x.state } in
+    playing_as (record { playing = b.is_playing; todo = [] }) (told NoMemory (acted b.kind again))

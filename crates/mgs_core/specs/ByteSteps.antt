@@ -41,15 +41,15 @@ use Rattle.mgs_session.specs.Sessions.{failed, macro_called, prompting, resting}
 use Rattle.mgs_world.specs.Worlds.{buffers_of, state_of, search_of}
 use Rattle.mgs_core.specs.declared.byte_acts.ByteAct.{ByteAct}
 use Rattle.mgs_core.specs.declared.byte_acts.ByteAct.TheVariants as byte_acts
-use Rattle.mgs_core.specs.declared.byte_acts.Before.{Before}
-use Rattle.mgs_core.specs.declared.byte_acts.Before.TheVariants as befores
+use Rattle.mgs_core.specs.declared.byte_acts.ModeBefore.{ModeBefore}
+use Rattle.mgs_core.specs.declared.byte_acts.ModeBefore.TheVariants as befores
 use Rattle.mgs_core.specs.declared.keying.ByteStep.{ByteStep}
 use Rattle.mgs_core.specs.declared.keying.ByteStep.TheVariants.{Kept, Failed, Ends, Acts}
 use Rattle.mgs_core.specs.declared.typing.ReplaceKey.{ReplaceKey}
 use Rattle.mgs_core.specs.declared.typing.ReplaceKey.TheVariants as keys
 use Rattle.mgs_core.specs.Prompted.{state_turn}
 use Rattle.mgs_core.specs.KeyActs.{command_act}
-use Rattle.mgs_core.specs.ByteActs.{CanDo, IsReady, before_of, deciding_state, is_replacement, may_want_memory, model_act, refused, search_before, starts_replacing}
+use Rattle.mgs_core.specs.ByteActs.{CanDo, IsReady, before_turn, deciding_state, is_replacement, may_want_memory, model_act, refused, search_before, starts_replacing}
 use Rattle.mgs_core.specs.Turns.{IsFit, IsWithin, has_all, is_played, is_quiet, weight}
 
 -- WHAT IS LEFT TO DO
@@ -109,7 +109,7 @@ abbrev pub IsFurther : ByteAct → List Todo → Type 0
 IsFurther byte_act todo = has_all todo ≡ true → (is_replacement byte_act ≡ true) × (has_all (without_all todo) ≡ false)
 
 -- or this act, before which this was there, and for which the session is ready; where memory is refused to it, it leaves what the model says
-pub record StepActs (Sees : View → Type 0) (comes : View → Turn) (plays : Bool) (Left : List Todo → Type 0) (old new : Session) (b : Before) (byte_act : ByteAct) : Type 0 where
+pub record StepActs (Sees : View → Type 0) (comes : View → Turn) (plays : Bool) (Left : List Todo → Type 0) (old new : Session) (b : ModeBefore) (byte_act : ByteAct) : Type 0 where
   pub state : new ≡ record old { state = new.state }
   pub stays : SearchStays old.state new.state
   pub ready : IsReady byte_act new.state.search (state_of new.state)
@@ -118,13 +118,13 @@ pub record StepActs (Sees : View → Type 0) (comes : View → Turn) (plays : Bo
   pub playing : plays ≡ true → is_quiet new.state.player.playing (model_act (state_of new.state) b byte_act) ≡ true
   pub typed : plays ≡ false → new.state.player.todo ≡ []
   pub left : Left new.state.player.todo
-  pub again : may_want_memory byte_act ≡ true → state_of (refused (before_of b byte_act) old.state.kind old.state.player.playing new).state ≡ refused_state (state_of old.state)
-  pub search : may_want_memory byte_act ≡ true → search_before (before_of b byte_act) new.state.search ≡ old.state.search
+  pub again : may_want_memory byte_act ≡ true → state_of (refused (before_turn b old.state) new).state ≡ refused_state (state_of old.state)
+  pub search : may_want_memory byte_act ≡ true → search_before b new.state.search ≡ old.state.search
   pub fit : IsFit (state_of new.state)
   pub begins : starts_replacing byte_act ≡ true → old.state.search ≡ None
   pub further : IsFurther byte_act new.state.player.todo
 
-abbrev pub IsStep : (View → Type 0) → (View → Turn) → Bool → (List Todo → Type 0) → Session → Session → Before → ByteStep → Type 0
+abbrev pub IsStep : (View → Type 0) → (View → Turn) → Bool → (List Todo → Type 0) → Session → Session → ModeBefore → ByteStep → Type 0
 IsStep Sees comes playing Left old new b Kept = StepKept Sees comes Left old new
 IsStep Sees comes playing Left old new b Failed = StepFailed Sees comes playing old new
 IsStep Sees comes playing Left old new b Ends = StepEnds Sees comes playing old new
@@ -135,12 +135,12 @@ abbrev pub SeesNames : Directory → List MarkedBuffer → List ℕ → View →
 SeesNames directory ks user v = shown_names v ≡ granted_names directory user (buffers_of ks)
 
 -- A BYTE
-abbrev pub IsByteStep : Directory → List MarkedBuffer → Session → Session → ℕ → Before → ByteStep → Type 0
+abbrev pub IsByteStep : Directory → List MarkedBuffer → Session → Session → ℕ → ModeBefore → ByteStep → Type 0
 IsByteStep directory ks old new byte b step =
     IsStep (SeesNames directory ks old.user) (λ v. state_turn v old.state byte) old.state.player.playing (IsLeft old.state.player) old new b step
 
 -- the same of a search that was taken out of the session, for any directory and texts
-abbrev pub IsSearchStep : Search → Session → Session → ℕ → Before → ByteStep → Type 0
+abbrev pub IsSearchStep : Search → Session → Session → ℕ → ModeBefore → ByteStep → Type 0
 IsSearchStep s old new byte b step = (directory : Directory) → (ks : List MarkedBuffer) → IsByteStep directory ks (searching s old) new byte b step
 
 -- A TURN
@@ -154,12 +154,12 @@ pub record TurnLeft (replaces : Bool) (old new : List Todo) : Type 0 where
   pub less : has_all old ≡ false → weight 1048576 new < weight 1048576 old
   pub same : has_all old ≡ true → (replaces ≡ true) × (new ≡ old) × (has_all (without_all old) ≡ false)
 
-abbrev pub IsTurnStep : Directory → List MarkedBuffer → Session → Session → Before → ByteStep → Type 0
+abbrev pub IsTurnStep : Directory → List MarkedBuffer → Session → Session → ModeBefore → ByteStep → Type 0
 IsTurnStep directory ks old new b step =
     IsStep (SeesNames directory ks old.user) (λ v. todo_turn v (state_of old.state) old.state.player.todo) (is_played old.state.player.todo) (TurnLeft (replaces step) old.state.player.todo) old new b step
 
 -- the first act of a play, or none of it
-abbrev pub IsFirstStep : Directory → List MarkedBuffer → model.State → Session → Session → ℕ → Before → ByteStep → Type 0
+abbrev pub IsFirstStep : Directory → List MarkedBuffer → model.State → Session → Session → ℕ → ModeBefore → ByteStep → Type 0
 IsFirstStep directory ks state old new byte b step =
     IsStep (SeesNames directory ks old.user) (λ v. first_played state (state_turn v old.state byte)) true (IsWithin (1048578 + weight 1048576 old.state.player.todo)) old new b step
 
@@ -218,7 +218,7 @@ is_keyed (Acts byte_act) = is_act byte_act
 -- AN ANSWER, whose prompt was taken out of the session: it names a command, or is what the question is for. Where an act comes of it, this
 -- prompt is what was there before
 
-abbrev pub IsNamedStep : Session → Session → PromptInput → Before → Option Command → ByteStep → Type 0
+abbrev pub IsNamedStep : Session → Session → PromptInput → ModeBefore → Option Command → ByteStep → Type 0
 IsNamedStep old new p b None step = (step ≡ Kept) × (new ≡ failed NoSuchCommand old)
 IsNamedStep old new p b (Some c) step = (is_bound c ≡ true) × (b ≡ befores.Prompt p) × IsCommandStep (resting old) new c (value_of old.state.keyboard.argument) step
 
@@ -226,16 +226,16 @@ IsNamedStep old new p b (Some c) step = (is_bound c ≡ true) × (b ≡ befores.
 abbrev pub second_input : List ℕ → PromptInput
 second_input first = record { question = ReplaceWith; first = first; input = []; waiting = NoKey }
 
-abbrev pub IsAskedStep : Session → Session → PromptInput → Before → ByteAct → ByteStep → Type 0
+abbrev pub IsAskedStep : Session → Session → PromptInput → ModeBefore → ByteAct → ByteStep → Type 0
 IsAskedStep old new p b byte_act step = (step ≡ Acts byte_act) × (b ≡ befores.Prompt p) × (new ≡ resting old)
 
-abbrev pub IsReplyStep : Question → Session → Session → PromptInput → Before → ByteStep → Type 0
+abbrev pub IsReplyStep : Question → Session → Session → PromptInput → ModeBefore → ByteStep → Type 0
 IsReplyStep RunWhich old new p b step = IsNamedStep old new p b (find_command p.input) step
 IsReplyStep ReplaceWhat old new p b step = (step ≡ Kept) × (new ≡ prompting (second_input p.input) old)
 IsReplyStep ReplaceWith old new p b step = IsAskedStep old new p b byte_acts.StartReplacing step
 IsReplyStep _ old new p b step = IsAskedStep old new p b (byte_acts.Answer (value_of old.state.keyboard.argument)) step
 
-abbrev pub IsAnswerStep : Session → Session → PromptInput → Before → ByteStep → Type 0
+abbrev pub IsAnswerStep : Session → Session → PromptInput → ModeBefore → ByteStep → Type 0
 IsAnswerStep old new p b step = IsReplyStep p.question old new p b step
 
 -- A BYTE OF A QUERY-REPLACE

@@ -7,24 +7,23 @@ ghost use Rattle.mgs_world.specs.Sound.{IsSound};
 ghost use Rattle.mgs_world.specs.Worlds.{idle, state_at};
 ghost use Rattle.mgs_core.specs.AtPlace.{IsKeyActDone, IsActDone, LeavesFewer};
 ghost use Rattle.mgs_core.specs.KeyActs.{is_acted, started_by, started_in};
-ghost use Rattle.mgs_core.specs.ByteActs.{CanDo, IsReady, asked_of, before_of, model_act, is_asked, may_want_memory};
+ghost use Rattle.mgs_core.specs.ByteActs.{CanDo, IsReady, asked_of, model_act, is_asked, may_want_memory};
 
 use mgs_act::{act, answer};
 use mgs_buffers::Buffers;
 use mgs_marks::Marked;
 use mgs_mini::Prompt;
-use mgs_model::{Command, Direction, SearchStep, Seeking, Short, Touched};
+use mgs_model::{Command, Direction, Kind, SearchStep, Seeking, Short, Touched};
 use mgs_plan::KeyAct;
 use mgs_policy::Directory;
 use mgs_seek::{quit_search, replace, search_on, skip, start_replacing, start_search};
 use mgs_session::{Search, SearchString, Session};
 use mgs_store::Store;
 use std::alloc::Global;
-use std::mem;
 
-/// What was there before an act. Where memory is refused to the act, it is there again.
+/// The mode of a session before an act.
 #[derive(Drop)]
-pub enum Before {
+pub enum ModeBefore {
     /// No mode.
     Plain,
     /// The prompt that was answered.
@@ -33,6 +32,17 @@ pub enum Before {
     Search(Search, SearchString),
     /// The search that the session still holds.
     Held,
+}
+
+/// What was there before a turn of a session. Where memory is refused to its act, it is there again.
+#[derive(Drop)]
+pub struct Before {
+    /// Its mode, once the turn has an act; `Plain` until then.
+    pub mode: ModeBefore,
+    /// The last command's kind.
+    pub kind: Kind,
+    /// Whether a macro was played.
+    pub is_playing: bool,
 }
 
 /// What is to be done for a byte by its session. What was there before is large, and stands elsewhere.
@@ -55,24 +65,13 @@ pub enum ByteAct {
     Skip,
 }
 
-/// What is there again where memory was refused to an act. It is taken out of its place, in which `Plain` is left. A replacement leaves the
-/// place as it is: its session holds the search.
-pub fn take_before(before: &mut Before, byte_act: ByteAct) -> Before
-    ensures { result ≡ before_of before.old byte_act }
-{
-    match byte_act {
-        ByteAct::Replace(_) => Before::Held,
-        _ => mem::replace(before, Before::Plain),
-    }
-}
-
 /// The prompt that was answered.
-fn asked(before: &Before) -> &Prompt
+fn asked(before: &ModeBefore) -> &Prompt
     requires { is_asked before.now ≡ true }
     ensures { result.now ≡ asked_of before.now }
 {
     match before {
-        Before::Prompt(prompt) => prompt,
+        ModeBefore::Prompt(prompt) => prompt,
         _ => unreachable!(),
     }
 }
@@ -139,7 +138,7 @@ pub fn do_byte_act<T: Marked + Drop, S: Store>(
     at: usize,
     store: &mut S,
     act: ByteAct,
-    before: &Before,
+    before: &ModeBefore,
 ) -> Result<Touched, Short>
     requires sound { IsSound buffers.old sessions.old }
     requires within { at < length sessions.old }

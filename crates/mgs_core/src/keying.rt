@@ -4,7 +4,7 @@ ghost use Rattle.mgs_model.specs.Access.{Directory};
 ghost use Rattle.mgs_buffers.specs.MarkedBuffer.{MarkedBuffer};
 ghost use Rattle.mgs_model.specs.Plans.{count_of};
 ghost use Rattle.mgs_core.specs.KeyActs.{command_act, line_act, motion_act};
-ghost use Rattle.mgs_core.specs.declared.byte_acts.Before.TheVariants.{Plain};
+ghost use Rattle.mgs_core.specs.declared.byte_acts.ModeBefore.TheVariants.{Plain};
 ghost use Rattle.mgs_core.specs.ByteSteps.{IsAlone, IsByteStep, IsCommandStep, call_fault, is_call, is_exit, is_keyed};
 
 use crate::byte_acts::ByteAct;

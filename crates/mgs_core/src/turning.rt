@@ -11,14 +11,14 @@ ghost use Rattle.mgs_session.specs.declared.search.Search.{Search};
 ghost use Rattle.mgs_world.specs.Sound.{IsSound};
 ghost use Rattle.mgs_world.specs.Worlds.{IsUnique, state_at, state_of, session_id, sizes_in};
 ghost use Rattle.mgs_core.specs.AtPlace.{AreApart, IsActDone, IsActRefused, IsBare, IsEvent, IsSameBut, IsTurned, IsTyped, LeavesFewer, LeavesLess, StateAlone, SettlesApart, StaySettled, StaysStill};
-ghost use Rattle.mgs_core.specs.declared.byte_acts.Before.TheVariants.{Plain};
+ghost use Rattle.mgs_core.specs.declared.byte_acts.ModeBefore.TheVariants.{Plain};
 ghost use Rattle.mgs_core.specs.Held.{AreSettled};
 ghost use Rattle.mgs_core.specs.Judged.{judged_touched};
-ghost use Rattle.mgs_core.specs.ByteActs.{CanDo, IsReady, state_before, refused};
+ghost use Rattle.mgs_core.specs.ByteActs.{CanDo, IsReady, before_turn, refused, state_before};
 ghost use Rattle.mgs_core.specs.ByteSteps.{IsFirstStep, IsTurnStep};
 ghost use Rattle.mgs_core.specs.Turns.{IsFit, goes_on, has_all, touched_both, weight};
 
-use crate::byte_acts::{Before, ByteAct, do_byte_act, take_before};
+use crate::byte_acts::{Before, ByteAct, ModeBefore, do_byte_act};
 use crate::keying::ByteStep;
 use crate::typing::step_byte;
 use mgs_buffers::Buffers;
@@ -31,6 +31,7 @@ use mgs_session::{Pending, Session, begin, break_off, next_task, rest, set_echo,
 use mgs_store::Store;
 use mgs_world::settle_apart;
 use std::alloc::Global;
+use std::mem;
 
 /// What is touched by one turn and by the next.
 fn touched_both(first: Touched, next: Touched) -> Touched
@@ -61,7 +62,7 @@ fn step_first<T: Marked + Drop>(
     directory: &Directory,
     session: &mut Session,
     byte: u8,
-    before: &mut Before,
+    before: &mut ModeBefore,
 ) -> ByteStep
     requires judged { AreJudged directory.now (rules_kept buffers.now) judge.old }
     requires plays { session.old.state.player.playing ≡ true }
@@ -90,7 +91,7 @@ fn next_step<T: Marked + Drop>(
     judge: &mut Judge,
     directory: &Directory,
     session: &mut Session,
-    before: &mut Before,
+    before: &mut ModeBefore,
 ) -> ByteStep
     requires judged { AreJudged directory.now (rules_kept buffers.now) judge.old }
     requires some { session.old.state.player.todo ≡ [] → ⊥ }
@@ -107,45 +108,59 @@ fn next_step<T: Marked + Drop>(
             set_kind(session, Kind::Other);
             ByteStep::Kept
         }
-        Pending::Replacement => ByteStep::Acts(ByteAct::Replace(false)),
+        Pending::Replacement => {
+            *before = ModeBefore::Held;
+            ByteStep::Acts(ByteAct::Replace(false))
+        }
         Pending::FirstReplacement => {
             set_kind(session, Kind::Other);
+            *before = ModeBefore::Held;
             ByteStep::Acts(ByteAct::Replace(false))
         }
         Pending::Nothing => ByteStep::Kept,
     }
 }
 
-/// What was there before an act is there again, with nothing half read.
-fn return_to(session: &mut Session, before: Before)
+/// What is there before a turn.
+fn before_turn(session: &Session) -> Before
+    ensures { result ≡ before_turn Plain session.now.state }
+{
+    Before {
+        mode: ModeBefore::Plain,
+        kind: session.state.kind,
+        is_playing: session.state.player.is_playing(),
+    }
+}
+
+/// The mode that was there before an act is there again, with nothing half read.
+fn return_to(session: &mut Session, before: ModeBefore)
     ensures { session.new ≡ record session.old { state = state_before before session.old.state } }
 {
     match before {
-        Before::Plain => rest(session),
-        Before::Prompt(prompt) => {
+        ModeBefore::Plain => rest(session),
+        ModeBefore::Prompt(prompt) => {
             rest(session);
             session.state.prompt = Some(prompt);
         }
-        Before::Search(search, last) => {
+        ModeBefore::Search(search, last) => {
             rest(session);
             session.state.search = Some(search);
             session.state.pattern = last;
         }
-        Before::Held => {
+        ModeBefore::Held => {
             set_echo(session, Message::Silent);
             session.state.keyboard = Keyboard::new();
         }
     }
 }
 
-/// Memory was refused to an act: what was there before it is there again, with the last command's kind and a macro's play as they were, and
-/// its session is told so, and has nothing more to do.
-fn refuse(session: &mut Session, before: Before, kind: Kind, is_playing: bool)
-    ensures { session.new ≡ refused before kind is_playing session.old }
+/// Memory was refused to an act: what was there before its turn is there again, and its session is told so, and has nothing more to do.
+fn refuse(session: &mut Session, was: &mut Before)
+    ensures { session.new ≡ refused was.old session.old }
 {
-    return_to(session, before);
-    set_kind(session, kind);
-    session.state.player.set_playing(is_playing);
+    return_to(session, mem::replace(&mut was.mode, ModeBefore::Plain));
+    set_kind(session, was.kind);
+    session.state.player.set_playing(was.is_playing);
     break_off(session, Message::NoMemory);
 }
 
@@ -159,8 +174,7 @@ fn forget_touched(judge: &mut Judge, touched: &Touched)
     }
 }
 
-/// Does what a turn asks for by the session at `at`, where this was there before: the last command was of this kind, and a macro was played or
-/// not.
+/// Does what a turn asks for by the session at `at`, where this was there before.
 fn act_turn<T: Marked + Drop, S: Store>(
     alloc: Global,
     buffers: &mut Buffers<T>,
@@ -171,33 +185,32 @@ fn act_turn<T: Marked + Drop, S: Store>(
     store: &mut S,
     id: SessionId,
     act: ByteAct,
-    before: &mut Before,
-    kind: Kind,
-    is_playing: bool,
+    was: &mut Before,
 ) -> Result<Touched, Short>
     requires sound { IsSound buffers.old sessions.old }
     requires place { at ≡ position_or_len (session_id id) sessions.old }
     requires within { at < length sessions.old }
     requires ready { IsReady act (search_held at sessions.old) (state_at at sessions.old) }
-    requires here { CanDo before.old act }
+    requires here { CanDo was.old.mode act }
     requires judged { AreJudged directory.now (rules_kept buffers.old) judge.old }
     ensures judged { AreJudged directory.now (rules_kept buffers.new) judge.new }
     ensures sound { IsSound buffers.new sessions.new }
     ensures sizes { sizes_in sessions.new ≡ sizes_in sessions.old }
-    ensures ok { IsActDone S.failed S.accepted directory.now at act before.old buffers.old sessions.old store.old buffers.new sessions.new store.new result }
-    ensures err { OnErr result (IsActRefused directory.now at before.old act kind is_playing buffers.old buffers.new sessions.old sessions.new) }
+    ensures ok { IsActDone S.failed S.accepted directory.now at act was.old.mode buffers.old sessions.old store.old buffers.new sessions.new store.new result }
+    ensures err { OnErr result (IsActRefused directory.now at was.old act buffers.old buffers.new sessions.old sessions.new) }
     ensures unasked { OnErr result (store.new ≡ store.old) }
     ensures further { OnOk result (LeavesFewer act at buffers.old buffers.new sessions.old sessions.new) }
     ensures touched { IfOk result (λ touched. AreApart touched id directory.now buffers.old buffers.new sessions.old sessions.new) }
 {
-    match do_byte_act(alloc, buffers, directory, sessions, at, store, act, before) {
+    match do_byte_act(
+        alloc, buffers, directory, sessions, at, store, act, &was.mode,
+    ) {
         Ok(touched) => {
             forget_touched(judge, &touched);
             Ok(touched)
         }
         Err(Short) => {
-            let before = take_before(before, act);
-            refuse(&mut sessions[at], before, kind, is_playing);
+            refuse(&mut sessions[at], was);
             Err(Short)
         }
     }
@@ -233,27 +246,14 @@ fn take_turn<T: Marked + Drop, S: Store>(
 {
     // Tells the prover that each text is within the limit.
     let _count = buffers.len();
-    let kind = sessions[at].state.kind;
-    let is_playing = sessions[at].state.player.is_playing();
-    let mut before = Before::Plain;
-    match next_step(buffers, judge, directory, &mut sessions[at], &mut before) {
+    let mut was = before_turn(&sessions[at]);
+    match next_step(buffers, judge, directory, &mut sessions[at], &mut was.mode) {
         ByteStep::Kept => (Keyed::Done, Touched::Nowhere, true),
         ByteStep::Failed => (Keyed::Done, Touched::Nowhere, true),
         ByteStep::Ends => (Keyed::Quit, Touched::Anywhere, true),
         ByteStep::Acts(act) => {
             let done = act_turn(
-                alloc,
-                buffers,
-                judge,
-                directory,
-                sessions,
-                at,
-                store,
-                id,
-                act,
-                &mut before,
-                kind,
-                is_playing,
+                alloc, buffers, judge, directory, sessions, at, store, id, act, &mut was,
             );
             let _later = buffers.len();
             match done {

@@ -17,11 +17,11 @@ ghost use Rattle.mgs_model.specs.declared.message.Message.TheVariants.{Replaced,
 ghost use Rattle.mgs_session.specs.Sessions.{playing_as, prompting, told, unbound, unprompted};
 ghost use Rattle.mgs_world.specs.Worlds.{state_of};
 ghost use Rattle.mgs_core.specs.Prompted.{names_for, state_completed};
-ghost use Rattle.mgs_core.specs.declared.byte_acts.Before.{Before};
-ghost use Rattle.mgs_core.specs.declared.byte_acts.Before.TheVariants.{Plain};
+ghost use Rattle.mgs_core.specs.declared.byte_acts.ModeBefore.{ModeBefore};
+ghost use Rattle.mgs_core.specs.declared.byte_acts.ModeBefore.TheVariants.{Plain};
 ghost use Rattle.mgs_core.specs.ByteSteps.{IsAlone, IsAnswerStep, IsByteStep, IsNamedStep, IsSearchStep, finding, replace_key, replacing_at};
 
-use crate::byte_acts::{Before, ByteAct};
+use crate::byte_acts::{ByteAct, ModeBefore};
 use crate::keying::{ByteStep, step_command, step_key};
 use mgs_buffers::Buffers;
 use mgs_cache::Judge;
@@ -96,7 +96,7 @@ fn complete<T: Marked + Drop>(
 }
 
 /// What the name of a command comes to, whose prompt was taken out of the session.
-fn step_name(session: &mut Session, prompt: Prompt, before: &mut Before) -> ByteStep
+fn step_name(session: &mut Session, prompt: Prompt, before: &mut ModeBefore) -> ByteStep
     ensures { IsNamedStep session.old session.new prompt before.new (find_command prompt.input) result }
 {
     let argument = session.state.keyboard.argument();
@@ -105,12 +105,12 @@ fn step_name(session: &mut Session, prompt: Prompt, before: &mut Before) -> Byte
         return ByteStep::Kept;
     };
     rest(session);
-    *before = Before::Prompt(prompt);
+    *before = ModeBefore::Prompt(prompt);
     step_command(session, command, argument)
 }
 
 /// What an answer comes to, whose prompt was taken out of the session.
-fn step_answer(session: &mut Session, prompt: Prompt, before: &mut Before) -> ByteStep
+fn step_answer(session: &mut Session, prompt: Prompt, before: &mut ModeBefore) -> ByteStep
     ensures first { IsFirst prompt.question prompt.first }
     ensures step { IsAnswerStep session.old session.new prompt before.new result }
 {
@@ -124,13 +124,13 @@ fn step_answer(session: &mut Session, prompt: Prompt, before: &mut Before) -> By
         }
         Question::ReplaceWith => {
             rest(session);
-            *before = Before::Prompt(prompt);
+            *before = ModeBefore::Prompt(prompt);
             ByteStep::Acts(ByteAct::StartReplacing)
         }
         _ => {
             let argument = session.state.keyboard.argument();
             rest(session);
-            *before = Before::Prompt(prompt);
+            *before = ModeBefore::Prompt(prompt);
             ByteStep::Acts(ByteAct::Answer(argument))
         }
     }
@@ -143,7 +143,7 @@ fn step_prompt<T: Marked + Drop>(
     directory: &Directory,
     session: &mut Session,
     byte: u8,
-    before: &mut Before,
+    before: &mut ModeBefore,
 ) -> ByteStep
     requires judged { AreJudged directory.now (rules_kept buffers.now) judge.old }
     requires still { session.old ≡ unsearched session.old }
@@ -185,7 +185,7 @@ fn step_still<T: Marked + Drop>(
     directory: &Directory,
     session: &mut Session,
     byte: u8,
-    before: &mut Before,
+    before: &mut ModeBefore,
 ) -> ByteStep
     requires judged { AreJudged directory.now (rules_kept buffers.now) judge.old }
     requires still { session.old ≡ unsearched session.old }
@@ -209,7 +209,7 @@ fn step_foreign(
     anchor: usize,
     sought: IncrementalSearch,
     byte: u8,
-    before: &mut Before,
+    before: &mut ModeBefore,
 ) -> ByteStep
     requires still { session.old ≡ unsearched session.old }
     requires alone { IsAlone session.old.state.player }
@@ -225,7 +225,7 @@ fn step_foreign(
         anchor,
         aim: Aim::Find(sought),
     };
-    *before = Before::Search(search, last);
+    *before = ModeBefore::Search(search, last);
     step_key(session, byte)
 }
 
@@ -250,7 +250,7 @@ fn step_character(
     requires still { session.old ≡ unsearched session.old }
     requires alone { IsAlone session.old.state.player }
     requires past { is_character_byte session.old.state.keyboard.keys byte ≡ true }
-    ensures { (before : Before) → IsSearchStep (finding name origin anchor sought) session.old session.new byte before result }
+    ensures { (before : ModeBefore) → IsSearchStep (finding name origin anchor sought) session.old session.new byte before result }
 {
     let mut keyboard = session.state.keyboard;
     let sequence = keyboard.feed_character(byte);
@@ -289,7 +289,7 @@ fn step_find(
     anchor: usize,
     sought: IncrementalSearch,
     byte: u8,
-    before: &mut Before,
+    before: &mut ModeBefore,
 ) -> ByteStep
     requires still { session.old ≡ unsearched session.old }
     requires alone { IsAlone session.old.state.player }
@@ -428,20 +428,23 @@ fn step_replace(
     anchor: usize,
     replacing: Replacing,
     byte: u8,
+    before: &mut ModeBefore,
 ) -> ByteStep
     requires still { session.old ≡ unsearched session.old }
     requires alone { IsAlone session.old.state.player }
-    ensures { (before : Before) → IsSearchStep (replacing_at name origin anchor replacing) session.old session.new byte before result }
+    ensures { IsSearchStep (replacing_at name origin anchor replacing) session.old session.new byte before.new result }
 {
     // Tells the prover that something is replaced.
     let _pattern = replacing.pattern();
     match replace_key(byte) {
         ReplaceKey::Replaces => {
             hold_replacing(session, name, origin, anchor, replacing);
+            *before = ModeBefore::Held;
             ByteStep::Acts(ByteAct::Replace(false))
         }
         ReplaceKey::ReplacesLast => {
             hold_replacing(session, name, origin, anchor, replacing);
+            *before = ModeBefore::Held;
             ByteStep::Acts(ByteAct::Replace(true))
         }
         ReplaceKey::Skips => {
@@ -469,7 +472,7 @@ fn step_replace(
 }
 
 /// What a byte comes to in a search, which was taken out of the session.
-fn step_taken(session: &mut Session, search: Search, byte: u8, before: &mut Before) -> ByteStep
+fn step_taken(session: &mut Session, search: Search, byte: u8, before: &mut ModeBefore) -> ByteStep
     requires still { session.old ≡ unsearched session.old }
     requires alone { IsAlone session.old.state.player }
     ensures { IsSearchStep search session.old session.new byte before.new result }
@@ -482,12 +485,14 @@ fn step_taken(session: &mut Session, search: Search, byte: u8, before: &mut Befo
     } = search;
     match aim {
         Aim::Find(sought) => step_find(session, name, origin, anchor, sought, byte, before),
-        Aim::Replace(replacing) => step_replace(session, name, origin, anchor, replacing, byte),
+        Aim::Replace(replacing) => {
+            step_replace(session, name, origin, anchor, replacing, byte, before)
+        }
     }
 }
 
 /// What a byte comes to in a session that searches.
-fn step_search(session: &mut Session, byte: u8, before: &mut Before) -> ByteStep
+fn step_search(session: &mut Session, byte: u8, before: &mut ModeBefore) -> ByteStep
     requires searches { is_some session.old.state.search ≡ true }
     requires alone { IsAlone session.old.state.player }
     ensures { (directory : Directory) (ks : List MarkedBuffer) → IsByteStep directory ks session.old session.new byte before.new result }
@@ -506,7 +511,7 @@ pub fn step_byte<T: Marked + Drop>(
     directory: &Directory,
     session: &mut Session,
     byte: u8,
-    before: &mut Before,
+    before: &mut ModeBefore,
 ) -> ByteStep
     requires judged { AreJudged directory.now (rules_kept buffers.now) judge.old }
     requires alone { IsAlone session.old.state.player }

@@ -7,7 +7,6 @@ use Rattle.mgs_laws.proofs.Apart.{apart_same}
 use Rattle.mgs_world.specs.Worlds.{world_of}
 use Rattle.mgs_world.proofs.Sizes.{sizes_seen}
 use Rattle.mgs_world.proofs.Soundness.{sound_set, sizes_set}
-use Rattle.mgs_core.specs.ByteActs.{before_of}
 use Rattle.mgs_core.proofs.Acted.{byte_act_apart, byte_act_sizes}
 use Rattle.mgs_core.proofs.Judged.{touched_judged}
 use Rattle.mgs_core.proofs.Taken.{refused_in_world}
@@ -21,16 +20,16 @@ returns-in-Ok-clause-judged g c =
     let id = c.args.id in
     let t = c.in-Ok.touched in
     subst (λ (keeps : List Kept). AreJudged d (rules_kept c.do_byte_act.new.buffers) keeps) (sym c.forget_touched.ensures)
-    (touched_judged d t id w v c.args.judge.now (byte_act_apart t c.args.before.now c.args.act w v _ _ id _ (c.in-Ok.ensures.ok id None c.requires.place)) c.requires.judged)
+    (touched_judged d t id w v c.args.judge.now (byte_act_apart t c.args.was.now.mode c.args.act w v _ _ id _ (c.in-Ok.ensures.ok id None c.requires.place)) c.requires.judged)
 
 pub returns-in-Ok-clause-sizes : goal.returns-in-Ok-clause-sizes
 returns-in-Ok-clause-sizes g c =
-    byte_act_sizes c.in-Ok.touched c.args.before.now c.args.act c.args.directory.now c.args.buffers.now c.do_byte_act.new.buffers c.args.sessions.now c.do_byte_act.new.sessions c.args.id c.args.at _ _ _
+    byte_act_sizes c.in-Ok.touched c.args.was.now.mode c.args.act c.args.directory.now c.args.buffers.now c.do_byte_act.new.buffers c.args.sessions.now c.do_byte_act.new.sessions c.args.id c.args.at _ _ _
     c.requires.place c.requires.within c.do_byte_act.auto.sessions (c.in-Ok.ensures.ok c.args.id None c.requires.place)
 
 pub returns-in-Ok-clause-touched : goal.returns-in-Ok-clause-touched
 returns-in-Ok-clause-touched g c next =
-    byte_act_apart c.in-Ok.touched c.args.before.now c.args.act (world_of c.args.directory.now c.args.buffers.now c.args.sessions.now next)
+    byte_act_apart c.in-Ok.touched c.args.was.now.mode c.args.act (world_of c.args.directory.now c.args.buffers.now c.args.sessions.now next)
     (world_of c.args.directory.now c.do_byte_act.new.buffers c.do_byte_act.new.sessions next) _ _ c.args.id _ (c.in-Ok.ensures.ok c.args.id next c.requires.place)
 
 pub returns-in-Err-clause-judged : goal.returns-in-Err-clause-judged
@@ -66,7 +65,7 @@ returns-in-Err-clause-err g c =
     record {
       wants = c.in-Err.ensures.wants;
       told = λ x next is.
-          refused_in_world d ks ls xs ys next at x h c.refuse.new.session (before_of c.args.before.now c.args.act) c.take_before-before.result c.args.kind c.args.is_playing
-          (omega (arith, c.requires.within, c.do_byte_act.auto.sessions)) is (ap (get_or ys at) c.index-sessions-at.is) c.take_before-before.ensures c.refuse.ensures (c.in-Err.ensures.err next);
+          refused_in_world d ks ls xs ys next at x h c.refuse.new.session c.args.was.now
+          (omega (arith, c.requires.within, c.do_byte_act.auto.sessions)) is (ap (get_or ys at) c.index-sessions-at.is) c.refuse.ensures (c.in-Err.ensures.err next);
       may = c.in-Err.ensures.may;
     }

@@ -17,8 +17,8 @@ returns-in-First-clause-step g c =
 
 pub returns-in-FirstReplacement-clause-step : goal.returns-in-FirstReplacement-clause-step
 returns-in-FirstReplacement-clause-step g c =
-    first_replace_turn c.args.directory.now c.args.buffers.now c.args.session.now c.next_task.new.session c.set_kind-in-FirstReplacement.new.session c.next_task.ensures.rest c.args.before.now c.requires.fit c.in-FirstReplacement.ensures.next c.set_kind-in-FirstReplacement.ensures
+    first_replace_turn c.args.directory.now c.args.buffers.now c.args.session.now c.next_task.new.session c.set_kind-in-FirstReplacement.new.session c.next_task.ensures.rest c.requires.fit c.in-FirstReplacement.ensures.next c.set_kind-in-FirstReplacement.ensures
 
 pub returns-in-Replacement-clause-step : goal.returns-in-Replacement-clause-step
 returns-in-Replacement-clause-step g c =
-    replace_turn c.args.directory.now c.args.buffers.now c.args.session.now c.next_task.new.session c.next_task.new.session c.next_task.ensures.rest c.args.before.now c.requires.fit c.in-Replacement.ensures.next refl
+    replace_turn c.args.directory.now c.args.buffers.now c.args.session.now c.next_task.new.session c.next_task.new.session c.next_task.ensures.rest c.requires.fit c.in-Replacement.ensures.next refl

@@ -10,6 +10,9 @@ use Rattle.mgs_session.specs.declared.Session.{Session}
 use Rattle.mgs_world.specs.Sound.{session_uses}
 use Rattle.mgs_world.specs.Worlds.{size_in, world_of}
 use Rattle.mgs_world.proofs.Soundness.{sound_set, sizes_set}
+use Rattle.mgs_core.specs.declared.byte_acts.Before.{Before}
+use Rattle.mgs_core.specs.declared.byte_acts.ModeBefore.TheVariants.{Plain}
+use Rattle.mgs_core.specs.ByteActs.{before_turn}
 use Rattle.mgs_core.proofs.Sizes.{place_same}
 use Rattle.mgs_core.proofs.Still.{alone_written}
 use Rattle.mgs_core.proofs.Taken.{acted_fit, acted_turn, acts_less, ends_turn, failed_fit, failed_less, failed_turn, kept_fit, kept_less, kept_turn, left_within, ready_put, refused_turn, some_there, step_apart, step_stands, within_still}
@@ -18,7 +21,7 @@ use Rattle.mgs_core.proofs.turning.take_turn.Goals as goal
 pub next_step-requires-clause-some : goal.next_step-requires-clause-some
 next_step-requires-clause-some g c none =
     let xs = c.args.sessions.now in
-    some_there xs c.args.at (get_or xs c.args.at c.index-sessions-at-3.result) c.requires.within (ap (get_or xs c.args.at) c.index-sessions-at-3.is) c.requires.some none
+    some_there xs c.args.at (get_or xs c.args.at c.index-sessions-at-2.result) c.requires.within (ap (get_or xs c.args.at) c.index-sessions-at-2.is) c.requires.some none
 
 pub returns-in-Kept : goal.returns-in-Kept
 returns-in-Kept g c =
@@ -27,8 +30,8 @@ returns-in-Kept g c =
     let xs = c.args.sessions.now in
     let id = c.args.id in
     let at = c.args.at in
-    let h = get_or xs at c.index-sessions-at-3.result in
-    let is_h = ap (get_or xs at) c.index-sessions-at-3.is in
+    let h = get_or xs at c.index-sessions-at-2.result in
+    let is_h = ap (get_or xs at) c.index-sessions-at-2.is in
     let y = c.next_step.new.session in
     let b = c.next_step.new.before in
     let place = c.requires.place in
@@ -53,8 +56,8 @@ returns-in-Failed g c =
     let xs = c.args.sessions.now in
     let id = c.args.id in
     let at = c.args.at in
-    let h = get_or xs at c.index-sessions-at-3.result in
-    let is_h = ap (get_or xs at) c.index-sessions-at-3.is in
+    let h = get_or xs at c.index-sessions-at-2.result in
+    let is_h = ap (get_or xs at) c.index-sessions-at-2.is in
     let y = c.next_step.new.session in
     let b = c.next_step.new.before in
     let place = c.requires.place in
@@ -79,8 +82,8 @@ returns-in-Ends g c =
     let xs = c.args.sessions.now in
     let id = c.args.id in
     let at = c.args.at in
-    let h = get_or xs at c.index-sessions-at-3.result in
-    let is_h = ap (get_or xs at) c.index-sessions-at-3.is in
+    let h = get_or xs at c.index-sessions-at-2.result in
+    let is_h = ap (get_or xs at) c.index-sessions-at-2.is in
     let y = c.next_step.new.session in
     let place = c.requires.place in
     let within = c.requires.within in
@@ -101,8 +104,8 @@ pub act_turn-done-requires : goal.act_turn-done-requires
 act_turn-done-requires g c =
     let xs = c.args.sessions.now in
     let at = c.args.at in
-    let h = get_or xs at c.index-sessions-at-3.result in
-    let is_h = ap (get_or xs at) c.index-sessions-at-3.is in
+    let h = get_or xs at c.index-sessions-at-2.result in
+    let is_h = ap (get_or xs at) c.index-sessions-at-2.is in
     let y = c.next_step.new.session in
     let s = c.in-Acts.ensures.step in
     let same = sizes_set xs at h y is_h (ap size_in s.state) in
@@ -122,8 +125,8 @@ returns-in-Ok g c =
     let xs = c.args.sessions.now in
     let id = c.args.id in
     let at = c.args.at in
-    let h = get_or xs at c.index-sessions-at-3.result in
-    let is_h = ap (get_or xs at) c.index-sessions-at-3.is in
+    let h = get_or xs at c.index-sessions-at-2.result in
+    let is_h = ap (get_or xs at) c.index-sessions-at-2.is in
     let y = c.next_step.new.session in
     let b = c.next_step.new.before in
     let place = c.requires.place in
@@ -159,8 +162,8 @@ returns-in-Err g c =
     let xs = c.args.sessions.now in
     let id = c.args.id in
     let at = c.args.at in
-    let h = get_or xs at c.index-sessions-at-3.result in
-    let is_h = ap (get_or xs at) c.index-sessions-at-3.is in
+    let h = get_or xs at c.index-sessions-at-2.result in
+    let is_h = ap (get_or xs at) c.index-sessions-at-2.is in
     let y = c.next_step.new.session in
     let b = c.next_step.new.before in
     let place = c.requires.place in
@@ -173,9 +176,8 @@ returns-in-Err g c =
     let put = sizes_set xs at h y is_h (ap size_in s.state) in
     let same = did.ensures.sizes ∙ put in
     let turned = λ (next : Option ℕ).
-    refused_turn d ks xs next id at h y place within is_h b act s ls ys _ _ _ _
-    (ap (λ (x : Session). x.state.kind) (get_or_default xs at c.index-sessions-at.result c.index-sessions-at-3.result within))
-    (c.is_playing-is_playing.ensures ∙ ap (λ (x : Session). x.state.player.playing) (get_or_default xs at c.index-sessions-at-2.result c.index-sessions-at-3.result within))
+    refused_turn d ks xs next id at h y place within is_h b act s ls ys _ _ _
+    (ap (λ (e : Before). record e { mode = b }) (c.before_turn-was.ensures ∙ ap (λ (x : Session). before_turn Plain x.state) (get_or_default xs at c.index-sessions-at.result c.index-sessions-at-2.result within)))
     c.in-Err.ensures.err (ap (λ s. store_told g.S.Store.failed g.S.Store.accepted s) c.in-Err.ensures.unasked) in
     record {
       judged = did.ensures.judged;

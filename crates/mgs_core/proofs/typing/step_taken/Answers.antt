@@ -8,4 +8,4 @@ returns-in-Find c directory ks =
 
 pub returns-in-Replace : goal.returns-in-Replace
 returns-in-Replace c directory ks =
-    aimed directory ks c.args.session.now c.step_replace.new.session c.args.search (Replace c.in-Replace.replacing) c.args.byte c.args.before.now c.step_replace.result c.in-Replace.is (c.step_replace.ensures c.args.before.now directory ks)
+    aimed directory ks c.args.session.now c.step_replace.new.session c.args.search (Replace c.in-Replace.replacing) c.args.byte c.step_replace.new.before c.step_replace.result c.in-Replace.is (c.step_replace.ensures directory ks)
