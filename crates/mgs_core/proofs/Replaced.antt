@@ -14,6 +14,7 @@ use Rattle.mgs_model.specs.declared.session.Command.TheVariants.{Seek}
 use Rattle.mgs_model.specs.declared.session.Mode.TheVariants.{Plain}
 use Rattle.mgs_model.specs.declared.session.Seeking.TheVariants.{SkipMatch}
 use Rattle.mgs_buffers.specs.MarkedBuffer.{MarkedBuffer}
+use Rattle.mgs_session.specs.declared.search.Aim.TheVariants.{Replace}
 use Rattle.mgs_session.specs.Replacing.{Replacing}
 use Rattle.mgs_session.specs.declared.search.Search.{Search}
 use Rattle.mgs_session.specs.declared.Session.{Session}
@@ -24,12 +25,13 @@ use Rattle.mgs_world.specs.Worlds.{state_of}
 use Rattle.mgs_core.specs.declared.byte_acts.ByteAct.TheVariants as byte_acts
 use Rattle.mgs_core.specs.declared.byte_acts.ModeBefore.{ModeBefore}
 use Rattle.mgs_core.specs.declared.byte_acts.ModeBefore.TheVariants as befores
+use Rattle.mgs_core.specs.declared.typing.SearchPlace.{SearchPlace}
 use Rattle.mgs_core.specs.declared.keying.ByteStep.TheVariants.{Kept, Acts}
 use Rattle.mgs_core.specs.declared.typing.ReplaceKey.{ReplaceKey}
 use Rattle.mgs_core.specs.declared.typing.ReplaceKey.TheVariants as keys
 use Rattle.mgs_core.specs.Prompted.{state_turn}
 use Rattle.mgs_core.specs.ByteActs.{model_act}
-use Rattle.mgs_core.specs.ByteSteps.{IsAlone, IsByteStep, IsLeft, replace_key, replacing_at, SeesNames}
+use Rattle.mgs_core.specs.ByteSteps.{IsAlone, IsByteStep, IsLeft, SeesNames, replace_key, search_for}
 use Rattle.mgs_core.specs.Turns.{IsWithin}
 use Rattle.mgs_core.proofs.Stepped.{acts_same, kept_none, kept_same, none_stays}
 
@@ -63,9 +65,9 @@ left_all old todo alone is = record {
   behind = λ e. ap are_behind is ∙ alone.played;
 }
 
-module _ (d : Directory) (ks : List MarkedBuffer) (y new : Session) (name : List ℕ) (origin anchor : ℕ) (r : Replacing) (byte : ℕ) (alone : IsAlone y.state.player) where
+module _ (d : Directory) (ks : List MarkedBuffer) (y new : Session) (place : SearchPlace) (r : Replacing) (byte : ℕ) (alone : IsAlone y.state.player) where
   abbrev pub s : Search
-  s = replacing_at name origin anchor r
+  s = search_for place (Replace r)
 
   abbrev z : Session
   z = unsearched y

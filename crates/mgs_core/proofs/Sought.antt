@@ -33,9 +33,10 @@ use Rattle.mgs_core.specs.declared.byte_acts.ModeBefore.{ModeBefore}
 use Rattle.mgs_core.specs.declared.byte_acts.ModeBefore.TheVariants as befores
 use Rattle.mgs_core.specs.declared.byte_acts.ByteAct.TheVariants as byte_acts
 use Rattle.mgs_core.specs.declared.keying.ByteStep.{ByteStep}
+use Rattle.mgs_core.specs.declared.typing.SearchPlace.{SearchPlace}
 use Rattle.mgs_core.specs.declared.keying.ByteStep.TheVariants.{Kept, Failed, Ends, Acts}
 use Rattle.mgs_core.specs.Prompted.{state_turn}
-use Rattle.mgs_core.specs.ByteSteps.{IsAlone, IsByteStep, SearchStays, finding, is_keyed, SeesNames}
+use Rattle.mgs_core.specs.ByteSteps.{IsAlone, IsByteStep, SearchStays, SeesNames, is_keyed, search_for}
 use Rattle.mgs_session.specs.declared.search.Aim.{Aim}
 use Rattle.mgs_session.specs.declared.search.Aim.TheVariants.{Find, Replace}
 use Rattle.mgs_core.proofs.Stepped.{acts_same, kept_none, kept_same, none_stays}
@@ -93,9 +94,9 @@ unsearched_same y none = ap (λ (o : Option Search). record y { state = record y
 -- WHAT COMES NEXT
 
 -- in a session that is searching
-module _ (y : Session) (name : List ℕ) (origin anchor : ℕ) (f : Sought) (byte : ℕ) where
+module _ (y : Session) (place : SearchPlace) (f : Sought) (byte : ℕ) where
   abbrev it : State
-  it = (searching (finding name origin anchor f) (unsearched y)).state
+  it = (searching (search_for place (Find f)) (unsearched y)).state
 
   abbrev then_state : model.State
   then_state = record (state_of it) { echo = Silent }
@@ -115,12 +116,12 @@ module _ (y : Session) (name : List ℕ) (origin anchor : ℕ) (f : Sought) (byt
   comes_past v q is read = by_character v true is ∙ ap (pattern_turn then_state f byte) read
 
 -- the session that was searching
-module _ (d : Directory) (ks : List MarkedBuffer) (y new : Session) (name : List ℕ) (origin anchor : ℕ) (f g : Sought) (byte : ℕ) (b : ModeBefore) (alone : IsAlone y.state.player) where
+module _ (d : Directory) (ks : List MarkedBuffer) (y new : Session) (place : SearchPlace) (f g : Sought) (byte : ℕ) (b : ModeBefore) (alone : IsAlone y.state.player) where
   abbrev pub s : Search
-  s = finding name origin anchor f
+  s = search_for place (Find f)
 
   abbrev pub r : Search
-  r = finding name origin anchor g
+  r = search_for place (Find g)
 
   abbrev z : Session
   z = unsearched y
@@ -137,14 +138,14 @@ module _ (d : Directory) (ks : List MarkedBuffer) (y new : Session) (name : List
       let same : g ≡ f = sought_over z.state.pattern f g byte step.Ends read tt in
       let it : Session = search_left f.pattern z in
       kept_same (SeesNames d ks x.user) (λ v. state_turn v x.state byte) x new it (is ∙ ap (λ (p : Sought). search_left p.pattern z) same) refl (none_stays x.state it.state refl) alone
-      (λ v sees. comes y name origin anchor f byte v g step.Ends ascii read ∙ ap (λ (q : Sought). sought_turn state byte q step.Ends) same) refl
+      (λ v sees. comes y place f byte v g step.Ends ascii read ∙ ap (λ (q : Sought). sought_turn state byte q step.Ends) same) refl
 
   -- or is given up
   pub search_quits : is_character_byte y.state.keyboard.keys byte ≡ false → read_byte y.state.pattern f byte ≡ (g, step.Quits) → new ≡ searching r (told Silent (unsearched y)) → IsByteStep d ks (searching s (unsearched y)) new byte b (Acts byte_acts.QuitSearch)
   search_quits ascii read is =
       let same : g ≡ f = sought_over z.state.pattern f g byte step.Quits read tt in
-      acts_same (SeesNames d ks x.user) (λ v. state_turn v x.state byte) x new (searching s (told Silent z)) (is ∙ ap (λ (h : Sought). searching (finding name origin anchor h) (told Silent z)) same) refl (λ bs. refl) b byte_acts.QuitSearch alone tt tt
-      (λ v sees. comes y name origin anchor f byte v g step.Quits ascii read) refl (λ wants. cc) (λ wants. cc) (λ h. cc)
+      acts_same (SeesNames d ks x.user) (λ v. state_turn v x.state byte) x new (searching s (told Silent z)) (is ∙ ap (λ (h : Sought). searching (search_for place (Find h)) (told Silent z)) same) refl (λ bs. refl) b byte_acts.QuitSearch alone tt tt
+      (λ v sees. comes y place f byte v g step.Quits ascii read) refl (λ wants. cc) (λ wants. cc) (λ h. cc)
 
   -- or does a step, with this half read
   abbrev state_read : Held → model.State
@@ -163,24 +164,24 @@ module _ (d : Directory) (ks : List MarkedBuffer) (y new : Session) (name : List
 
   -- as a byte of ASCII asks
   pub search_on : (k : SearchStep) → is_character_byte y.state.keyboard.keys byte ≡ false → (k ≡ step.Ends → ⊥) → (k ≡ step.Quits → ⊥) → (k ≡ step.Leaves → ⊥) → read_byte y.state.pattern f byte ≡ (g, k) → new ≡ searching r (told Silent (unsearched y)) → IsByteStep d ks (searching s (unsearched y)) new byte b (Acts (byte_acts.Seek k))
-  search_on k ascii ends quits leaves read is = steps_on y.state.keyboard k (λ v. comes y name origin anchor f byte v g k ascii read ∙ sought_on k ends quits leaves) is
+  search_on k ascii ends quits leaves read is = steps_on y.state.keyboard k (λ v. comes y place f byte v g k ascii read ∙ sought_on k ends quits leaves) is
 
   -- or a character with its last byte
   pub search_puts : (c : ℕ) (k : SearchStep) → is_character_byte y.state.keyboard.keys byte ≡ true → character_read y.state.keyboard.keys byte ≡ Whole c → k ≡ step.FromAnchor → g ≡ record f { pattern = lengthened f.pattern c } → new ≡ searching r (told Silent (reading nothing_held (unsearched y)))
       → IsByteStep d ks (searching s (unsearched y)) new byte b (Acts (byte_acts.Seek k))
   search_puts c k is read seeks put held =
       subst (λ (e : SearchStep). IsByteStep d ks (searching s (unsearched y)) new byte b (Acts (byte_acts.Seek e))) (sym seeks)
-      (steps_on nothing_held step.FromAnchor (λ v. comes_past y name origin anchor f byte v (Whole c) is read ∙ sym (ap (λ (q : Sought). sought_turn (used state) byte q step.FromAnchor) put)) held)
+      (steps_on nothing_held step.FromAnchor (λ v. comes_past y place f byte v (Whole c) is read ∙ sym (ap (λ (q : Sought). sought_turn (used state) byte q step.FromAnchor) put)) held)
 
   -- more of its bytes are to come
   pub search_reads : is_character_byte y.state.keyboard.keys byte ≡ true → character_read y.state.keyboard.keys byte ≡ Begun → new ≡ searching s (told Silent (reading (held_character y.state.keyboard byte Begun) (unsearched y))) → IsByteStep d ks (searching s (unsearched y)) new byte b Kept
   search_reads is read held =
-      kept_same (SeesNames d ks x.user) (λ v. state_turn v x.state byte) x new (searching s (told Silent (reading (held_character y.state.keyboard byte Begun) z))) held refl (λ bs. refl) alone (λ v sees. comes_past y name origin anchor f byte v Begun is read) refl
+      kept_same (SeesNames d ks x.user) (λ v. state_turn v x.state byte) x new (searching s (told Silent (reading (held_character y.state.keyboard byte Begun) z))) held refl (λ bs. refl) alone (λ v sees. comes_past y place f byte v Begun is read) refl
 
   -- or there is none, which is told
   pub search_breaks : is_character_byte y.state.keyboard.keys byte ≡ true → character_read y.state.keyboard.keys byte ≡ Broken → new ≡ unbound (searching s (reading nothing_held (unsearched y))) → IsByteStep d ks (searching s (unsearched y)) new byte b Kept
   search_breaks is read held =
-      kept_none (SeesNames d ks x.user) (λ v. state_turn v x.state byte) x new (unbound (searching s (reading nothing_held z))) held refl (λ bs. refl) (λ v sees. comes_past y name origin anchor f byte v Broken is read) refl
+      kept_none (SeesNames d ks x.user) (λ v. state_turn v x.state byte) x new (unbound (searching s (reading nothing_held z))) held refl (λ bs. refl) (λ v sees. comes_past y place f byte v Broken is read) refl
 
 -- what the session has read of it, which does not search
 pub character_held : (y k : Session) (h : Held) (q e : Sequence) (byte : ℕ) → y ≡ unsearched y → k ≡ reading h y → h ≡ held_character y.state.keyboard byte q → q ≡ e → k ≡ reading (held_character y.state.keyboard byte e) (unsearched y)
@@ -204,9 +205,9 @@ stays_none old new none stays =
     by None p e = refl
     by (Some g) p e = aims g g.aim e
 
-module _ (d : Directory) (ks : List MarkedBuffer) (y new : Session) (name : List ℕ) (origin anchor : ℕ) (f : Sought) (last : List ℕ) (byte : ℕ) (same : last ≡ y.state.pattern) (ascii : is_character_byte y.state.keyboard.keys byte ≡ false) (read : read_byte y.state.pattern f byte ≡ (f, step.Leaves)) where
+module _ (d : Directory) (ks : List MarkedBuffer) (y new : Session) (place : SearchPlace) (f : Sought) (last : List ℕ) (byte : ℕ) (same : last ≡ y.state.pattern) (ascii : is_character_byte y.state.keyboard.keys byte ≡ false) (read : read_byte y.state.pattern f byte ≡ (f, step.Leaves)) where
   abbrev pub was : Search
-  was = finding name origin anchor f
+  was = search_for place (Find f)
 
   abbrev w : Session
   w = searching was (unsearched y)
@@ -215,7 +216,7 @@ module _ (d : Directory) (ks : List MarkedBuffer) (y new : Session) (name : List
   left_one = search_left f.pattern (unsearched y)
 
   key_comes : (v : View) → state_turn v w.state byte ≡ state_turn v left_one.state byte
-  key_comes v = comes y name origin anchor f byte v f step.Leaves ascii read
+  key_comes v = comes y place f byte v f step.Leaves ascii read
 
   left_stays : SearchStays left_one.state new.state → SearchStays w.state new.state
   left_stays stays = none_stays w.state new.state (stays_none left_one.state new.state refl stays)
@@ -263,8 +264,8 @@ module _ (d : Directory) (ks : List MarkedBuffer) (y new : Session) (name : List
   }
   key_left (Acts _) keyed t = cc
 
-pub search_leaves : (d : Directory) (ks : List MarkedBuffer) (y left new : Session) (name : List ℕ) (origin anchor : ℕ) (f : Sought) (last : List ℕ) (byte : ℕ) (k : ByteStep) → last ≡ y.state.pattern → is_character_byte y.state.keyboard.keys byte ≡ false → read_byte y.state.pattern f byte ≡ (f, step.Leaves) → left ≡ search_left f.pattern (unsearched y) → is_keyed k ≡ true → IsByteStep d ks left new byte befores.Plain k → IsByteStep d ks (searching (finding name origin anchor f) (unsearched y)) new byte (befores.Search (finding name origin anchor f) last) k
-search_leaves d ks y left new name origin anchor f last byte k same ascii read is keyed t = key_left d ks y new name origin anchor f last byte same ascii read k keyed (subst (λ (g : Session). IsByteStep d ks g new byte befores.Plain k) is t)
+pub search_leaves : (d : Directory) (ks : List MarkedBuffer) (y left new : Session) (place : SearchPlace) (f : Sought) (last : List ℕ) (byte : ℕ) (k : ByteStep) → last ≡ y.state.pattern → is_character_byte y.state.keyboard.keys byte ≡ false → read_byte y.state.pattern f byte ≡ (f, step.Leaves) → left ≡ search_left f.pattern (unsearched y) → is_keyed k ≡ true → IsByteStep d ks left new byte befores.Plain k → IsByteStep d ks (searching (search_for place (Find f)) (unsearched y)) new byte (befores.Search (search_for place (Find f)) last) k
+search_leaves d ks y left new place f last byte k same ascii read is keyed t = key_left d ks y new place f last byte same ascii read k keyed (subst (λ (g : Session). IsByteStep d ks g new byte befores.Plain k) is t)
 
 -- what was read with the search string, as the session has it
 pub read_at : (pattern last : List ℕ) (s r : Sought) (byte : ℕ) (k e : SearchStep) → last ≡ pattern → read_byte last s byte ≡ (r, k) → k ≡ e → read_byte pattern s byte ≡ (r, e)
@@ -277,9 +278,9 @@ read_again pattern s r byte read =
     ap (λ (q : Sought). read_byte pattern q byte) same ∙ read
 
 -- such a byte leaves the search as it was
-pub foreign_step : (d : Directory) (ks : List MarkedBuffer) (y new : Session) (name : List ℕ) (origin anchor : ℕ) (f g : Sought) (byte : ℕ) (b : ModeBefore) (k : ByteStep) → read_byte y.state.pattern f byte ≡ (g, step.Leaves) → IsByteStep d ks (searching (finding name origin anchor g) y) new byte b k → IsByteStep d ks (searching (finding name origin anchor f) y) new byte b k
-foreign_step d ks y new name origin anchor f g byte b k read t =
-    subst (λ (h : Sought). IsByteStep d ks (searching (finding name origin anchor h) y) new byte b k) (sought_over y.state.pattern f g byte step.Leaves read tt) t
+pub foreign_step : (d : Directory) (ks : List MarkedBuffer) (y new : Session) (place : SearchPlace) (f g : Sought) (byte : ℕ) (b : ModeBefore) (k : ByteStep) → read_byte y.state.pattern f byte ≡ (g, step.Leaves) → IsByteStep d ks (searching (search_for place (Find g)) y) new byte b k → IsByteStep d ks (searching (search_for place (Find f)) y) new byte b k
+foreign_step d ks y new place f g byte b k read t =
+    subst (λ (h : Sought). IsByteStep d ks (searching (search_for place (Find h)) y) new byte b k) (sought_over y.state.pattern f g byte step.Leaves read tt) t
 
 -- a session that does not search
 pub still_search : (d : Directory) (ks : List MarkedBuffer) (y new : Session) (s : Search) (byte : ℕ) (b : ModeBefore) (k : ByteStep) → y ≡ unsearched y → IsByteStep d ks (searching s (unsearched y)) new byte b k → IsByteStep d ks (searching s y) new byte b k

@@ -31,11 +31,9 @@ use Rattle.mgs_maps.specs.Held.{is_bound}
 use Rattle.mgs_buffers.specs.MarkedBuffer.{MarkedBuffer}
 use Rattle.mgs_session.specs.declared.State.{State}
 use Rattle.mgs_session.specs.declared.Session.{Session}
-use Rattle.mgs_session.specs.declared.search.Aim.TheVariants.{Find, Replace}
-use Rattle.mgs_session.specs.Replacing.{Replacing}
+use Rattle.mgs_session.specs.declared.search.Aim.{Aim}
 use Rattle.mgs_session.specs.Seeking.{searching}
 use Rattle.mgs_session.specs.declared.search.Search.{Search}
-use Rattle.mgs_model.specs.Searching.{Sought}
 use Rattle.mgs_session.specs.Playing.{Playing, are_behind, are_played}
 use Rattle.mgs_session.specs.Sessions.{failed, macro_called, prompting, resting}
 use Rattle.mgs_world.specs.Worlds.{buffers_of, state_of, search_of}
@@ -46,6 +44,7 @@ use Rattle.mgs_core.specs.declared.byte_acts.ModeBefore.TheVariants as befores
 use Rattle.mgs_core.specs.declared.keying.ByteStep.{ByteStep}
 use Rattle.mgs_core.specs.declared.keying.ByteStep.TheVariants.{Kept, Failed, Ends, Acts}
 use Rattle.mgs_core.specs.declared.typing.ReplaceKey.{ReplaceKey}
+use Rattle.mgs_core.specs.declared.typing.SearchPlace.{SearchPlace}
 use Rattle.mgs_core.specs.declared.typing.ReplaceKey.TheVariants as keys
 use Rattle.mgs_core.specs.Prompted.{state_turn}
 use Rattle.mgs_core.specs.KeyActs.{command_act}
@@ -250,9 +249,6 @@ replace_key byte =
     else if byte == 7 then keys.Quits
     else keys.Other
 
--- a search by its parts
-abbrev pub finding : List ℕ → ℕ → ℕ → Sought → Search
-finding name origin anchor f = record { name = name; origin = origin; anchor = anchor; aim = Find f }
-
-abbrev pub replacing_at : List ℕ → ℕ → ℕ → Replacing → Search
-replacing_at name origin anchor r = record { name = name; origin = origin; anchor = anchor; aim = Replace r }
+-- a search at a place
+abbrev pub search_for : SearchPlace → Aim → Search
+search_for place a = record { name = place.name; origin = place.origin; anchor = place.anchor; aim = a }

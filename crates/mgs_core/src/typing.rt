@@ -11,6 +11,7 @@ ghost use Rattle.mgs_buffers.specs.MarkedBuffer.{MarkedBuffer};
 ghost use Rattle.mgs_mini.specs.Typing as prompts;
 ghost use Rattle.mgs_mini.specs.Typing.{IsFirst};
 ghost use Rattle.mgs_session.specs.Seeking.{searching, unsearched};
+ghost use Rattle.mgs_session.specs.declared.search.Aim.TheVariants.{Find, Replace};
 ghost use Rattle.mgs_session.specs.Playing.{are_played, replacing_all};
 ghost use Rattle.mgs_model.specs.Commands.{find_command};
 ghost use Rattle.mgs_model.specs.declared.message.Message.TheVariants.{Replaced, Silent};
@@ -19,7 +20,7 @@ ghost use Rattle.mgs_world.specs.Worlds.{state_of};
 ghost use Rattle.mgs_core.specs.Prompted.{names_for, state_completed};
 ghost use Rattle.mgs_core.specs.declared.byte_acts.ModeBefore.{ModeBefore};
 ghost use Rattle.mgs_core.specs.declared.byte_acts.ModeBefore.TheVariants.{Plain};
-ghost use Rattle.mgs_core.specs.ByteSteps.{IsAlone, IsAnswerStep, IsByteStep, IsNamedStep, IsSearchStep, finding, replace_key, replacing_at};
+ghost use Rattle.mgs_core.specs.ByteSteps.{IsAlone, IsAnswerStep, IsByteStep, IsNamedStep, IsSearchStep, replace_key, search_for};
 
 use crate::byte_acts::{ByteAct, ModeBefore};
 use crate::keying::{ByteStep, step_command, step_key};
@@ -200,13 +201,42 @@ fn step_still<T: Marked + Drop>(
     }
 }
 
+/// Where a search is, whatever it is for.
+#[derive(Clone, Copy)]
+pub struct SearchPlace {
+    /// The buffer that it is in.
+    pub name: Name,
+    /// Where it began.
+    pub origin: usize,
+    /// Where it looks from.
+    pub anchor: usize,
+}
+
+/// A search at a place.
+fn search_for(place: SearchPlace, aim: Aim) -> Search
+    ensures { result ≡ search_for place aim }
+{
+    Search {
+        name: place.name,
+        origin: place.origin,
+        anchor: place.anchor,
+        aim,
+    }
+}
+
+/// Holds a search that goes on, and empties the echo line.
+fn hold_on(session: &mut Session, place: SearchPlace, aim: Aim)
+    ensures { session.new ≡ searching (search_for place aim) (told Silent session.old) }
+{
+    set_echo(session, Message::Silent);
+    hold_search(session, search_for(place, aim));
+}
+
 /// What a byte comes to that is none of a search's own. The search, which was taken out of the session, is over, and the byte is a key. Where
 /// memory is refused to what it asks for, the search goes on.
 fn step_foreign(
     session: &mut Session,
-    name: Name,
-    origin: usize,
-    anchor: usize,
+    place: SearchPlace,
     sought: IncrementalSearch,
     byte: u8,
     before: &mut ModeBefore,
@@ -215,17 +245,11 @@ fn step_foreign(
     requires alone { IsAlone session.old.state.player }
     requires ascii { is_character_byte session.old.state.keyboard.keys byte ≡ false }
     requires leaves { read_byte session.old.state.pattern sought byte ≡ (sought, Leaves) }
-    ensures { IsSearchStep (finding name origin anchor sought) session.old session.new byte before.new result }
+    ensures { IsSearchStep (search_for place (Find sought)) session.old session.new byte before.new result }
 {
     let last = SearchString::of(session.state.pattern.as_slice());
     leave_search(session, &sought);
-    let search = Search {
-        name,
-        origin,
-        anchor,
-        aim: Aim::Find(sought),
-    };
-    *before = ModeBefore::Search(search, last);
+    *before = ModeBefore::Search(search_for(place, Aim::Find(sought)), last);
     step_key(session, byte)
 }
 
@@ -241,41 +265,31 @@ fn hold_unbound(session: &mut Session, search: Search)
 /// what is looked for with its last byte. What is half read of it is the keyboard's, since it goes on as a key where the search is over.
 fn step_character(
     session: &mut Session,
-    name: Name,
-    origin: usize,
-    anchor: usize,
+    place: SearchPlace,
     sought: IncrementalSearch,
     byte: u8,
 ) -> ByteStep
     requires still { session.old ≡ unsearched session.old }
     requires alone { IsAlone session.old.state.player }
     requires past { is_character_byte session.old.state.keyboard.keys byte ≡ true }
-    ensures { (before : ModeBefore) → IsSearchStep (finding name origin anchor sought) session.old session.new byte before result }
+    ensures { (before : ModeBefore) → IsSearchStep (search_for place (Find sought)) session.old session.new byte before result }
 {
     let mut keyboard = session.state.keyboard;
     let sequence = keyboard.feed_character(byte);
     hold_keyboard(session, keyboard);
     match sequence {
         Sequence::Begun => {
-            hold_sought(session, name, origin, anchor, sought);
+            hold_on(session, place, Aim::Find(sought));
             ByteStep::Kept
         }
         Sequence::Whole(c) => {
             let mut sought = sought;
             let step = sought.put(c);
-            hold_sought(session, name, origin, anchor, sought);
+            hold_on(session, place, Aim::Find(sought));
             ByteStep::Acts(ByteAct::Seek(step))
         }
         Sequence::Broken => {
-            hold_unbound(
-                session,
-                Search {
-                    name,
-                    origin,
-                    anchor,
-                    aim: Aim::Find(sought),
-                },
-            );
+            hold_unbound(session, search_for(place, Aim::Find(sought)));
             ByteStep::Kept
         }
     }
@@ -284,19 +298,17 @@ fn step_character(
 /// What a byte comes to in an incremental search, which was taken out of the session.
 fn step_find(
     session: &mut Session,
-    name: Name,
-    origin: usize,
-    anchor: usize,
+    place: SearchPlace,
     sought: IncrementalSearch,
     byte: u8,
     before: &mut ModeBefore,
 ) -> ByteStep
     requires still { session.old ≡ unsearched session.old }
     requires alone { IsAlone session.old.state.player }
-    ensures { IsSearchStep (finding name origin anchor sought) session.old session.new byte before.new result }
+    ensures { IsSearchStep (search_for place (Find sought)) session.old session.new byte before.new result }
 {
     if session.state.keyboard.is_character_byte(byte) {
-        return step_character(session, name, origin, anchor, sought, byte);
+        return step_character(session, place, sought, byte);
     }
     let mut sought = sought;
     match sought.feed(session.state.pattern.as_slice(), byte) {
@@ -304,38 +316,16 @@ fn step_find(
             leave_search(session, &sought);
             ByteStep::Kept
         }
-        SearchStep::Leaves => step_foreign(session, name, origin, anchor, sought, byte, before),
+        SearchStep::Leaves => step_foreign(session, place, sought, byte, before),
         SearchStep::Quits => {
-            hold_sought(session, name, origin, anchor, sought);
+            hold_on(session, place, Aim::Find(sought));
             ByteStep::Acts(ByteAct::QuitSearch)
         }
         step => {
-            hold_sought(session, name, origin, anchor, sought);
+            hold_on(session, place, Aim::Find(sought));
             ByteStep::Acts(ByteAct::Seek(step))
         }
     }
-}
-
-/// Holds an incremental search that goes on, and empties the echo line.
-fn hold_sought(
-    session: &mut Session,
-    name: Name,
-    origin: usize,
-    anchor: usize,
-    sought: IncrementalSearch,
-)
-    ensures { session.new ≡ searching (finding name origin anchor sought) (told Silent session.old) }
-{
-    set_echo(session, Message::Silent);
-    hold_search(
-        session,
-        Search {
-            name,
-            origin,
-            anchor,
-            aim: Aim::Find(sought),
-        },
-    );
 }
 
 /// What a query-replace is asked for.
@@ -390,28 +380,6 @@ fn end_replacing(session: &mut Session, count: usize)
     set_echo(session, Message::Replaced(count));
 }
 
-/// Holds a query-replace that goes on, and empties the echo line.
-fn hold_replacing(
-    session: &mut Session,
-    name: Name,
-    origin: usize,
-    anchor: usize,
-    replacing: Replacing,
-)
-    ensures { session.new ≡ searching (replacing_at name origin anchor replacing) (told Silent session.old) }
-{
-    set_echo(session, Message::Silent);
-    hold_search(
-        session,
-        Search {
-            name,
-            origin,
-            anchor,
-            aim: Aim::Replace(replacing),
-        },
-    );
-}
-
 /// All further matches are to be replaced.
 fn replace_all(session: &mut Session)
     requires { are_played session.old.state.player.todo ≡ true }
@@ -423,36 +391,34 @@ fn replace_all(session: &mut Session)
 /// What a byte comes to in a query-replace, which was taken out of the session.
 fn step_replace(
     session: &mut Session,
-    name: Name,
-    origin: usize,
-    anchor: usize,
+    place: SearchPlace,
     replacing: Replacing,
     byte: u8,
     before: &mut ModeBefore,
 ) -> ByteStep
     requires still { session.old ≡ unsearched session.old }
     requires alone { IsAlone session.old.state.player }
-    ensures { IsSearchStep (replacing_at name origin anchor replacing) session.old session.new byte before.new result }
+    ensures { IsSearchStep (search_for place (Replace replacing)) session.old session.new byte before.new result }
 {
     // Tells the prover that something is replaced.
     let _pattern = replacing.pattern();
     match replace_key(byte) {
         ReplaceKey::Replaces => {
-            hold_replacing(session, name, origin, anchor, replacing);
+            hold_on(session, place, Aim::Replace(replacing));
             *before = ModeBefore::Held;
             ByteStep::Acts(ByteAct::Replace(false))
         }
         ReplaceKey::ReplacesLast => {
-            hold_replacing(session, name, origin, anchor, replacing);
+            hold_on(session, place, Aim::Replace(replacing));
             *before = ModeBefore::Held;
             ByteStep::Acts(ByteAct::Replace(true))
         }
         ReplaceKey::Skips => {
-            hold_replacing(session, name, origin, anchor, replacing);
+            hold_on(session, place, Aim::Replace(replacing));
             ByteStep::Acts(ByteAct::Skip)
         }
         ReplaceKey::ReplacesAll => {
-            hold_replacing(session, name, origin, anchor, replacing);
+            hold_on(session, place, Aim::Replace(replacing));
             replace_all(session);
             ByteStep::Kept
         }
@@ -465,7 +431,7 @@ fn step_replace(
             ByteStep::Kept
         }
         ReplaceKey::Other => {
-            hold_replacing(session, name, origin, anchor, replacing);
+            hold_on(session, place, Aim::Replace(replacing));
             ByteStep::Kept
         }
     }
@@ -483,11 +449,14 @@ fn step_taken(session: &mut Session, search: Search, byte: u8, before: &mut Mode
         anchor,
         aim,
     } = search;
+    let place = SearchPlace {
+        name,
+        origin,
+        anchor,
+    };
     match aim {
-        Aim::Find(sought) => step_find(session, name, origin, anchor, sought, byte, before),
-        Aim::Replace(replacing) => {
-            step_replace(session, name, origin, anchor, replacing, byte, before)
-        }
+        Aim::Find(sought) => step_find(session, place, sought, byte, before),
+        Aim::Replace(replacing) => { step_replace(session, place, replacing, byte, before) }
     }
 }
 

@@ -1,11 +1,12 @@
 use Rattle.std.proofs.Common.{◌∙◌, ap, refl, sym}
 use Rattle.mgs_model.specs.declared.message.Message.TheVariants.{Silent}
+use Rattle.mgs_session.specs.declared.search.Aim.TheVariants.{Find}
 use Rattle.mgs_session.specs.Seeking.{search_left, searching}
 use Rattle.mgs_session.specs.Sessions.{told}
 use Rattle.mgs_session.specs.declared.Session.{Session}
 use Rattle.mgs_core.specs.declared.byte_acts.ByteAct.TheVariants as byte_acts
 use Rattle.mgs_core.specs.declared.keying.ByteStep.TheVariants.{Kept, Acts}
-use Rattle.mgs_core.specs.ByteSteps.{finding}
+use Rattle.mgs_core.specs.ByteSteps.{search_for}
 use Rattle.mgs_core.proofs.Sought.{foreign_step, read_again, read_at, search_ends, search_on, search_quits, still_search}
 use Rattle.mgs_core.proofs.typing.step_find.Goals as goal
 
@@ -28,15 +29,15 @@ returns-in-Ends c directory ks =
     let y = c.args.session.now in
     let f = c.args.sought in
     let g = c.feed.new.self in
-    still_search directory ks y c.leave_search.new.session (finding c.args.name c.args.origin c.args.anchor f) c.args.byte c.args.before.now Kept c.requires.still
-    (search_ends directory ks y c.leave_search.new.session c.args.name c.args.origin c.args.anchor f g c.args.byte c.args.before.now c.requires.alone
+    still_search directory ks y c.leave_search.new.session (search_for c.args.place (Find f)) c.args.byte c.args.before.now Kept c.requires.still
+    (search_ends directory ks y c.leave_search.new.session c.args.place f g c.args.byte c.args.before.now c.requires.alone
     (sym c.is_character_byte.ensures ∙ c.if-is_character_byte.false)
     (read_at y.state.pattern _ f g c.args.byte _ _ c.as_slice.ensures.value c.feed.ensures c.in-Ends.is)
     (c.leave_search.ensures ∙ ap (search_left g.pattern) c.requires.still))
 
 pub returns-in-Leaves : goal.returns-in-Leaves
 returns-in-Leaves c directory ks =
-    foreign_step directory ks c.args.session.now c.step_foreign.new.session c.args.name c.args.origin c.args.anchor c.args.sought c.feed.new.self c.args.byte c.step_foreign.new.before c.step_foreign.result
+    foreign_step directory ks c.args.session.now c.step_foreign.new.session c.args.place c.args.sought c.feed.new.self c.args.byte c.step_foreign.new.before c.step_foreign.result
     (read_at c.args.session.now.state.pattern _ c.args.sought c.feed.new.self c.args.byte _ _ c.as_slice.ensures.value c.feed.ensures c.in-Leaves.is)
     (c.step_foreign.ensures directory ks)
 
@@ -45,18 +46,18 @@ returns-in-Quits c directory ks =
     let y = c.args.session.now in
     let f = c.args.sought in
     let g = c.feed.new.self in
-    still_search directory ks y c.hold_sought.new.session (finding c.args.name c.args.origin c.args.anchor f) c.args.byte c.args.before.now (Acts byte_acts.QuitSearch) c.requires.still
-    (search_quits directory ks y c.hold_sought.new.session c.args.name c.args.origin c.args.anchor f g c.args.byte c.args.before.now c.requires.alone
+    still_search directory ks y c.hold_on.new.session (search_for c.args.place (Find f)) c.args.byte c.args.before.now (Acts byte_acts.QuitSearch) c.requires.still
+    (search_quits directory ks y c.hold_on.new.session c.args.place f g c.args.byte c.args.before.now c.requires.alone
     (sym c.is_character_byte.ensures ∙ c.if-is_character_byte.false)
     (read_at y.state.pattern _ f g c.args.byte _ _ c.as_slice.ensures.value c.feed.ensures c.in-Quits.is)
-    (c.hold_sought.ensures ∙ ap (λ (z : Session). searching (finding c.args.name c.args.origin c.args.anchor g) (told Silent z)) c.requires.still))
+    (c.hold_on.ensures ∙ ap (λ (z : Session). searching (search_for c.args.place (Find g)) (told Silent z)) c.requires.still))
 
 pub returns-in_default : goal.returns-in_default
 returns-in_default c directory ks =
     let y = c.args.session.now in
     let f = c.args.sought in
     let g = c.feed.new.self in
-    still_search directory ks y c.hold_sought-in_default.new.session (finding c.args.name c.args.origin c.args.anchor f) c.args.byte c.args.before.now (Acts (byte_acts.Seek c.feed.result)) c.requires.still
-    (search_on directory ks y c.hold_sought-in_default.new.session c.args.name c.args.origin c.args.anchor f g c.args.byte c.args.before.now c.requires.alone c.feed.result (sym c.is_character_byte.ensures ∙ c.if-is_character_byte.false) c.in_default.not-Ends c.in_default.not-Quits c.in_default.not-Leaves
+    still_search directory ks y c.hold_on-in_default.new.session (search_for c.args.place (Find f)) c.args.byte c.args.before.now (Acts (byte_acts.Seek c.feed.result)) c.requires.still
+    (search_on directory ks y c.hold_on-in_default.new.session c.args.place f g c.args.byte c.args.before.now c.requires.alone c.feed.result (sym c.is_character_byte.ensures ∙ c.if-is_character_byte.false) c.in_default.not-Ends c.in_default.not-Quits c.in_default.not-Leaves
     (read_at y.state.pattern _ f g c.args.byte _ _ c.as_slice.ensures.value c.feed.ensures refl)
-    (c.hold_sought-in_default.ensures ∙ ap (λ (z : Session). searching (finding c.args.name c.args.origin c.args.anchor g) (told Silent z)) c.requires.still))
+    (c.hold_on-in_default.ensures ∙ ap (λ (z : Session). searching (search_for c.args.place (Find g)) (told Silent z)) c.requires.still))
