@@ -9,12 +9,12 @@ use Rattle.mgs_model.specs.World.{Todo, Replace_all}
 use Rattle.mgs_model.specs.View.{View}
 use Rattle.mgs_model.specs.Turns.{Turn, Keep, Do, replace_turn, replacing}
 use Rattle.mgs_model.specs.declared.message.Message.TheVariants.{Quitting, Replaced, Silent}
-use Rattle.mgs_model.specs.declared.session.Replacement.TheVariants.{ReplaceLast, ReplaceMatch}
 use Rattle.mgs_model.specs.declared.session.Command.TheVariants.{Seek}
 use Rattle.mgs_model.specs.declared.session.Mode.TheVariants.{Plain}
 use Rattle.mgs_model.specs.declared.session.Seeking.TheVariants.{SkipMatch}
 use Rattle.mgs_buffers.specs.MarkedBuffer.{MarkedBuffer}
 use Rattle.mgs_session.specs.declared.search.Aim.TheVariants.{Replace}
+use Rattle.mgs_seek.specs.Replacing.{replacement}
 use Rattle.mgs_session.specs.Replacing.{Replacing}
 use Rattle.mgs_session.specs.declared.search.Search.{Search}
 use Rattle.mgs_session.specs.declared.Session.{Session}
@@ -30,15 +30,13 @@ use Rattle.mgs_core.specs.declared.keying.ByteStep.TheVariants.{Kept, Acts}
 use Rattle.mgs_core.specs.declared.typing.ReplaceKey.{ReplaceKey}
 use Rattle.mgs_core.specs.declared.typing.ReplaceKey.TheVariants as keys
 use Rattle.mgs_core.specs.Prompted.{state_turn}
-use Rattle.mgs_core.specs.ByteActs.{model_act}
 use Rattle.mgs_core.specs.ByteSteps.{IsAlone, IsByteStep, IsLeft, SeesNames, replace_key, search_for}
 use Rattle.mgs_core.specs.Turns.{IsWithin}
 use Rattle.mgs_core.proofs.Stepped.{acts_same, kept_none, kept_same, none_stays}
 
 -- what each byte comes to, by what it asks
 abbrev pub keyed_turn : model.State → ReplaceKey → Turn
-keyed_turn state keys.Replaces = replacing state ReplaceMatch
-keyed_turn state keys.ReplacesLast = replacing state ReplaceLast
+keyed_turn state (keys.Replaces last) = replacing state (replacement last)
 keyed_turn state keys.Skips = Do state (Run (Seek SkipMatch) None state.input)
 keyed_turn state keys.ReplacesAll = Keep (record state { todo = Replace_all ∷ state.todo })
 keyed_turn state keys.Ends = Keep (record state { echo = Replaced state.count; mode = Plain; input = []; old = []; count = 0 })
@@ -48,7 +46,7 @@ keyed_turn state keys.Other = Keep state
 turn_keyed : (state : model.State) (byte : ℕ) → replace_turn state byte ≡ keyed_turn state (replace_key byte)
 turn_keyed state byte = by ((byte == 121) || (byte == 32)) (byte == 46) ((byte == 110) || (byte == 127)) (byte == 33) ((byte == 113) || (byte == 13)) (byte == 7)
   where
-    by : (a b c e f g : Bool) → cond a (keyed_turn state keys.Replaces) (cond b (keyed_turn state keys.ReplacesLast) (cond c (keyed_turn state keys.Skips) (cond e (keyed_turn state keys.ReplacesAll) (cond f (keyed_turn state keys.Ends) (cond g (keyed_turn state keys.Quits) (keyed_turn state keys.Other)))))) ≡ keyed_turn state (cond a keys.Replaces (cond b keys.ReplacesLast (cond c keys.Skips (cond e keys.ReplacesAll (cond f keys.Ends (cond g keys.Quits keys.Other))))))
+    by : (a b c e f g : Bool) → cond a (keyed_turn state (keys.Replaces false)) (cond b (keyed_turn state (keys.Replaces true)) (cond c (keyed_turn state keys.Skips) (cond e (keyed_turn state keys.ReplacesAll) (cond f (keyed_turn state keys.Ends) (cond g (keyed_turn state keys.Quits) (keyed_turn state keys.Other)))))) ≡ keyed_turn state (cond a (keys.Replaces false) (cond b (keys.Replaces true) (cond c keys.Skips (cond e keys.ReplacesAll (cond f keys.Ends (cond g keys.Quits keys.Other))))))
     by true b c e f g = refl
     by false true c e f g = refl
     by false false true e f g = refl
@@ -105,15 +103,6 @@ module _ (d : Directory) (ks : List MarkedBuffer) (y new : Session) (place : Sea
       acts_same (SeesNames d ks x.user) (λ v. state_turn v x.state byte) x new (searching s (told Silent z)) is refl (λ bs. refl) b byte_acts.Skip alone refl tt (λ v sees. comes v k keys.Skips of_byte e) refl (λ wants. cc) (λ wants. cc) (λ h. cc)
 
   -- a match is replaced
-  abbrev replaced_turn : (last : Bool) → Turn
-  replaced_turn last = Do state (model_act state befores.Held (byte_acts.Replace last))
-
-  replaces_step : (last : Bool) → ((v : View) → state_turn v x.state byte ≡ replaced_turn last) → new ≡ searching s (told Silent z) → IsByteStep d ks x new byte befores.Held (Acts (byte_acts.Replace last))
-  replaces_step last turn is =
-      acts_same (SeesNames d ks x.user) (λ v. state_turn v x.state byte) x new (searching s (told Silent z)) is refl (λ bs. refl) befores.Held (byte_acts.Replace last) alone refl tt (λ v sees. turn v) refl (λ wants. refl) (λ wants. refl) (λ h. cc)
-
-  pub replace_one : (k : ReplaceKey) → k ≡ replace_key byte → k ≡ keys.Replaces → new ≡ searching s (told Silent (unsearched y)) → IsByteStep d ks (searching s (unsearched y)) new byte befores.Held (Acts (byte_acts.Replace false))
-  replace_one k of_byte e is = replaces_step false (λ v. comes v k keys.Replaces of_byte e) is
-
-  pub replace_last : (k : ReplaceKey) → k ≡ replace_key byte → k ≡ keys.ReplacesLast → new ≡ searching s (told Silent (unsearched y)) → IsByteStep d ks (searching s (unsearched y)) new byte befores.Held (Acts (byte_acts.Replace true))
-  replace_last k of_byte e is = replaces_step true (λ v. comes v k keys.ReplacesLast of_byte e) is
+  pub replace_one : (last : Bool) (k : ReplaceKey) → k ≡ replace_key byte → k ≡ keys.Replaces last → new ≡ searching s (told Silent (unsearched y)) → IsByteStep d ks (searching s (unsearched y)) new byte befores.Held (Acts (byte_acts.Replace last))
+  replace_one last k of_byte e is =
+      acts_same (SeesNames d ks x.user) (λ v. state_turn v x.state byte) x new (searching s (told Silent z)) is refl (λ bs. refl) befores.Held (byte_acts.Replace last) alone refl tt (λ v sees. comes v k (keys.Replaces last) of_byte e) refl (λ wants. refl) (λ wants. refl) (λ h. cc)

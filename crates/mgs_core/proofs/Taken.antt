@@ -63,7 +63,7 @@ use Rattle.mgs_core.specs.declared.keying.ByteStep.TheVariants.{Kept, Failed, En
 use Rattle.mgs_act.specs.Doing.{ActedBy, DoneBy}
 use Rattle.mgs_core.specs.KeyActs.{started_by, started_state, started_world}
 use Rattle.mgs_core.specs.Calls.{closed}
-use Rattle.mgs_core.specs.ByteActs.{CanDo, IsReady, asked_of, before_turn, model_act, deciding_state, deciding_world, finds, is_finding, is_replacement, is_replacing, may_want_memory, refused, search_before, seek_act, starts_replacing}
+use Rattle.mgs_core.specs.ByteActs.{CanDo, IsReady, asked_of, before_turn, model_act, deciding_state, deciding_world, finds, is_finding, is_replacement, is_replacing, may_want_memory, refused, seek_act, starts_replacing}
 use Rattle.mgs_core.specs.AtPlace.{IsActRefused}
 use Rattle.mgs_core.specs.ByteSteps.{IsTurnStep, SearchStays, SeesNames, TurnLeft}
 use Rattle.mgs_core.specs.Turns.{IsLess, IsWithin, TurnDone, TurnEnds, TurnRefused, IsFit, has_all, is_played, is_quiet, weight}

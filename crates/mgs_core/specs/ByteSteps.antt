@@ -241,8 +241,8 @@ IsAnswerStep old new p b step = IsReplyStep p.question old new p b step
 
 abbrev pub replace_key : ℕ → ReplaceKey
 replace_key byte =
-    if (byte == 121) || (byte == 32) then keys.Replaces
-    else if byte == 46 then keys.ReplacesLast
+    if (byte == 121) || (byte == 32) then keys.Replaces false
+    else if byte == 46 then keys.Replaces true
     else if (byte == 110) || (byte == 127) then keys.Skips
     else if byte == 33 then keys.ReplacesAll
     else if (byte == 113) || (byte == 13) then keys.Ends

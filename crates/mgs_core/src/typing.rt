@@ -331,10 +331,8 @@ fn step_find(
 /// What a query-replace is asked for.
 #[derive(Clone, Copy)]
 pub enum ReplaceKey {
-    /// The match is replaced.
-    Replaces,
-    /// The match is replaced, and is the last one.
-    ReplacesLast,
+    /// The match is replaced. `true`: it is the last one.
+    Replaces(bool),
     /// The match stays as it is.
     Skips,
     /// This match is replaced, and each further one.
@@ -352,10 +350,10 @@ fn replace_key(byte: u8) -> ReplaceKey
     ensures { result ≡ replace_key byte }
 {
     if byte == b'y' || byte == b' ' {
-        return ReplaceKey::Replaces;
+        return ReplaceKey::Replaces(false);
     }
     if byte == b'.' {
-        return ReplaceKey::ReplacesLast;
+        return ReplaceKey::Replaces(true);
     }
     if byte == b'n' || byte == DELETE {
         return ReplaceKey::Skips;
@@ -403,15 +401,10 @@ fn step_replace(
     // Tells the prover that something is replaced.
     let _pattern = replacing.pattern();
     match replace_key(byte) {
-        ReplaceKey::Replaces => {
+        ReplaceKey::Replaces(last) => {
             hold_on(session, place, Aim::Replace(replacing));
             *before = ModeBefore::Held;
-            ByteStep::Acts(ByteAct::Replace(false))
-        }
-        ReplaceKey::ReplacesLast => {
-            hold_on(session, place, Aim::Replace(replacing));
-            *before = ModeBefore::Held;
-            ByteStep::Acts(ByteAct::Replace(true))
+            ByteStep::Acts(ByteAct::Replace(last))
         }
         ReplaceKey::Skips => {
             hold_on(session, place, Aim::Replace(replacing));

@@ -1,4 +1,4 @@
-use Rattle.std.proofs.Common.{ℕ, false, true, ap, ◌∙◌}
+use Rattle.std.proofs.Common.{ℕ, ap, ◌∙◌}
 use Rattle.mgs_model.specs.declared.message.Message.TheVariants.{Replaced}
 use Rattle.mgs_session.specs.declared.search.Aim.TheVariants.{Replace}
 use Rattle.mgs_session.specs.Sessions.{told, unprompted}
@@ -9,7 +9,7 @@ use Rattle.mgs_core.specs.declared.byte_acts.ByteAct.TheVariants as byte_acts
 use Rattle.mgs_core.specs.declared.byte_acts.ModeBefore.TheVariants as befores
 use Rattle.mgs_core.specs.declared.keying.ByteStep.TheVariants.{Acts, Kept}
 use Rattle.mgs_core.specs.ByteSteps.{search_for}
-use Rattle.mgs_core.proofs.Replaced.{replace_ends, replace_last, replace_one, replace_skips}
+use Rattle.mgs_core.proofs.Replaced.{replace_ends, replace_one, replace_skips}
 use Rattle.mgs_core.proofs.Sought.{still_search}
 use Rattle.mgs_core.proofs.typing.step_replace.Goals as goal
 
@@ -25,16 +25,8 @@ returns-in-Replaces c directory ks =
     let y = c.args.session.now in
     let r = c.args.replacing in
     let s = search_for c.args.place (Replace r) in
-    still_search directory ks y c.hold_on.new.session s c.args.byte befores.Held (Acts (byte_acts.Replace false)) c.requires.still
-    (replace_one directory ks y c.hold_on.new.session c.args.place r c.args.byte c.requires.alone c.replace_key.result c.replace_key.ensures c.in-Replaces.is (c.hold_on.ensures ∙ ap (λ (w : Session). searching s (told Silent w)) c.requires.still))
-
-pub returns-in-ReplacesLast : goal.returns-in-ReplacesLast
-returns-in-ReplacesLast c directory ks =
-    let y = c.args.session.now in
-    let r = c.args.replacing in
-    let s = search_for c.args.place (Replace r) in
-    still_search directory ks y c.hold_on-in-ReplacesLast.new.session s c.args.byte befores.Held (Acts (byte_acts.Replace true)) c.requires.still
-    (replace_last directory ks y c.hold_on-in-ReplacesLast.new.session c.args.place r c.args.byte c.requires.alone c.replace_key.result c.replace_key.ensures c.in-ReplacesLast.is (c.hold_on-in-ReplacesLast.ensures ∙ ap (λ (w : Session). searching s (told Silent w)) c.requires.still))
+    still_search directory ks y c.hold_on.new.session s c.args.byte befores.Held (Acts (byte_acts.Replace c.in-Replaces.last)) c.requires.still
+    (replace_one directory ks y c.hold_on.new.session c.args.place r c.args.byte c.requires.alone c.in-Replaces.last c.replace_key.result c.replace_key.ensures c.in-Replaces.is (c.hold_on.ensures ∙ ap (λ (w : Session). searching s (told Silent w)) c.requires.still))
 
 pub returns-in-Skips : goal.returns-in-Skips
 returns-in-Skips c directory ks =
