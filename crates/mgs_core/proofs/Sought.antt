@@ -34,12 +34,12 @@ use Rattle.mgs_core.specs.declared.byte_acts.ModeBefore.TheVariants as befores
 use Rattle.mgs_core.specs.declared.byte_acts.ByteAct.TheVariants as byte_acts
 use Rattle.mgs_core.specs.declared.keying.ByteStep.{ByteStep}
 use Rattle.mgs_core.specs.declared.typing.SearchPlace.{SearchPlace}
-use Rattle.mgs_core.specs.declared.keying.ByteStep.TheVariants.{Kept, Failed, Ends, Acts}
+use Rattle.mgs_core.specs.declared.keying.ByteStep.TheVariants.{Kept, Acts}
 use Rattle.mgs_core.specs.Prompted.{state_turn}
-use Rattle.mgs_core.specs.ByteSteps.{IsAlone, IsByteStep, SearchStays, SeesNames, is_keyed, search_for}
+use Rattle.mgs_core.specs.ByteSteps.{IsAlone, IsByteStep, IsLeft, SearchStays, SeesNames, is_keyed, search_for}
 use Rattle.mgs_session.specs.declared.search.Aim.{Aim}
 use Rattle.mgs_session.specs.declared.search.Aim.TheVariants.{Find, Replace}
-use Rattle.mgs_core.proofs.Stepped.{acts_same, kept_none, kept_same, none_stays}
+use Rattle.mgs_core.proofs.Stepped.{acts_same, step_without_act, kept_none, kept_same, none_stays}
 
 -- WHAT A BYTE LEAVES OF WHAT IS LOOKED FOR, where it goes on with nothing
 
@@ -222,29 +222,6 @@ module _ (d : Directory) (ks : List MarkedBuffer) (y new : Session) (place : Sea
   left_stays stays = none_stays w.state new.state (stays_none left_one.state new.state refl stays)
 
   key_left : (k : ByteStep) → is_keyed k ≡ true → IsByteStep d ks left_one new byte befores.Plain k → IsByteStep d ks w new byte (befores.Search was last) k
-  key_left Kept keyed t = record { state = t.state; stays = left_stays t.stays; turn = λ v sees. key_comes v ∙ t.turn v sees; left = t.left; fit = t.fit }
-  key_left Failed keyed t = record {
-    state = t.state;
-    stays = left_stays t.stays;
-    before = t.before;
-    act = t.act;
-    message = t.message;
-    turn = λ v sees. key_comes v ∙ t.turn v sees;
-    playing = t.playing;
-    fails = t.fails;
-    breaks = t.breaks;
-    quiet = t.quiet;
-    told = t.told;
-  }
-  key_left Ends keyed t = record {
-    state = t.state;
-    stays = left_stays t.stays;
-    before = t.before;
-    argument = t.argument;
-    turn = λ v sees. key_comes v ∙ t.turn v sees;
-    quiet = t.quiet;
-    typed = t.typed;
-  }
   key_left (Acts (byte_acts.Act a)) keyed t = record {
     state = t.state;
     stays = left_stays t.stays;
@@ -263,6 +240,9 @@ module _ (d : Directory) (ks : List MarkedBuffer) (y new : Session) (place : Sea
     begins = λ h. cc;
   }
   key_left (Acts _) keyed t = cc
+  key_left k keyed t =
+      step_without_act (SeesNames d ks y.user) (λ v. state_turn v left_one.state byte) (λ v. state_turn v w.state byte) y.state.player.playing y.state.player.playing (IsLeft y.state.player) (IsLeft y.state.player) left_one.state w new befores.Plain (befores.Search was last)
+      key_comes refl (λ todo left. left) left_stays k (λ byte_act e. cc) t
 
 pub search_leaves : (d : Directory) (ks : List MarkedBuffer) (y left new : Session) (place : SearchPlace) (f : Sought) (last : List ℕ) (byte : ℕ) (k : ByteStep) → last ≡ y.state.pattern → is_character_byte y.state.keyboard.keys byte ≡ false → read_byte y.state.pattern f byte ≡ (f, step.Leaves) → left ≡ search_left f.pattern (unsearched y) → is_keyed k ≡ true → IsByteStep d ks left new byte befores.Plain k → IsByteStep d ks (searching (search_for place (Find f)) (unsearched y)) new byte (befores.Search (search_for place (Find f)) last) k
 search_leaves d ks y left new place f last byte k same ascii read is keyed t = key_left d ks y new place f last byte same ascii read k keyed (subst (λ (g : Session). IsByteStep d ks g new byte befores.Plain k) is t)

@@ -208,6 +208,34 @@ module _ (Sees : View → Type 0) (comes : View → Turn) (x new it : Session) (
         begins = begins;
       })
 
+-- what is no act, of a session that is this one but for what it holds
+pub step_without_act : (Sees : View → Type 0) (comes mine : View → Turn) (a p : Bool) (Left Mine : List Todo → Type 0) (o : State) (x new : Session) (b e : ModeBefore) → ((v : View) → mine v ≡ comes v) → p ≡ a → ((todo : List Todo) → Left todo → Mine todo)
+    → (SearchStays o new.state → SearchStays x.state new.state) → (step : ByteStep) → ((byte_act : ByteAct) → step ≡ Acts byte_act → ⊥) → IsStep Sees comes a Left (record x { state = o }) new b step → IsStep Sees mine p Mine x new e step
+step_without_act Sees comes mine a p Left Mine o x new b e same is less stay Kept none s = record { state = s.state; stays = stay s.stays; turn = λ v sees. same v ∙ s.turn v sees; left = less new.state.player.todo s.left; fit = s.fit }
+step_without_act Sees comes mine a p Left Mine o x new b e same is less stay Failed none s = record {
+  state = s.state;
+  stays = stay s.stays;
+  before = s.before;
+  act = s.act;
+  message = s.message;
+  turn = λ v sees. same v ∙ s.turn v sees;
+  playing = s.playing ∙ sym is;
+  fails = s.fails;
+  breaks = s.breaks;
+  quiet = s.quiet;
+  told = s.told;
+}
+step_without_act Sees comes mine a p Left Mine o x new b e same is less stay Ends none s = record {
+  state = s.state;
+  stays = stay s.stays;
+  before = s.before;
+  argument = s.argument;
+  turn = λ v sees. same v ∙ s.turn v sees;
+  quiet = s.quiet;
+  typed = is ∙ s.typed;
+}
+step_without_act Sees comes mine a p Left Mine o x new b e same is less stay (Acts byte_act) none s = absurd (none byte_act refl)
+
 -- WHAT A COMMAND COMES TO in a session at rest
 
 -- it fails

@@ -40,7 +40,7 @@ use Rattle.mgs_core.specs.ByteSteps.{IsByteStep, IsFirstStep, IsFurther, IsLeft,
 use Rattle.mgs_core.specs.KeyActs.{started_by, started_state}
 use Rattle.mgs_core.proofs.Begun.{search_still}
 use Rattle.mgs_core.specs.Turns.{IsFit, IsWithin, has_all, is_played, is_quiet, weight}
-use Rattle.mgs_core.proofs.Stepped.{fit_empty, none_all}
+use Rattle.mgs_core.proofs.Stepped.{step_without_act, fit_empty, none_all}
 use Rattle.mgs_world.proofs.Marks.{not_both}
 
 pub played_of : (todo : List Todo) → are_played todo ≡ true → is_played todo ≡ true
@@ -156,29 +156,6 @@ module _ (d : Directory) (ks : List MarkedBuffer) (state : model.State) (x y new
 -- A TURN
 
 step_from : (Sees : View → Type 0) (comes mine : View → Turn) (a p : Bool) (Left Mine : List Todo → Type 0) (q : Playing) (x new : Session) (b : ModeBefore) → ((v : View) → mine v ≡ comes v) → p ≡ a → ((todo : List Todo) → Left todo → Mine todo) → (step : ByteStep) → IsStep Sees comes a Left (playing_as q x) new b step → IsStep Sees mine p Mine x new b step
-step_from Sees comes mine a p Left Mine q x new b same is less Kept s = record { state = s.state; stays = s.stays; turn = λ v sees. same v ∙ s.turn v sees; left = less new.state.player.todo s.left; fit = s.fit }
-step_from Sees comes mine a p Left Mine q x new b same is less Failed s = record {
-  state = s.state;
-  stays = s.stays;
-  before = s.before;
-  act = s.act;
-  message = s.message;
-  turn = λ v sees. same v ∙ s.turn v sees;
-  playing = s.playing ∙ sym is;
-  fails = s.fails;
-  breaks = s.breaks;
-  quiet = s.quiet;
-  told = s.told;
-}
-step_from Sees comes mine a p Left Mine q x new b same is less Ends s = record {
-  state = s.state;
-  stays = s.stays;
-  before = s.before;
-  argument = s.argument;
-  turn = λ v sees. same v ∙ s.turn v sees;
-  quiet = s.quiet;
-  typed = is ∙ s.typed;
-}
 step_from Sees comes mine a p Left Mine q x new b same is less (Acts byte_act) s = record {
   state = s.state;
   stays = s.stays;
@@ -194,6 +171,7 @@ step_from Sees comes mine a p Left Mine q x new b same is less (Acts byte_act) s
   begins = s.begins;
   further = s.further;
 }
+step_from Sees comes mine a p Left Mine q x new b same is less step s = step_without_act Sees comes mine a p Left Mine (record x.state { player = q }) x new b b same is less (λ stays. stays) step (λ byte_act e. cc) s
 
 -- where no further replacements are to be done
 below : (r : Bool) (old new : List Todo) → has_all old ≡ false → is_played new ≡ true → weight 1048576 new < weight 1048576 old → TurnLeft r old new
