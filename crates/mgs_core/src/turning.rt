@@ -14,7 +14,7 @@ ghost use Rattle.mgs_core.specs.AtPlace.{AreApart, IsActDone, IsActRefused, IsBa
 ghost use Rattle.mgs_core.specs.declared.byte_acts.ModeBefore.TheVariants.{Plain};
 ghost use Rattle.mgs_core.specs.Held.{AreSettled};
 ghost use Rattle.mgs_core.specs.Judged.{judged_touched};
-ghost use Rattle.mgs_core.specs.ByteActs.{CanDo, IsReady, before_turn, refused, state_before};
+ghost use Rattle.mgs_core.specs.ByteActs.{CanDo, IsReady, refused, state_before};
 ghost use Rattle.mgs_core.specs.ByteSteps.{IsFirstStep, IsTurnStep};
 ghost use Rattle.mgs_core.specs.Turns.{IsFit, goes_on, has_all, touched_both, weight};
 
@@ -118,17 +118,6 @@ fn next_step<T: Marked + Drop>(
             ByteStep::Acts(ByteAct::Replace(false))
         }
         Pending::Nothing => ByteStep::Kept,
-    }
-}
-
-/// What is there before a turn.
-fn before_turn(session: &Session) -> Before
-    ensures { result ≡ before_turn Plain session.now.state }
-{
-    Before {
-        mode: ModeBefore::Plain,
-        kind: session.state.kind,
-        is_playing: session.state.player.is_playing(),
     }
 }
 
@@ -246,7 +235,13 @@ fn take_turn<T: Marked + Drop, S: Store>(
 {
     // Tells the prover that each text is within the limit.
     let _count = buffers.len();
-    let mut was = before_turn(&sessions[at]);
+    let session = &sessions[at];
+    let is_playing = session.state.player.is_playing();
+    let mut was = Before {
+        mode: ModeBefore::Plain,
+        kind: session.state.kind,
+        is_playing,
+    };
     match next_step(buffers, judge, directory, &mut sessions[at], &mut was.mode) {
         ByteStep::Kept => (Keyed::Done, Touched::Nowhere, true),
         ByteStep::Failed => (Keyed::Done, Touched::Nowhere, true),

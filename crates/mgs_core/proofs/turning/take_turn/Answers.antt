@@ -11,7 +11,6 @@ use Rattle.mgs_world.specs.Sound.{session_uses}
 use Rattle.mgs_world.specs.Worlds.{size_in, world_of}
 use Rattle.mgs_world.proofs.Soundness.{sound_set, sizes_set}
 use Rattle.mgs_core.specs.declared.byte_acts.Before.{Before}
-use Rattle.mgs_core.specs.declared.byte_acts.ModeBefore.TheVariants.{Plain}
 use Rattle.mgs_core.specs.ByteActs.{before_turn}
 use Rattle.mgs_core.proofs.Sizes.{place_same}
 use Rattle.mgs_core.proofs.Still.{alone_written}
@@ -177,7 +176,8 @@ returns-in-Err g c =
     let same = did.ensures.sizes ∙ put in
     let turned = λ (next : Option ℕ).
     refused_turn d ks xs next id at h y place within is_h b act s ls ys _ _ _
-    (ap (λ (e : Before). record e { mode = b }) (c.before_turn-was.ensures ∙ ap (λ (x : Session). before_turn Plain x.state) (get_or_default xs at c.index-sessions-at.result c.index-sessions-at-2.result within)))
+    ((λ i. let e : Before = record { mode = b; kind = (get_or xs at c.index-sessions-at.result).state.kind; is_playing = c.is_playing-is_playing.ensures i } in e)
+    ∙ ap (λ (x : Session). before_turn b x.state) (get_or_default xs at c.index-sessions-at.result c.index-sessions-at-2.result within))
     c.in-Err.ensures.err (ap (λ s. store_told g.S.Store.failed g.S.Store.accepted s) c.in-Err.ensures.unasked) in
     record {
       judged = did.ensures.judged;
