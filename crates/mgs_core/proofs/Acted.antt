@@ -15,7 +15,7 @@ use Rattle.mgs_store.specs.Stores.{StoreTold}
 use Rattle.mgs_buffers.specs.MarkedBuffer.{MarkedBuffer}
 use Rattle.mgs_session.specs.declared.Session.{Session}
 use Rattle.mgs_plan.proofs.Tells.{apart_act}
-use Rattle.mgs_plan.specs.Beginning.{searching_state}
+use Rattle.mgs_seek.specs.Beginning.{searching_state}
 use Rattle.mgs_seek.specs.Replacing.{replacing_state}
 use Rattle.mgs_world.specs.Worlds.{is_size_of, session_id, session_size, size_in, sizes, sizes_in, world_of}
 use Rattle.mgs_world.proofs.Sizes.{sizes_act, sizes_of_world}

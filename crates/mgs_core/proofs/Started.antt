@@ -22,7 +22,7 @@ use Rattle.mgs_store.specs.Stores.{StoreTold, told_more}
 use Rattle.mgs_plan.specs.declared.key_act.KeyAct.{KeyAct}
 use Rattle.mgs_plan.specs.declared.key_act.KeyAct.TheVariants as acts
 use Rattle.mgs_plan.specs.Actions.{act_of}
-use Rattle.mgs_plan.specs.Beginning.{searching_state}
+use Rattle.mgs_seek.specs.Beginning.{searching_state}
 use Rattle.mgs_act.specs.Doing.{ActedBy}
 use Rattle.mgs_core.specs.KeyActs.{started_by, started_state, started_world}
 

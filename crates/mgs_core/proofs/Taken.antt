@@ -39,7 +39,7 @@ use Rattle.mgs_laws.proofs.Ends.{act_fails}
 use Rattle.mgs_model.proofs.Firsts.{change_first_found, change_twice}
 use Rattle.mgs_laws.proofs.LeftToDo.{is_single, single_brief, todo_acted}
 use Rattle.mgs_laws.proofs.Turned.{turn_todo}
-use Rattle.mgs_plan.specs.Beginning.{search_held, search_or_none}
+use Rattle.mgs_seek.specs.Beginning.{search_held, search_or_none}
 use Rattle.mgs_plan.specs.Actions.{act_of}
 use Rattle.mgs_plan.specs.declared.key_act.KeyAct.{KeyAct}
 use Rattle.mgs_plan.specs.Tells.{touched_in}

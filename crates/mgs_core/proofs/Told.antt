@@ -19,7 +19,7 @@ use Rattle.mgs_store.proofs.Told.{told_none}
 use Rattle.mgs_plan.specs.declared.key_act.KeyAct.{KeyAct}
 use Rattle.mgs_plan.specs.declared.key_act.KeyAct.TheVariants.{Unbound, Run}
 use Rattle.mgs_plan.specs.Actions.{act_of}
-use Rattle.mgs_plan.specs.Beginning.{searching_state}
+use Rattle.mgs_seek.specs.Beginning.{searching_state}
 use Rattle.mgs_plan.specs.Tells.{touched_in}
 use Rattle.mgs_plan.proofs.Quiet.{quiet_seeking}
 use Rattle.mgs_core.specs.Kept.{Kept}

@@ -16,7 +16,7 @@ use Rattle.mgs_model.specs.declared.message.Message.TheVariants.{Silent}
 use Rattle.mgs_model.specs.declared.touched.Touched.{Touched}
 use Rattle.mgs_buffers.specs.MarkedBuffer.{MarkedBuffer}
 use Rattle.mgs_plan.specs.Actions.{act_of}
-use Rattle.mgs_plan.specs.Beginning.{search_held}
+use Rattle.mgs_seek.specs.Beginning.{search_held}
 use Rattle.mgs_plan.specs.declared.key_act.KeyAct.{KeyAct}
 use Rattle.mgs_seek.specs.Replacing.{remaining_at}
 use Rattle.mgs_session.specs.declared.State.{State}

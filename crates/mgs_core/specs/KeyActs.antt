@@ -13,7 +13,7 @@ use Rattle.mgs_model.specs.declared.session.Question.TheVariants.{GoToWhich}
 use Rattle.mgs_plan.specs.declared.key_act.KeyAct.{KeyAct}
 use Rattle.mgs_plan.specs.declared.key_act.KeyAct.TheVariants as acts
 use Rattle.mgs_plan.specs.Actions.{is_done_here}
-use Rattle.mgs_plan.specs.Beginning.{searching_state}
+use Rattle.mgs_seek.specs.Beginning.{searching_state}
 
 -- a line that no argument tells is asked for
 abbrev pub line_act : Option ℕ → KeyAct

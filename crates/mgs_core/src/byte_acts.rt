@@ -1,7 +1,7 @@
 // What a byte asks for: the act of a key, or of the answer to a prompt.
 ghost use Rattle.std.specs.Prelude.{◌≡◌, ◌<◌, None, IfOk, OnOk, OnErr, length, true};
 ghost use Rattle.mgs_plan.specs.Actions.{act_of};
-ghost use Rattle.mgs_plan.specs.Beginning.{search_held};
+ghost use Rattle.mgs_seek.specs.Beginning.{search_held};
 ghost use Rattle.mgs_world.specs.Acted.{IsRefusable, IsSameWorld};
 ghost use Rattle.mgs_world.specs.Sound.{IsSound};
 ghost use Rattle.mgs_world.specs.Worlds.{idle, state_at};

@@ -6,7 +6,7 @@ ghost use Rattle.mgs_model.specs.declared.errors.Keyed.TheVariants.{Done, Quit};
 ghost use Rattle.mgs_buffers.specs.Judging.{AreJudged, rules_kept};
 ghost use Rattle.mgs_session.specs.Playing.{are_played};
 ghost use Rattle.mgs_store.specs.Stores.{store_told};
-ghost use Rattle.mgs_plan.specs.Beginning.{search_held};
+ghost use Rattle.mgs_seek.specs.Beginning.{search_held};
 ghost use Rattle.mgs_session.specs.declared.search.Search.{Search};
 ghost use Rattle.mgs_world.specs.Sound.{IsSound};
 ghost use Rattle.mgs_world.specs.Worlds.{IsUnique, state_at, state_of, session_id, sizes_in};
