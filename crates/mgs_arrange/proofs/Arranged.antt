@@ -8,7 +8,7 @@ use Rattle.mgs_model.specs.Outcome.{Arrange, Effect, No_effect, Keep_search, Out
 use Rattle.mgs_laws.specs.Refusals.{effect_takes_memory, takes_memory}
 use Rattle.mgs_model.specs.Plans.{acted_state, arrangement, comes, count_of, failed_state, given, heir, height_at, kind_failed, neighbor, old_slot, resized, rows_of, selects, slots_but}
 use Rattle.mgs_model.specs.Acts.{arranges, fails, outcome}
-use Rattle.mgs_model.specs.Apply.{act, applied, apply, change_at, change_first, comer, outcome_in, places_left, searches, session_arranged, window_at}
+use Rattle.mgs_model.specs.Apply.{act, applied, apply, change_at, change_first, comer, outcome_in, places_left, is_search_mode, session_arranged, window_at}
 use Rattle.mgs_laws.specs.Refusals.{may_be_refused}
 use Rattle.mgs_model.specs.declared.limits.TheConstants.{WINDOW_LIMIT}
 use Rattle.mgs_model.specs.declared.message.Message.{Message}
@@ -32,7 +32,7 @@ use Rattle.mgs_arrange.proofs.Slots.{all_stay, from_start, halves, come, come_ta
 slots_done : (x : Session) (slots : List Slot) (selected at : ℕ) (windows : List Window) (places : List Place) → x.state ≡ idle x.state → x.search ≡ None → map (put x.search x.windows (places_left 0 slots x.windows x.places)) slots ≡ windows → places_left 0 slots x.windows x.places ≡ places → selected ≡ at → session_arranged (arranges x.state No_effect (Ok (Slots slots selected Keep_search))) x ≡ run_ended (record x { windows = windows; selected = at; places = places })
 slots_done x slots selected at windows places fresh quiet are left is =
     let state : acted_state x.state ≡ record x.state { kind = Other } = ap acted_state fresh ∙ sym (ap (λ (o : State). record o { kind = Other }) fresh) in
-    let search : cond (searches x.state.mode) x.search None ≡ x.search = ap (λ (o : State). cond (searches o.mode) x.search None) fresh ∙ sym quiet in
+    let search : cond (is_search_mode x.state.mode) x.search None ≡ x.search = ap (λ (o : State). cond (is_search_mode o.mode) x.search None) fresh ∙ sym quiet in
     λ t. record x { windows = are t; selected = is t; places = left t; search = search t; state = state t }
 
 failed_told : (message : Message) (state : State) → state ≡ idle state → kind_failed message state.kind ≡ Other → failed_state message state ≡ record state { echo = message; kind = Other; todo = [] }

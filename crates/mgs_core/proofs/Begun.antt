@@ -4,7 +4,7 @@ use Rattle.std.specs.Prelude.{slice_set}
 use Rattle.std.specs.List.{position_or_len}
 use Rattle.mgs_model.specs.Access.{Directory}
 use Rattle.mgs_model.specs.World.{State, World, Buffer, Session, Todo, has_id}
-use Rattle.mgs_model.specs.Apply.{change_first, remove_first, searches}
+use Rattle.mgs_model.specs.Apply.{change_first, remove_first, is_search_mode}
 use Rattle.mgs_model.specs.Events.{begun_if, begun_state, state_set, with_state}
 use Rattle.mgs_model.specs.declared.message.Message.TheVariants.{MacroTooLong}
 use Rattle.mgs_model.specs.declared.session.Kind.TheVariants.{Other}
@@ -53,12 +53,12 @@ begun_same f byte x y one other is = ap f is ∙ by (is_full x.state.recorder)
     by false = other
 
 -- the positions of a search go with its mode
-pub search_still : (bs : List Buffer) (s : Option Search) (p : Option PromptInput) → search_of bs s ≡ cond (searches (mode_in s p)) (search_of bs s) None
+pub search_still : (bs : List Buffer) (s : Option Search) (p : Option PromptInput) → search_of bs s ≡ cond (is_search_mode (mode_in s p)) (search_of bs s) None
 search_still bs None None = refl
 search_still bs None (Some p) = refl
 search_still bs (Some s) p = by s.aim
   where
-    by : (a : Aim) → search_of bs (Some s) ≡ cond (searches (aim_mode a)) (search_of bs (Some s)) None
+    by : (a : Aim) → search_of bs (Some s) ≡ cond (is_search_mode (aim_mode a)) (search_of bs (Some s)) None
     by (Find f) = refl
     by (Replace r) = refl
 

@@ -6,7 +6,7 @@ use Rattle.mgs_model.specs.World.{World, Session, State, find_session, has_id}
 use Rattle.mgs_model.specs.View.{View, view, serial_told, size_told, text_in}
 use Rattle.mgs_model.specs.Outcome.{Effect, Outcome, Run, Quit}
 use Rattle.mgs_model.specs.Plans.{acted_state}
-use Rattle.mgs_model.specs.Seeking.{Failing, Goes_on, Keep_mode, ModePlan, Over, SearchChange, replace}
+use Rattle.mgs_model.specs.SearchCommands.{Failing, Goes_on, Keep_mode, ModePlan, Over, SearchChange, replace}
 use Rattle.mgs_model.specs.Acts.{Target, allowed, around_search, edit_of, fails, failing_in, is_full, judged, mode_left, needs, outcome, permitted, replaced_by, replaces_one, search_finished, target, without_all}
 use Rattle.mgs_model.specs.declared.entry.Decision.{Decision}
 use Rattle.mgs_model.specs.declared.entry.Decision.TheVariants.{Granted, DeniedBy, NotGranted}

@@ -2,7 +2,7 @@
 use Rattle.std.proofs.Common.{◌≡◌, ℕ, Bool, true, false, cond, List, [], Option, Some, None, refl, sym, ap, subst, ◌∙◌}
 use Rattle.std.specs.Prelude.{◌==◌, ⊤, length, nat_lt}
 use Rattle.mgs_model.specs.Access.{Directory}
-use Rattle.mgs_model.specs.Apply.{searches}
+use Rattle.mgs_model.specs.Apply.{is_search_mode}
 use Rattle.mgs_model.specs.Keys.{character_read, is_character_byte, is_graphic}
 use Rattle.mgs_model.specs.World as model
 use Rattle.mgs_model.specs.View.{View}
@@ -195,13 +195,13 @@ character_held y k h q e byte still is held read =
 -- a step of a session that does not search leaves none
 stays_none : (old new : State) → old.search ≡ None → SearchStays old new → new.search ≡ None
 stays_none old new none stays =
-    by new.search new.prompt (stays [] ∙ ap (λ (o : Option Search). cond (searches (state_of new).mode) (search_of [] o) None) none)
+    by new.search new.prompt (stays [] ∙ ap (λ (o : Option Search). cond (is_search_mode (state_of new).mode) (search_of [] o) None) none)
   where
-    aims : (g : Search) (a : Aim) → search_of [] (Some g) ≡ cond (searches (aim_mode a)) None None → Path (Option Search) (Some g) None
+    aims : (g : Search) (a : Aim) → search_of [] (Some g) ≡ cond (is_search_mode (aim_mode a)) None None → Path (Option Search) (Some g) None
     aims g (Find f) e = cc
     aims g (Replace r) e = cc
 
-    by : (o : Option Search) (p : Option PromptInput) → search_of [] o ≡ cond (searches (mode_in o p)) None None → o ≡ None
+    by : (o : Option Search) (p : Option PromptInput) → search_of [] o ≡ cond (is_search_mode (mode_in o p)) None None → o ≡ None
     by None p e = refl
     by (Some g) p e = aims g g.aim e
 

@@ -6,9 +6,9 @@ use Rattle.mgs_model.specs.World.{World, State, Search, Session, find_session, h
 use Rattle.mgs_model.specs.View.{View, view, text_in, size_told}
 use Rattle.mgs_model.specs.Outcome.{Act, Run, Outcome, KillPlan, Keep_kill, Arrange, Adjust, Stay, Keep_position, Keep_mark, Begin, Effect, No_effect}
 use Rattle.mgs_model.specs.Plans.{failed_state}
-use Rattle.mgs_model.specs.Seeking.{Keep_mode, SearchFinish, seek}
+use Rattle.mgs_model.specs.SearchCommands.{Keep_mode, SearchFinish, seek}
 use Rattle.mgs_model.specs.Acts.{Request, Target, acts_at, allowed, around_search, judged, needs, or_else, outcome, permitted, request_judged, search_finished_state, seeks, target}
-use Rattle.mgs_model.specs.Apply.{act, applied, apply, change_first, outcome_in, searches, session_after, session_arranged}
+use Rattle.mgs_model.specs.Apply.{act, applied, apply, change_first, outcome_in, is_search_mode, session_after, session_arranged}
 use Rattle.mgs_model.specs.Events.{act_effects, effect_in, state_set, saved_by, with_state}
 use Rattle.mgs_model.specs.declared.entry.Decision.{Decision}
 use Rattle.mgs_model.specs.declared.entry.Decision.TheVariants.{Granted, DeniedBy, NotGranted}
@@ -96,23 +96,23 @@ module _ (w : World) (id : ℕ) (o : State) (d : Direction) (n : Option ℕ) (x 
   at_once : with_state id (λ was. searching_state d o) w ≡ world x.search
   at_once = ap (λ (ys : List Session). record w { sessions = ys }) (change_first_found (has_id id) (state_set (λ was. searching_state d o)) (put x.search) x w.sessions found refl)
 
-  then_put : with_state id (searching_state d) (with_state id (λ was. o) w) ≡ world (cond (searches o.mode) x.search None)
+  then_put : with_state id (searching_state d) (with_state id (λ was. o) w) ≡ world (cond (is_search_mode o.mode) x.search None)
   then_put =
       ap (λ (ys : List Session). record w { sessions = ys })
       (change_twice (has_id id) (state_set (searching_state d)) (state_set (λ was. o)) (λ y. state_set (searching_state d) (state_set (λ was. o) y)) (λ y. refl) (λ y. refl) w.sessions
-      ∙ change_first_found (has_id id) (λ y. state_set (searching_state d) (state_set (λ was. o) y)) (put (cond (searches o.mode) x.search None)) x w.sessions found refl)
+      ∙ change_first_found (has_id id) (λ y. state_set (searching_state d) (state_set (λ was. o) y)) (put (cond (is_search_mode o.mode) x.search None)) x w.sessions found refl)
 
   pub started_act : act (with_state id (searching_state d) (with_state id (λ was. o) w)) id (Run (Seek (StartSearch d)) n []) stored ≡ act (with_state id (λ was. searching_state d o) w) id (Run (Seek (StartSearch d)) n []) stored
   started_act =
       ap (λ (v : World). act v id c stored) then_put
-      ∙ act_there (cond (searches o.mode) x.search None)
+      ∙ act_there (cond (is_search_mode o.mode) x.search None)
       ∙ sym (act_there x.search)
       ∙ sym (ap (λ (v : World). act v id c stored) at_once)
 
   pub started_effects : act_effects (with_state id (searching_state d) (with_state id (λ was. o) w)) id (Run (Seek (StartSearch d)) n []) stored ≡ act_effects (with_state id (λ was. searching_state d o) w) id (Run (Seek (StartSearch d)) n []) stored
   started_effects =
       ap (λ (v : World). act_effects v id c stored) then_put
-      ∙ effects_there (cond (searches o.mode) x.search None)
+      ∙ effects_there (cond (is_search_mode o.mode) x.search None)
       ∙ sym (effects_there x.search)
       ∙ sym (ap (λ (v : World). act_effects v id c stored) at_once)
 

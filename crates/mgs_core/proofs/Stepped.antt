@@ -9,7 +9,7 @@ use Rattle.mgs_model.specs.World.{Todo, Typed, Played, Replace_all, Play}
 use Rattle.mgs_model.specs.World as model
 use Rattle.mgs_model.specs.View.{View}
 use Rattle.mgs_model.specs.Outcome.{Run}
-use Rattle.mgs_model.specs.Apply.{searches}
+use Rattle.mgs_model.specs.Apply.{is_search_mode}
 use Rattle.mgs_model.specs.Keys.{key_read}
 use Rattle.mgs_model.specs.Plans.{acted_state, count_of, kind_failed, setting}
 use Rattle.mgs_model.specs.Turns.{Turn, Keep, Do, command_turn, plays}
@@ -133,9 +133,9 @@ rounds_are (suc n) bytes = ap (λ (todo : List Todo). map Played bytes ++ todo) 
 pub none_stays : (old new : State) → new.search ≡ None → SearchStays old new
 none_stays old new none bs =
     ap (search_of bs) none
-    ∙ sym (ap (λ (s : Option Search). cond (searches (mode_in s new.prompt)) (search_of bs old.search) None) none ∙ by new.prompt)
+    ∙ sym (ap (λ (s : Option Search). cond (is_search_mode (mode_in s new.prompt)) (search_of bs old.search) None) none ∙ by new.prompt)
   where
-    by : (p : Option PromptInput) → cond (searches (mode_in None p)) (search_of bs old.search) None ≡ None
+    by : (p : Option PromptInput) → cond (is_search_mode (mode_in None p)) (search_of bs old.search) None ≡ None
     by None = refl
     by (Some p) = refl
 

@@ -4,7 +4,7 @@ use Rattle.std.specs.Prelude.{slice_set}
 use Rattle.std.specs.List.{position_or_len}
 use Rattle.mgs_model.specs.Access.{Directory}
 use Rattle.mgs_model.specs.World as model
-use Rattle.mgs_model.specs.Apply.{searches}
+use Rattle.mgs_model.specs.Apply.{is_search_mode}
 use Rattle.mgs_model.specs.Events.{state_set}
 use Rattle.mgs_model.specs.declared.session.Mode.{Mode}
 use Rattle.mgs_model.specs.declared.session.Mode.TheVariants.{Plain}
@@ -69,8 +69,8 @@ no_input o s = ap (λ (f : Option Search). input_in f o.prompt) s.search ∙ ap 
 state_is : (ks : List MarkedBuffer) (h : Session) (o : State) → IsBare o → session_of ks (record h { state = o }) ≡ state_set (λ was. state_of o) (session_of ks h)
 state_is ks h o s =
     let searched : Option model.Search = search_of (buffers_of ks) h.state.search in
-    let positions : search_of (buffers_of ks) o.search ≡ cond (searches (mode_in o.search o.prompt)) searched None =
-    ap (search_of (buffers_of ks)) s.search ∙ sym (ap (λ (a : Mode). cond (searches a) searched None) (plain o s)) in
+    let positions : search_of (buffers_of ks) o.search ≡ cond (is_search_mode (mode_in o.search o.prompt)) searched None =
+    ap (search_of (buffers_of ks)) s.search ∙ sym (ap (λ (a : Mode). cond (is_search_mode a) searched None) (plain o s)) in
     λ i. record (session_of ks h) { search = positions i; state = state_of o }
 
 face_is : (ks : List MarkedBuffer) (h : Session) (o : State) → IsBare h.state → IsBare o → (x : model.Session) → session_of ks h ≡ x

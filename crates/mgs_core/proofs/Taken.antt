@@ -10,7 +10,7 @@ use Rattle.mgs_model.specs.World.{World, Buffer, Todo, find_buffer, find_session
 use Rattle.mgs_model.specs.World as model
 use Rattle.mgs_model.specs.Outcome.{Act, Run}
 use Rattle.mgs_laws.specs.Apart.{Apart}
-use Rattle.mgs_model.specs.Apply.{act, outcome_in, searches}
+use Rattle.mgs_model.specs.Apply.{act, outcome_in, is_search_mode}
 use Rattle.mgs_model.specs.Acts.{without_all}
 use Rattle.mgs_model.specs.View.{View, view}
 use Rattle.mgs_model.specs.Turns.{Turn, Keep, Do, todo_turn}
@@ -349,8 +349,8 @@ begun_replacing w id o pattern put x found none =
     ∙ change_first_found (has_id id) (λ (y : model.Session). state_set (replacing_state pattern put) (state_set (λ was. o) y)) (state_set (λ was. replacing_state pattern put o)) x w.sessions found
     (λ i. record x { search = both o.mode x.search none i; state = replacing_state pattern put o }))
   where
-    both : (m : Mode) (s : Option model.Search) → s ≡ None → cond (searches m) s None ≡ s
-    both m s e = ap (λ (t : Option model.Search). cond (searches m) t None) e ∙ by (searches m) ∙ sym e
+    both : (m : Mode) (s : Option model.Search) → s ≡ None → cond (is_search_mode m) s None ≡ s
+    both m s e = ap (λ (t : Option model.Search). cond (is_search_mode m) t None) e ∙ by (is_search_mode m) ∙ sym e
       where
         by : (b : Bool) → Path (Option model.Search) (cond b None None) None
         by true = refl
@@ -550,7 +550,7 @@ module _ (d : Directory) (ks : List MarkedBuffer) (xs : List Session) (next : Op
             let then = search_is (search_held at ys) (replacing_held (slice_get ys at) (acted_fit K ys before after same by all).0) in
             let some = subst (λ (o : Option Search). 0 < length (old_in o y.state.prompt)) now.1 (s.fit (ap has_all stays.1 ∙ e)).1 in
             let less = further now.0 then.0 stays.0 (search_put xs at y within ∙ now.1) then.1 some in
-            let stay = left_stays ks y.state.search h.state.search (searches (state_of y.state).mode) (s.stays (buffers_of ks)) in
+            let stay = left_stays ks y.state.search h.state.search (is_search_mode (state_of y.state).mode) (s.stays (buffers_of ks)) in
             omega (arith, less, stay, ap (remaining_in ks) (search_put xs at y within), ap (λ (o : Option Session). remaining_in ks (search_or_none o)) (session_there xs at h within is_h))
 
         either : (all : Bool) → has_all h.state.player.todo ≡ all → IsLess (remaining_at at ks xs) (remaining_at at K ys) (state_at at xs).todo (state_at at ys).todo

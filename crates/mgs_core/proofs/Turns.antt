@@ -11,7 +11,7 @@ use Rattle.mgs_model.specs.Events.{refused_state}
 use Rattle.mgs_model.specs.declared.session.Replacement.TheVariants.{ReplaceMatch}
 use Rattle.mgs_model.specs.declared.session.Command.TheVariants as commands
 use Rattle.mgs_model.specs.declared.session.Mode.TheVariants.{Replacing}
-use Rattle.mgs_model.specs.Apply.{searches}
+use Rattle.mgs_model.specs.Apply.{is_search_mode}
 use Rattle.mgs_model.specs.declared.search.Direction.{Direction}
 use Rattle.mgs_model.specs.Plans.{failed_state}
 use Rattle.mgs_model.specs.Turns.{Turn, Keep, Do, byte_turn, first_played, todo_turn}
@@ -224,7 +224,7 @@ module _ (d : Directory) (ks : List MarkedBuffer) (x y new : Session) (taken : y
       let none : new.state.player.todo ≡ [] = ap (λ (z : Session). z.state.player.todo) done ∙ next.taken in
       record {
         state = done ∙ sym (ap (λ (z : Session). record x { state = z.state }) done);
-        stays = λ bs. ap (λ (z : Session). search_of bs z.state.search) done ∙ search_still bs x.state.search x.state.prompt ∙ sym (ap (λ (z : Session). cond (searches (state_of z.state).mode) (search_of bs x.state.search) None) done);
+        stays = λ bs. ap (λ (z : Session). search_of bs z.state.search) done ∙ search_still bs x.state.search x.state.prompt ∙ sym (ap (λ (z : Session). cond (is_search_mode (state_of z.state).mode) (search_of bs x.state.search) None) done);
         turn = λ v sees.
             ap (todo_turn v (state_of x.state)) all
             ∙ (λ i. Keep (record (state_of x.state) { kind = Other; playing = sym next.playing i; todo = sym next.taken i }))
@@ -241,7 +241,7 @@ module _ (d : Directory) (ks : List MarkedBuffer) (x y new : Session) (taken : y
       let typed : is_played x.state.player.todo ≡ true = ap is_played todo ∙ played in
       record {
         state = is ∙ sym (ap (λ (z : Session). record x { state = z.state }) is);
-        stays = λ bs. ap (λ (z : Session). search_of bs z.state.search) is ∙ search_still bs x.state.search x.state.prompt ∙ sym (ap (λ (z : Session). cond (searches (state_of z.state).mode) (search_of bs x.state.search) None) is);
+        stays = λ bs. ap (λ (z : Session). search_of bs z.state.search) is ∙ search_still bs x.state.search x.state.prompt ∙ sym (ap (λ (z : Session). cond (is_search_mode (state_of z.state).mode) (search_of bs x.state.search) None) is);
         ready = ap (λ (z : Session). is_replacing z.state.search) is ∙ replaces;
         here = tt;
         turn = λ v sees. turn v ∙ sym (ap (λ (z : Session). Do (state_of z.state) (model_act (state_of z.state) befores.Held (byte_acts.Replace false))) is);

@@ -6,7 +6,7 @@ use Rattle.mgs_model.specs.World as model
 use Rattle.mgs_model.specs.World.{World, Buffer, Todo}
 use Rattle.mgs_model.specs.View.{View}
 use Rattle.mgs_model.specs.Outcome.{Act, Run}
-use Rattle.mgs_model.specs.Apply.{searches}
+use Rattle.mgs_model.specs.Apply.{is_search_mode}
 use Rattle.mgs_model.specs.Acts.{fails, outcome, without_all}
 use Rattle.mgs_model.specs.Plans.{count_of, failed_state, kind_failed}
 use Rattle.mgs_model.specs.Turns.{Turn, Keep, Do, first_played, todo_turn}
@@ -66,7 +66,7 @@ pub record IsAlone (p : Playing) : Type 0 where
 
 -- a search that goes on has the positions that it had, in any texts
 abbrev pub SearchStays : State → State → Type 0
-SearchStays old new = (bs : List Buffer) → search_of bs new.search ≡ cond (searches (state_of new).mode) (search_of bs old.search) None
+SearchStays old new = (bs : List Buffer) → search_of bs new.search ≡ cond (is_search_mode (state_of new).mode) (search_of bs old.search) None
 
 -- A STEP of a session, which sees what is seen and to which this comes next. It `plays` what a macro has, or else does what was typed; and
 -- `Left` holds of what is left to do

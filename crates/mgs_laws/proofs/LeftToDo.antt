@@ -6,7 +6,7 @@ use Rattle.mgs_model.specs.World.{World, Session, State, Todo, has_id, find_sess
 use Rattle.mgs_model.specs.View.{View, view, view_of}
 use Rattle.mgs_model.specs.Outcome.{Act, Run, Outcome, Effect, Quit}
 use Rattle.mgs_model.specs.Acts.{outcome, without_all}
-use Rattle.mgs_model.specs.Apply.{searches, change_first, apply, applied, act, after_quit, session_after, session_arranged}
+use Rattle.mgs_model.specs.Apply.{is_search_mode, change_first, apply, applied, act, after_quit, session_after, session_arranged}
 use Rattle.mgs_model.specs.Turns.{todo_turn, next}
 use Rattle.mgs_model.specs.Events.{state_set, with_state, turn_in, turn_seen, rests}
 use Rattle.mgs_model.specs.declared.session.Setting.{Setting}
@@ -20,9 +20,9 @@ use Rattle.mgs_laws.proofs.Outcomes.{is_brief_setting, is_brief, left_holds, out
 -- THE STATE OF A SESSION
 
 -- it is set twice
-pub state_twice : (id : ℕ) (state : State) (g : State → State) (w : World) → searches state.mode ≡ false → with_state id (λ old. state) (with_state id g w) ≡ with_state id (λ old. state) w
+pub state_twice : (id : ℕ) (state : State) (g : State → State) (w : World) → is_search_mode state.mode ≡ false → with_state id (λ old. state) (with_state id g w) ≡ with_state id (λ old. state) w
 state_twice id state g w still =
-    ap (λ xs. record w { sessions = xs }) (change_twice (has_id id) (state_set (λ old. state)) (state_set g) (state_set (λ old. state)) (λ x. refl) (λ x. ap (λ (c : Bool). record x { search = cond c (cond (searches (g x.state).mode) x.search None) None; state = state }) still ∙ sym (ap (λ (c : Bool). record x { search = cond c x.search None; state = state }) still)) w.sessions)
+    ap (λ xs. record w { sessions = xs }) (change_twice (has_id id) (state_set (λ old. state)) (state_set g) (state_set (λ old. state)) (λ x. refl) (λ x. ap (λ (c : Bool). record x { search = cond c (cond (is_search_mode (g x.state).mode) x.search None) None; state = state }) still ∙ sym (ap (λ (c : Bool). record x { search = cond c x.search None; state = state }) still)) w.sessions)
 
 pub found_state : (w : World) (id : ℕ) (f : State → State) (x : Session) → find_session id w.sessions ≡ Some x → find_session id (with_state id f w).sessions ≡ Some (state_set f x)
 found_state w id f x found = find-change_first (has_id id) (state_set f) (λ y. refl) w.sessions ∙ ap (option_map (state_set f)) found

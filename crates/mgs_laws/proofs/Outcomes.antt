@@ -10,7 +10,7 @@ use Rattle.mgs_model.specs.World.{State, Todo}
 use Rattle.mgs_model.specs.View.{View, BufferSeen, find_seen, size_told, serial_told, text_in}
 use Rattle.mgs_model.specs.Outcome.{Act, Unbound, Run, Outcome, Keep_position, Keep_mark, Keep_kill, Keep_search, Stay, Adjust, Arrange, Effect, No_effect, Edit, Unmodified, SetOwners, Create, Quit}
 use Rattle.mgs_model.specs.Plans.{acted_state, Finish, Change, scrolling, setting, arrangement, entries_changed, inserted}
-use Rattle.mgs_model.specs.Seeking.{ModePlan, Keep_mode, Goes_on, Over, Failing, SearchFinish, SearchChange}
+use Rattle.mgs_model.specs.SearchCommands.{ModePlan, Keep_mode, Goes_on, Over, Failing, SearchFinish, SearchChange}
 use Rattle.mgs_model.specs.Acts.{Target, target, around, is_at_text_end, copy_needs, meaning_by_name, Request, insertion_right, here, name_meant, needs, deciders_found, request_judged, or_else, judged, fails, owns, is_too_large, is_full, without_all, mode_left, finished_state, finished, edit_of, edited_by, edits, moved_by, moves, search_finished_state, search_finished, sought_by, seeks, replaced_by, replaces_one, sets, arranges, shows_named, creates_buffer, kills_buffer, by_name, has_file, entries_told, list_set, effects, rules, lists, saves, about, shown_buffer, subject, selected_seen, has_rows, row_in, scrolls_rows, scrolls, allowed, permitted, outcome}
 use Rattle.mgs_model.specs.Events.{saved_by}
 use Rattle.mgs_model.proofs.Basics.{or_true}

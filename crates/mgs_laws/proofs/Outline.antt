@@ -6,7 +6,7 @@ use Rattle.mgs_model.specs.Names.{same_name}
 use Rattle.mgs_model.specs.Text.{shift}
 use Rattle.mgs_model.specs.World.{World, Buffer, Session, Window, Place, Search, State, first_state, Shows, Nothing, Buffer_of, Listing, List_of}
 use Rattle.mgs_model.specs.Outcome.{Outcome, PointPlan, Keep_position, At, At_origin, MarkPlan, Keep_mark, Mark_at, SearchPlan, Keep_search, No_search, Begin, Anchor_at, Source, Old, Come, Slot, is_old, Arrange, Stay, Adjust, Slots, Effect, Edit, Kill}
-use Rattle.mgs_model.specs.Apply.{owners_after, buffer_unmodified, is_in, is_of, window_moved, place_moved, search_moved, session_moved, empty_window, window_without_buffer, is_searched, state_without_search, session_without_buffer, session_after, set_place, left_places, places_left, place_in, place_point, place_mark, comer, window_at, source_window, has_positions, origin_or, point_after, mark_after, row_after, window_adjusted, window_put, windows_arranged, places_arranged, selected_arranged, search_after, search_arranged, searches, kill_after, session_arranged}
+use Rattle.mgs_model.specs.Apply.{owners_after, buffer_unmodified, is_in, is_of, window_moved, place_moved, search_moved, session_moved, empty_window, window_without_buffer, is_searched, state_without_search, session_without_buffer, session_after, set_place, left_places, places_left, place_in, place_point, place_mark, comer, window_at, source_window, has_positions, origin_or, point_after, mark_after, row_after, window_adjusted, window_put, windows_arranged, places_arranged, selected_arranged, search_after, search_arranged, is_search_mode, kill_after, session_arranged}
 use Rattle.mgs_model.specs.Events.{state_set}
 use Rattle.mgs_model.specs.declared.owners.Owners.{Owners}
 use Rattle.mgs_model.specs.declared.entry.Entry.{Entry}
@@ -396,7 +396,7 @@ forget_arranged true shut p x =
       windows = windows_forget shut p.arrange x i;
       selected = selected_forget shut p.arrange x i;
       places = places_forget shut p.arrange x i;
-      search = search_if_forget (searches p.state.mode) shut (search_arranged p.arrange x) (search_arranged p.arrange (forget_if true shut x)) (search_arranged_forget shut p.arrange x) i;
+      search = search_if_forget (is_search_mode p.state.mode) shut (search_arranged p.arrange x) (search_arranged p.arrange (forget_if true shut x)) (search_arranged_forget shut p.arrange x) i;
       kill = kill_after p.kill x.kill;
       state = p.state;
     }
@@ -409,7 +409,7 @@ forget_state true shut f x =
     λ i. record (state_set f x) {
       windows = forget_windows shut x.windows i;
       places = forget_places shut x.places i;
-      search = search_if_forget (searches (f x.state).mode) shut x.search (forget_search shut x.search) (sym (forget_search_same shut x.search)) i;
+      search = search_if_forget (is_search_mode (f x.state).mode) shut x.search (forget_search shut x.search) (sym (forget_search_same shut x.search)) i;
     }
 
 pub forgetting : (shut : List ℕ → Bool) → IsForgetting (λ o x. forget_if o shut x)

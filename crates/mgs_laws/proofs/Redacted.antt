@@ -5,7 +5,7 @@ use Rattle.mgs_model.specs.Text.{shift}
 use Rattle.mgs_model.specs.Events.{state_set}
 use Rattle.mgs_model.specs.World.{State, Session, Window, Place, Search}
 use Rattle.mgs_model.specs.Outcome.{Outcome, PointPlan, MarkPlan, Source, Old, Come, Slot, is_old, Arrange, Stay, Adjust, Slots, Effect, Edit, Kill}
-use Rattle.mgs_model.specs.Apply.{is_in, is_of, empty_window, window_moved, session_moved, window_without_buffer, session_without_buffer, session_after, left_places, places_left, window_at, source_window, window_adjusted, window_put, windows_arranged, places_arranged, selected_arranged, search_arranged, searches, kill_after, session_arranged}
+use Rattle.mgs_model.specs.Apply.{is_in, is_of, empty_window, window_moved, session_moved, window_without_buffer, session_without_buffer, session_after, left_places, places_left, window_at, source_window, window_adjusted, window_put, windows_arranged, places_arranged, selected_arranged, search_arranged, is_search_mode, kill_after, session_arranged}
 use Rattle.mgs_laws.specs.Secrecy.{window_redacted, session_redacted_if}
 use Rattle.mgs_laws.proofs.Edits.{window_made}
 use Rattle.mgs_laws.proofs.Erasing.{IsForgetting}
@@ -102,7 +102,7 @@ session_redacted_arranged o p x =
       windows = redacted_arranged o p.arrange x i;
       selected = selected_redacted o p.arrange x i;
       places = places_redacted o p.arrange x i;
-      search = cond (searches p.state.mode) (search_redacted o p.arrange x i) None;
+      search = cond (is_search_mode p.state.mode) (search_redacted o p.arrange x i) None;
       kill = kill_after p.kill x.kill;
       state = p.state;
     }

@@ -5,7 +5,7 @@ use Rattle.mgs_model.specs.World.{World, Session, Search, State, has_id, find_se
 use Rattle.mgs_model.specs.View.{View, view, view_of, reads, search_seen}
 use Rattle.mgs_model.specs.Outcome.{Act, Outcome, Effect, Quit}
 use Rattle.mgs_model.specs.Acts.{outcome}
-use Rattle.mgs_model.specs.Apply.{searches, apply, applied, outcome_in, act, after_quit, session_after, session_arranged, change_first}
+use Rattle.mgs_model.specs.Apply.{is_search_mode, apply, applied, outcome_in, act, after_quit, session_after, session_arranged, change_first}
 use Rattle.mgs_model.specs.Turns.{Turn, Rest, Keep, Do}
 use Rattle.mgs_model.specs.Events.{state_set, with_state, Doing, turn_seen, turn_in, refused_state, turn_done, turn, effect_in, act_effects, is_used_up, turn_effects}
 use Rattle.mgs_laws.specs.Secrecy.{IsOf}
@@ -13,7 +13,7 @@ use Rattle.mgs_model.proofs.Firsts.{find-change_first}
 use Rattle.mgs_laws.proofs.After.{user_after, find_after, find_without}
 
 abbrev pub begun_view : (State → State) → View → View
-begun_view f v = record v { session = record v.session { search = cond (searches (f v.session.state).mode) v.session.search None; state = f v.session.state } }
+begun_view f v = record v { session = record v.session { search = cond (is_search_mode (f v.session.state).mode) v.session.search None; state = f v.session.state } }
 
 pub view_with_state : (w : World) (id : ℕ) (f : State → State) → view_of (with_state id f w) id ≡ option_map (begun_view f) (view_of w id)
 view_with_state w id f =
@@ -21,7 +21,7 @@ view_with_state w id f =
   where
     by : (o : Option Session) → option_map (view (with_state id f w)) (option_map (state_set f) o) ≡ option_map (begun_view f) (option_map (view w) o)
     by None = refl
-    by (Some x) = λ i. Some (record (view w x) { session = record (view w x).session { search = sought (reads w.directory w.buffers x.user) (searches (f x.state).mode) x.search i; state = f x.state } })
+    by (Some x) = λ i. Some (record (view w x) { session = record (view w x).session { search = sought (reads w.directory w.buffers x.user) (is_search_mode (f x.state).mode) x.search i; state = f x.state } })
       where
         sought : (can : List ℕ → Bool) (c : Bool) (s : Option Search) → search_seen can (cond c s None) ≡ cond c (search_seen can s) None
         sought can true s = refl

@@ -12,7 +12,7 @@ use Rattle.mgs_model.specs.declared.entry.Entry.{Entry}
 use Rattle.mgs_model.specs.Outcome.{Act, Unbound, Run, KillPlan, Keep_kill, Kill_is, Arrange, Stay, Adjust, At_origin, Keep_position, Keep_mark, Keep_search, No_search, Effect, No_effect, Edit, Unmodified, SetList, SetOwners, Create, Kill, Save, Quit, Outcome, u64_max}
 use Rattle.mgs_model.specs.declared.owners.NewOwner.TheVariants.{ToUser, ToGroup}
 use Rattle.mgs_model.specs.Plans.{failed_state, acted_state, Around, Finish, Change, insertion, reading_insertion, motion, alteration, scrolling, row_scrolled, setting, arrangement, undo, entries_changed, comes, inserted}
-use Rattle.mgs_model.specs.Seeking.{AroundSearch, ModePlan, Keep_mode, Goes_on, Over, Failing, SearchFinish, SearchChange, seek, replace}
+use Rattle.mgs_model.specs.SearchCommands.{AroundSearch, ModePlan, Keep_mode, Goes_on, Over, Failing, SearchFinish, SearchChange, seek, replace}
 use Rattle.mgs_model.specs.declared.limits.TheConstants.{BUFFER_LIMIT, TEXT_LIMIT}
 use Rattle.mgs_model.specs.declared.right.Right.{Right}
 use Rattle.mgs_model.specs.declared.right.Right.TheVariants.{ReadData, WriteData, AppendData, ReadAttributes, Delete, ReadAcl, WriteAcl, WriteOwner}
@@ -187,6 +187,7 @@ is_too_large (Kill_is text) = nat_lt TEXT_LIMIT (length text)
 abbrev pub is_full : ℕ → ℕ → ℕ → ℕ → List ℕ → Bool
 is_full size serial a b put = is_edit a b put && (nat_lt TEXT_LIMIT (size - (b - a) + length put) || (serial == u64_max))
 
+-- what is left to do without all further replacements, where these come next
 abbrev pub without_all : List Todo → List Todo
 without_all (Replace_all ∷ todo) = todo
 without_all (Play ∷ todo) = Play ∷ without_all todo

@@ -121,7 +121,7 @@ abbrev pub is_searched : List ℕ → Option Search → Bool
 is_searched name None = false
 is_searched name (Some x) = same_name name x.name
 
--- the mode of a search ends, and what was typed in it is forgotten
+-- the mode of a search ends, and what was typed in it is forgotten; half-read keys stay, and a character that has begun goes on as a key
 abbrev pub state_without_search : State → State
 state_without_search state = record state { mode = Plain; input = []; old = []; count = 0 }
 
@@ -244,11 +244,11 @@ search_arranged (Adjust point mark top row sought) x = search_after sought x.sea
 search_arranged (Slots slots selected sought) x = search_after sought x.search
 
 -- the positions of a search go with its mode
-abbrev pub searches : Mode → Bool
-searches Plain = false
-searches (Prompt question) = false
-searches (Searching d failing) = true
-searches Replacing = true
+abbrev pub is_search_mode : Mode → Bool
+is_search_mode Plain = false
+is_search_mode (Prompt question) = false
+is_search_mode (Searching d failing) = true
+is_search_mode Replacing = true
 
 abbrev pub kill_after : KillPlan → List ℕ → List ℕ
 kill_after Keep_kill old = old
@@ -260,7 +260,7 @@ session_arranged o x =
       windows = windows_arranged o.arrange x;
       selected = selected_arranged o.arrange x;
       places = places_arranged o.arrange x;
-      search = if searches o.state.mode then search_arranged o.arrange x else None;
+      search = if is_search_mode o.state.mode then search_arranged o.arrange x else None;
       kill = kill_after o.kill x.kill;
       state = o.state;
     }

@@ -6,7 +6,7 @@ use Rattle.mgs_model.specs.Access.{Directory, is_among}
 use Rattle.mgs_model.specs.Lines.{settled_top}
 use Rattle.mgs_model.specs.World.{World, Buffer, Session, Window, State, Typed, first_state, Shows, Nothing, Buffer_of, has_id, find_session, find_buffer, may}
 use Rattle.mgs_model.specs.Outcome.{Act, Outcome, Effect, Save}
-use Rattle.mgs_model.specs.Apply.{searches, change_first, outcome_in, act, without_session}
+use Rattle.mgs_model.specs.Apply.{is_search_mode, change_first, outcome_in, act, without_session}
 use Rattle.mgs_model.specs.View.{View, view_of}
 use Rattle.mgs_model.specs.Turns.{Turn, Rest, Keep, Do, next}
 use Rattle.mgs_model.specs.declared.right.Right.TheVariants.{ReadData, ReadAttributes}
@@ -102,7 +102,7 @@ opened w id user rows cols =
 
 -- a session's state alone changes; the positions of a search go with its mode
 abbrev pub state_set : (State → State) → Session → Session
-state_set f x = record x { search = cond (searches (f x.state).mode) x.search None; state = f x.state }
+state_set f x = record x { search = cond (is_search_mode (f x.state).mode) x.search None; state = f x.state }
 
 abbrev pub with_state : ℕ → (State → State) → World → World
 with_state id f w = record w { sessions = change_first (has_id id) (state_set f) w.sessions }
@@ -143,7 +143,8 @@ turn_done id stored (Do state c) w memory = act_done id stored state c w memory
 abbrev pub turn : ℕ → Bool → Doing → Doing
 turn id stored d = turn_done id stored (turn_in d.world id) d.world d.memory
 
--- how an event stands before each turn, until nothing is left to do (`elim`, since its cases wait: it ends there, not after n turns)
+-- how an event stands before each turn, until nothing is left to do, which comes long before n turns are taken. (The cases of `elim` wait
+-- until they are asked for, so that this computes no further than that)
 unfoldable pub path : ℕ → ℕ → Bool → Doing → List Doing
 path zero id stored d = []
 path (suc n) id stored d = elim (rests (turn_in d.world id)) [ true ↦ [] | false ↦ d ∷ path n id stored (turn id stored d) ]

@@ -117,6 +117,7 @@ abbrev pub found_places : Option ℕ → Sought → SearchPlaces → SearchPlace
 found_places None s x = x
 found_places (Some p) s x = record x { anchor = p; point = match_point s.direction s.pattern p }
 
+-- the places after a step in a text (that of `Quits` is also what the act LeaveSearch does, by which an event quits a search)
 abbrev pub places_after : SearchStep → Sought → List ℕ → SearchPlaces → SearchPlaces
 places_after FromOrigin s text x = found_places (looked_for FromOrigin s text x) s (record x { anchor = x.origin })
 places_after ToOrigin s text x = record x { anchor = x.origin; point = x.origin }

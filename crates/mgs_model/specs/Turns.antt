@@ -165,13 +165,13 @@ prompt_turn v c state byte =
 -- A SEARCH: a byte that is none of its own ends it, and is then a key
 
 -- what was searched for is the search string then
-abbrev pub searched : State → State
-searched state = record state { mode = Plain; pattern = pattern_meant state; input = [] }
+abbrev pub search_ended : State → State
+search_ended state = record state { mode = Plain; pattern = pattern_meant state; input = [] }
 
 abbrev pub sought_turn : State → ℕ → Sought → SearchStep → Turn
-sought_turn state byte s Ends = Keep (searched state)
+sought_turn state byte s Ends = Keep (search_ended state)
 sought_turn state byte s Quits = Do state (Run LeaveSearch None [])
-sought_turn state byte s Leaves = key_turn (searched state) byte
+sought_turn state byte s Leaves = key_turn (search_ended state) byte
 sought_turn state byte s step =
     Do (record state { mode = Searching s.direction s.failing; input = s.pattern }) (Run (Seek (SearchOn s.direction step)) None s.pattern)
 
@@ -190,7 +190,8 @@ search_turn state d failing byte =
     let s : Sought = record { direction = d; pattern = state.input; failing = failing } in
     if is_character_byte state.keys byte then pattern_turn state s byte (character_read state.keys byte) else sought_byte state s byte
 
--- A REPLACING: `!` is no act, and queues its replacements
+-- A QUERY-REPLACE: y (121) and space replace the match, `.` (46) replaces it and ends, n (110) and DEL (127) leave it, `!` (33) is no act
+-- and queues the replacement of all that follow, q (113) and RET (13) end, and C-g (7) quits. Other bytes do nothing
 
 abbrev pub replacing : State → Replacement → Turn
 replacing state c = Do state (Run (Replace c) None state.input)

@@ -75,6 +75,7 @@ pub data Todo : Type 0 where
 -- all that a session holds beside its positions and its kill buffer
 pub record State : Type 0 where
   pub echo : Message
+  -- the search string: what was searched for last
   pub pattern : List ℕ
   pub fill : ℕ
   pub macro : List ℕ
@@ -85,7 +86,7 @@ pub record State : Type 0 where
   pub keys : List ℕ
   pub kind : Kind
   pub mode : Mode
-  -- the characters that were typed at the prompt
+  -- the characters that were typed at the prompt, or the pattern of an incremental search
   pub input : List ℕ
   -- what is replaced by the input, and how often it was
   pub old : List ℕ

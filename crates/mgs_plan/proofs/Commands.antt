@@ -10,7 +10,7 @@ use Rattle.mgs_model.specs.World as model
 use Rattle.mgs_model.specs.View.{view}
 use Rattle.mgs_model.specs.Outcome as outcomes
 use Rattle.mgs_model.specs.Acts.{asks, fails, outcome, owns, sets}
-use Rattle.mgs_model.specs.Apply.{apply, change_first, outcome_in, searches, session_arranged}
+use Rattle.mgs_model.specs.Apply.{apply, change_first, outcome_in, is_search_mode, session_arranged}
 use Rattle.mgs_model.specs.Plans.{acted_state, failed_state, setting}
 use Rattle.mgs_model.specs.declared.session.Command.TheVariants.{Ask, Set}
 use Rattle.mgs_model.specs.declared.session.Question.{Question}
@@ -55,7 +55,7 @@ module _ (directory : Directory) (ks : List MarkedBuffer) (xs : List Session) (n
   rests : state_of h.state ≡ idle (state_of h.state)
   rests = fresh_state xs at h found fresh
 
-  kept : (session_of ks h).search ≡ cond (searches (state_of h.state).mode) (session_of ks h).search None
+  kept : (session_of ks h).search ≡ cond (is_search_mode (state_of h.state).mode) (session_of ks h).search None
   kept = search_kept ks h rests
 
   failed_set : (message : Message) → world_of directory ks (slice_set xs at (failed message h)) next ≡ apply (world_of directory ks xs next) id (fails (state_of h.state) message)
@@ -71,7 +71,7 @@ module _ (directory : Directory) (ks : List MarkedBuffer) (xs : List Session) (n
   -- a command of no kind was done, which set this
   acted_so : (y : Session) (f : model.State → model.State) → ((state : model.State) → f (record (idle state) { kind = Other }) ≡ f (acted_state (idle state)))
       → session_of ks y ≡ record (session_of ks h) { state = f (record (state_of h.state) { kind = Other }) }
-      → Path (Option model.Search) (session_of ks h).search (cond (searches (f (acted_state (state_of h.state))).mode) (session_of ks h).search None)
+      → Path (Option model.Search) (session_of ks h).search (cond (is_search_mode (f (acted_state (state_of h.state))).mode) (session_of ks h).search None)
       → world_of directory ks (slice_set xs at y) next ≡ apply (world_of directory ks xs next) id (owns (f (acted_state (state_of h.state))))
   acted_so y f same does still =
       owned_so y (f (acted_state (state_of h.state)))

@@ -12,7 +12,7 @@ use Rattle.mgs_model.specs.Outcome.{Adjust, Effect, No_effect, Edit, Unmodified,
 use Rattle.mgs_model.specs.Plans as plans
 use Rattle.mgs_model.specs.Plans.{acted_state}
 use Rattle.mgs_model.specs.Acts.{edit_of, effects, fails, finished, finished_state, is_too_large}
-use Rattle.mgs_model.specs.Apply.{after_quit, apply, buffers_after, change_at, change_first, kill_after, searches, session_after, session_arranged, window_adjusted}
+use Rattle.mgs_model.specs.Apply.{after_quit, apply, buffers_after, change_at, change_first, kill_after, is_search_mode, session_after, session_arranged, window_adjusted}
 use Rattle.mgs_model.specs.Text.{is_edit}
 use Rattle.mgs_model.specs.declared.message.Message.{Message}
 use Rattle.mgs_model.specs.declared.message.Message.TheVariants.{KillTooLarge, Silent}
@@ -163,7 +163,7 @@ one_ends behind text kill f e ks h fresh =
     let left = finish_read text kill behind f in
     let s = session_of ks h in
     (λ i. record (ends left (state_of h.state) s) { windows = windows_end left.point left.top s i; search = search_kept ks h fresh i })
-    ∙ ap (λ (o : Option model.Search). let y : model.Session = record (ends left (state_of h.state) s) { windows = change_at s.selected (window_adjusted o left.point Keep_mark left.top None) s.windows; search = cond (searches (state_of h.state).mode) s.search None } in y) (sym (no_search_at_rest ks h fresh))
+    ∙ ap (λ (o : Option model.Search). let y : model.Session = record (ends left (state_of h.state) s) { windows = change_at s.selected (window_adjusted o left.point Keep_mark left.top None) s.windows; search = cond (is_search_mode (state_of h.state).mode) s.search None } in y) (sym (no_search_at_rest ks h fresh))
 
 -- the session's own record
 state_ends : (behind : ℕ) (text kill : List ℕ) (f : Finish) (ks : List MarkedBuffer) (h : Session) → state_of h.state ≡ idle (state_of h.state)

@@ -12,7 +12,7 @@ use Rattle.mgs_model.specs.View.{View, BufferSeen, WindowSeen, find_seen, view, 
 use Rattle.mgs_model.specs.Outcome.{Effect, Outcome, Unmodified}
 use Rattle.mgs_model.specs.Outcome as outcomes
 use Rattle.mgs_model.specs.Plans.{Around, Change, Finish, alteration, insertion, motion, reading_insertion, scrolling, undo}
-use Rattle.mgs_model.specs.Seeking.{AroundSearch, SearchChange, SearchFinish, replace, seek}
+use Rattle.mgs_model.specs.SearchCommands.{AroundSearch, SearchChange, SearchFinish, replace, seek}
 use Rattle.mgs_model.specs.Acts.{Target, about, acts_at, around, around_search, deciders_found, edited_by, edits, effects, fails, has_rows, here, insertion_right, is_rows, items_in, judged, mark_seen, moved_by, moves, or_else, outcome, permitted, replaced_by, replaces_one, row_in, rules, scrolls_rows, seeks, selected_seen, shown_buffer, sought_by, target, target_in}
 use Rattle.mgs_model.specs.declared.right.Right.{Right}
 use Rattle.mgs_model.specs.declared.right.Right.TheVariants.{ReadData, WriteData, AppendData}

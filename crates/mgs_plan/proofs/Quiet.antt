@@ -3,7 +3,7 @@ use Rattle.std.proofs.Common.{◌≡◌, ℕ, Bool, List, [], Option, Some, None
 use Rattle.std.specs.Prelude.{Result, Ok, Err}
 use Rattle.std.specs.Option.{option_map}
 use Rattle.mgs_model.specs.Acts.{Target, allowed, around_search, arranges, judged, needs, outcome, permitted, seeks, sets, sought_by, target}
-use Rattle.mgs_model.specs.Seeking.{SearchFinish, seek}
+use Rattle.mgs_model.specs.SearchCommands.{SearchFinish, seek}
 use Rattle.mgs_laws.specs.Apart.{touched_by}
 use Rattle.mgs_model.specs.Apply.{outcome_in}
 use Rattle.mgs_model.specs.Outcome.{Act, Run, Arrange, No_effect, Outcome}

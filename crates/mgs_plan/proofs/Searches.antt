@@ -4,7 +4,7 @@ use Rattle.mgs_model.specs.Access.{Decider, Directory, allows, decider, decision
 use Rattle.mgs_model.specs.Acts.{permitted, sought_by}
 use Rattle.mgs_model.specs.Outcome.{Outcome}
 use Rattle.mgs_model.specs.Rights.{rights_in}
-use Rattle.mgs_model.specs.Seeking.{AroundSearch, seek}
+use Rattle.mgs_model.specs.SearchCommands.{AroundSearch, seek}
 use Rattle.mgs_model.specs.World.{Buffer, State}
 use Rattle.mgs_model.specs.declared.entry.Decision.{Decision}
 use Rattle.mgs_model.specs.declared.entry.Decision.TheVariants.{Granted}

@@ -12,7 +12,7 @@ use Rattle.mgs_model.specs.Outcome.{Outcome, No_effect, Unmodified, PointPlan, K
 use Rattle.mgs_model.specs.Outcome as outcomes
 use Rattle.mgs_model.specs.Plans as plans
 use Rattle.mgs_model.specs.Plans.{alteration, insertion, motion, reading_insertion, scrolling, undo, undone}
-use Rattle.mgs_model.specs.Seeking.{AroundSearch, SearchChange, seek}
+use Rattle.mgs_model.specs.SearchCommands.{AroundSearch, SearchChange, seek}
 use Rattle.mgs_model.specs.Acts.{effects, fails, finished, edit_of, is_full, is_too_large, moved_by, permitted, search_finished, sought_by}
 use Rattle.mgs_model.specs.declared.right.Right.{Right}
 use Rattle.mgs_model.specs.declared.right.Right.TheVariants.{ReadData}

@@ -25,5 +25,5 @@ abbrev pub answer_act : Question → Option ℕ → List ℕ → State → Act
 answer_act question n typed state = Run (command_for question) n (meant question state.pattern typed)
 
 -- and the one that a search is
-abbrev pub searches : Session → Direction → Option ℕ → List ℕ → Act
-searches h direction n typed = Run (Seek (SearchFor direction)) n (sought (state_of h.state).pattern typed)
+abbrev pub search_act : Session → Direction → Option ℕ → List ℕ → Act
+search_act h direction n typed = Run (Seek (SearchFor direction)) n (sought (state_of h.state).pattern typed)

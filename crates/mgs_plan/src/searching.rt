@@ -4,7 +4,7 @@ ghost use Rattle.mgs_buffers.specs.MarkedBuffer.{HasBuffer, marked_at};
 ghost use Rattle.mgs_plan.specs.Actions.{AreMarks, CanDoIn, IsDoneBy, IsSearchFor, IsSearchIn};
 ghost use Rattle.mgs_session.specs.Sessions.{window_marks_of};
 ghost use Rattle.mgs_plan.specs.Deciding.{CanPerform, IsActionGranted, IsPlanned};
-ghost use Rattle.mgs_plan.specs.Searching.{searches, sought};
+ghost use Rattle.mgs_plan.specs.Searching.{search_act, sought};
 ghost use Rattle.mgs_world.specs.Worlds.{idle, state_of};
 
 use crate::action::Action;
@@ -100,7 +100,7 @@ pub(crate) fn plan_search<T: Marked + Drop>(
 ) -> Outcome
     requires marks { IfSome (window_marks_of session.now) (AreMarks buffers.now) }
     requires fresh { state_of session.now.state ≡ idle (state_of session.now.state) }
-    ensures value { (n : Option ℕ) → IsPlanned directory.now buffers.now session.now (searches session.now direction n typed.now) result }
+    ensures value { (n : Option ℕ) → IsPlanned directory.now buffers.now session.now (search_act session.now direction n typed.now) result }
     ensures can { CanPerform directory.now buffers.now session.now result }
 {
     let Some(window_marks) = selected_window_marks(session) else {

@@ -7,7 +7,7 @@ use Rattle.mgs_model.specs.World.{Buffer, State}
 use Rattle.mgs_model.specs.World as model
 use Rattle.mgs_model.specs.View.{SearchSeen, View, buffer_seen, find_seen, full_if, positions_if, reads, reads_found, search_seen, serial_told, size_told, text_in, told_if, view}
 use Rattle.mgs_model.specs.Outcome.{Outcome, Run}
-use Rattle.mgs_model.specs.Seeking.{AroundSearch, replace, seek}
+use Rattle.mgs_model.specs.SearchCommands.{AroundSearch, replace, seek}
 use Rattle.mgs_model.specs.Acts.{Target, acts_at, anchor_in, around_search, fails, is_sought_in, origin_in, outcome, permitted, sought_by, target}
 use Rattle.mgs_model.specs.declared.right.Right.{Right}
 use Rattle.mgs_model.specs.declared.right.Right.TheVariants.{ReadData, WriteData}

@@ -11,7 +11,7 @@ use Rattle.mgs_laws.specs.Refusals.{may_be_refused}
 use Rattle.mgs_model.specs.Outcome.{Edit, No_effect, Outcome, Run, Act}
 use Rattle.mgs_laws.specs.Refusals.{takes_memory}
 use Rattle.mgs_model.specs.Plans.{Change}
-use Rattle.mgs_model.specs.Seeking.{SearchFinish, met}
+use Rattle.mgs_model.specs.SearchCommands.{SearchFinish, met}
 use Rattle.mgs_model.specs.Text.{is_edit}
 use Rattle.mgs_model.specs.World.{State, World, has_id}
 use Rattle.mgs_model.specs.declared.session.Command.TheVariants as commands

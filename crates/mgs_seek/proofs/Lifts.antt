@@ -6,10 +6,10 @@ use Rattle.std.specs.Option.{option_map}
 use Rattle.std.proofs.lemmas.Option.{slice_get-get_or}
 use Rattle.mgs_model.specs.Access.{Directory}
 use Rattle.mgs_model.specs.Acts.{fails, outcome, search_finished, search_finished_state}
-use Rattle.mgs_model.specs.Apply.{act, applied, apply, change_at, change_first, search_after, searches, session_arranged, window_adjusted}
+use Rattle.mgs_model.specs.Apply.{act, applied, apply, change_at, change_first, search_after, is_search_mode, session_arranged, window_adjusted}
 use Rattle.mgs_model.specs.Events.{state_set, with_state}
 use Rattle.mgs_model.specs.Outcome.{Act, At, At_origin, Keep_mark, Keep_position, No_effect, Outcome, PointPlan}
-use Rattle.mgs_model.specs.Seeking.{SearchFinish}
+use Rattle.mgs_model.specs.SearchCommands.{SearchFinish}
 use Rattle.mgs_model.specs.View.{view}
 use Rattle.mgs_model.specs.World.{State, World, has_id}
 use Rattle.mgs_model.specs.World as model
@@ -97,7 +97,7 @@ module _ (ks : List MarkedBuffer) (h : Session) (x : WindowMarks) (to : PointPla
   pub gone_does : (state : State) (q : Option model.Search) (p : State) (f : SearchFinish)
       → ((search : Option model.Search) (w : model.Window) → point_by to w ≡ window_adjusted search f.point Keep_mark Keep_position None w)
       → state_of o ≡ search_finished_state f state
-      → search_of (buffers_of ks) o.search ≡ cond (searches (search_finished_state f state).mode) (search_after f.sought q) None
+      → search_of (buffers_of ks) o.search ≡ cond (is_search_mode (search_finished_state f state).mode) (search_after f.sought q) None
       → (let z : model.Session = record (session_of ks h) { search = q; state = p } in session_of (mark_gone x.name x.point to ks) y ≡ session_arranged (search_finished state f No_effect) z)
   gone_does state q p f adjusts state_is search_is =
       let s = session_of ks h in

@@ -5,7 +5,7 @@ use Rattle.std.specs.Prelude.{IfSome}
 use Rattle.mgs_model.specs.World.{State}
 use Rattle.mgs_model.specs.World as model
 use Rattle.mgs_model.specs.Outcome.{Keep_mark, Keep_position, No_effect}
-use Rattle.mgs_model.specs.Seeking.{SearchFinish, met}
+use Rattle.mgs_model.specs.SearchCommands.{SearchFinish, met}
 use Rattle.mgs_model.specs.Acts.{counted, search_finished, search_finished_state}
 use Rattle.mgs_model.specs.Apply.{session_arranged, window_adjusted}
 use Rattle.mgs_buffers.specs.MarkedBuffer.{IsMark, MarkedBuffer, marked_at}

@@ -4,7 +4,7 @@ use Rattle.std.proofs.lemmas.List.{length-take}
 use Rattle.std.specs.Prelude.{Result, Ok}
 use Rattle.std.specs.Char.{eq_ignore_ascii_case}
 use Rattle.mgs_model.specs.Outcome.{Anchor_at, At, Begin, Keep_position, Keep_search, No_search, SearchPlan}
-use Rattle.mgs_model.specs.Seeking.{AroundSearch, Failing, Goes_on, Keep_mode, ModePlan, Over, SearchChange, met, replace}
+use Rattle.mgs_model.specs.SearchCommands.{AroundSearch, Failing, Goes_on, Keep_mode, ModePlan, Over, SearchChange, met, replace}
 use Rattle.mgs_model.specs.Searching.{begins, first_in, first_match, matches_at}
 use Rattle.mgs_model.specs.Text.{edited}
 use Rattle.mgs_model.specs.declared.session.Replacement.TheVariants.{ReplaceLast, ReplaceMatch}

@@ -4,7 +4,7 @@ use Rattle.std.specs.Prelude.{IfErr, IfSome, IfOk, Result, Ok, Err}
 use Rattle.mgs_model.specs.Access.{Directory}
 use Rattle.mgs_model.specs.Acts.{edit_of, fails, is_full, outcome, search_finished}
 use Rattle.mgs_model.specs.Outcome.{Act, Outcome, Run}
-use Rattle.mgs_model.specs.Seeking.{AroundSearch, SearchChange, SearchFinish, met, replace}
+use Rattle.mgs_model.specs.SearchCommands.{AroundSearch, SearchChange, SearchFinish, met, replace}
 use Rattle.mgs_model.specs.View.{view}
 use Rattle.mgs_model.specs.declared.message.Message.{Message}
 use Rattle.mgs_model.specs.declared.message.Message.TheVariants.{BufferFull}

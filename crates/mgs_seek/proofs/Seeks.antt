@@ -10,10 +10,10 @@ use Rattle.mgs_model.specs.World as model
 use Rattle.mgs_model.specs.View.{view}
 use Rattle.mgs_model.specs.Outcome.{Adjust, At, At_origin, Keep_kill, Keep_mark, Keep_position, No_effect, No_search, Outcome, Run}
 use Rattle.mgs_model.specs.Plans.{acted_state, failed_state}
-use Rattle.mgs_model.specs.Seeking.{Failing, Keep_mode, SearchFinish}
+use Rattle.mgs_model.specs.SearchCommands.{Failing, Keep_mode, SearchFinish}
 use Rattle.mgs_model.specs.Searching.{Sought, is_looking, looked_for, places_after}
 use Rattle.mgs_model.specs.Acts.{mode_left, outcome, search_finished, search_finished_state, sought_by}
-use Rattle.mgs_model.specs.Apply.{change_at, change_first, searches, session_arranged, window_adjusted}
+use Rattle.mgs_model.specs.Apply.{change_at, change_first, is_search_mode, session_arranged, window_adjusted}
 use Rattle.mgs_model.specs.declared.message.Message.{Message}
 use Rattle.mgs_model.specs.declared.message.Message.TheVariants.{Quitting, Silent}
 use Rattle.mgs_model.specs.declared.search.SearchPlaces.{SearchPlaces}
@@ -104,7 +104,7 @@ module _ (directory : Directory) (ks : List MarkedBuffer) (h : Session) (x : Win
   step_session small =
       gone_does ks h x (At after.point) (session_sought new h).state sound sought.target.sel state (Some (found (min s.anchor (size_named s.name (buffers_of ks))))) state left (λ search w. refl) (sym left_state)
       (ap (λ (a : ℕ). Some (found a)) (ap (min after.anchor) size ∙ min-eq_left small)
-      ∙ (λ i. cond (searches (sym left_state i).mode) (Some (found after.anchor)) None))
+      ∙ (λ i. cond (is_search_mode (sym left_state i).mode) (Some (found after.anchor)) None))
 
   pub only_stepped : OnlyThis nothing_held ks placed h (session_sought new h)
   only_stepped = only_gone ks h x (At after.point) (session_sought new h).state sought.target.sel sought.target.marks.point

@@ -6,7 +6,7 @@ use Rattle.mgs_model.specs.Access.{Directory}
 use Rattle.mgs_model.specs.World.{State}
 use Rattle.mgs_model.specs.View.{view}
 use Rattle.mgs_model.specs.Outcome.{Keep_position, No_effect, Run}
-use Rattle.mgs_model.specs.Seeking.{AroundSearch, SearchFinish, met, seek}
+use Rattle.mgs_model.specs.SearchCommands.{AroundSearch, SearchFinish, met, seek}
 use Rattle.mgs_model.specs.Acts.{counted, outcome, search_finished, sought_by}
 use Rattle.mgs_model.specs.declared.message.Message.{Message}
 use Rattle.mgs_model.specs.declared.session.Command.TheVariants.{Seek}

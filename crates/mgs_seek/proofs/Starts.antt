@@ -7,9 +7,9 @@ use Rattle.mgs_model.specs.World.{State}
 use Rattle.mgs_model.specs.World as model
 use Rattle.mgs_model.specs.View.{view}
 use Rattle.mgs_model.specs.Outcome.{Act, Begin, Keep_position, No_effect, Run}
-use Rattle.mgs_model.specs.Seeking.{AroundSearch, Keep_mode, SearchFinish, met, seek}
+use Rattle.mgs_model.specs.SearchCommands.{AroundSearch, Keep_mode, SearchFinish, met, seek}
 use Rattle.mgs_model.specs.Acts.{fails, outcome, search_finished, search_finished_state, sought_by}
-use Rattle.mgs_model.specs.Apply.{session_arranged, searches}
+use Rattle.mgs_model.specs.Apply.{session_arranged, is_search_mode}
 use Rattle.mgs_model.specs.Events.{state_set}
 use Rattle.mgs_model.specs.declared.message.Message.{Message}
 use Rattle.mgs_model.specs.declared.message.Message.TheVariants.{Silent}
@@ -56,8 +56,8 @@ none_either false = refl
 -- a session at rest, with the record that has the mode
 set_so : (ks : List MarkedBuffer) (h : Session) (f : State → State) → state_of h.state ≡ idle (state_of h.state) → (let s : model.Session = record (session_of ks h) { search = None; state = f (state_of h.state) } in state_set f (session_of ks h) ≡ s)
 set_so ks h f fresh =
-    (λ i. record (session_of ks h) { search = cond (searches (f (state_of h.state)).mode) (no_search_at_rest ks h fresh i) None; state = f (state_of h.state) })
-    ∙ (λ i. record (session_of ks h) { search = none_either (searches (f (state_of h.state)).mode) i; state = f (state_of h.state) })
+    (λ i. record (session_of ks h) { search = cond (is_search_mode (f (state_of h.state)).mode) (no_search_at_rest ks h fresh i) None; state = f (state_of h.state) })
+    ∙ (λ i. record (session_of ks h) { search = none_either (is_search_mode (f (state_of h.state)).mode) i; state = f (state_of h.state) })
 
 -- ANY COMMAND that begins a search, by what is begun of the record
 module _ (directory : Directory) (ks : List MarkedBuffer) (h : Session) (f : State → State) (c : Seeking) (n : Option ℕ) (typed : List ℕ) (fresh : state_of h.state ≡ idle (state_of h.state)) where

@@ -4,7 +4,7 @@ use Rattle.std.specs.Prelude.{Result, Err}
 use Rattle.mgs_model.specs.Access.{Directory}
 use Rattle.mgs_model.specs.Acts.{fails, is_sought_in, permitted, sought_by}
 use Rattle.mgs_model.specs.Outcome.{Outcome}
-use Rattle.mgs_model.specs.Seeking.{AroundSearch, SearchFinish, replace, seek}
+use Rattle.mgs_model.specs.SearchCommands.{AroundSearch, SearchFinish, replace, seek}
 use Rattle.mgs_model.specs.View.{search_seen}
 use Rattle.mgs_model.specs.World.{State}
 use Rattle.mgs_model.specs.declared.message.Message.{Message}

@@ -5,7 +5,7 @@ use Rattle.mgs_model.specs.Acts.{fails, outcome}
 use Rattle.mgs_model.specs.Apply.{session_arranged}
 use Rattle.mgs_model.specs.Events.{state_set}
 use Rattle.mgs_model.specs.Outcome.{Act, No_effect, Outcome, Run}
-use Rattle.mgs_model.specs.Seeking.{AroundSearch, SearchFinish, seek}
+use Rattle.mgs_model.specs.SearchCommands.{AroundSearch, SearchFinish, seek}
 use Rattle.mgs_model.specs.View.{view}
 use Rattle.mgs_model.specs.World.{State}
 use Rattle.mgs_model.specs.World as model

@@ -10,7 +10,7 @@ use Rattle.mgs_laws.specs.Refusals.{may_be_refused}
 use Rattle.mgs_model.specs.Outcome.{Effect, Run}
 use Rattle.mgs_model.specs.Plans as plans
 use Rattle.mgs_model.specs.Plans.{stays}
-use Rattle.mgs_model.specs.Seeking.{met}
+use Rattle.mgs_model.specs.SearchCommands.{met}
 use Rattle.mgs_model.specs.View.{view}
 use Rattle.mgs_model.specs.declared.message.Message.{Message}
 use Rattle.mgs_model.specs.declared.message.Message.TheVariants.{BufferFull}

@@ -1,7 +1,7 @@
 -- What the calls of a session come to in the model's words, and what a prompt makes of a byte.
 use Rattle.std.proofs.Common.{◌≡◌, ℕ, cond, List, [], Option, None, Some, refl, sym, ap, ◌∙◌}
 use Rattle.mgs_model.specs.World.{State, Search}
-use Rattle.mgs_model.specs.Apply.{searches}
+use Rattle.mgs_model.specs.Apply.{is_search_mode}
 use Rattle.mgs_model.specs.View.{View}
 use Rattle.mgs_model.specs.Acts.{asks}
 use Rattle.mgs_model.specs.Turns.{prompt_turn}
@@ -24,8 +24,8 @@ pub at_rest : {A : Type 0} (f g : State → A) → ((state : State) → f (idle 
 at_rest f g same state fresh = ap f fresh ∙ same state ∙ sym (ap g fresh)
 
 -- and its mode has no positions of a search
-pub none_at_rest : (a : Option Search) (state : State) → state ≡ idle state → cond (searches state.mode) a None ≡ None
-none_at_rest a state fresh = ap (λ (o : State). cond (searches o.mode) a None) fresh
+pub none_at_rest : (a : Option Search) (state : State) → state ≡ idle state → cond (is_search_mode state.mode) a None ≡ None
+none_at_rest a state fresh = ap (λ (o : State). cond (is_search_mode o.mode) a None) fresh
 
 pub search_at_rest : (o : held.State) → state_of o ≡ idle (state_of o) → o.search ≡ None
 search_at_rest o fresh = by o.search (ap (λ (state : State). state.mode) fresh)
@@ -42,7 +42,7 @@ pub no_search_at_rest : (ks : List MarkedBuffer) (x : Session) → state_of x.st
 no_search_at_rest ks x fresh = ap (λ (s : Option held_search.Search). search_of (buffers_of ks) s) (search_at_rest x.state fresh)
 
 -- which an act that keeps the mode leaves so
-pub search_kept : (ks : List MarkedBuffer) (x : Session) → state_of x.state ≡ idle (state_of x.state) → (session_of ks x).search ≡ cond (searches (state_of x.state).mode) (session_of ks x).search None
+pub search_kept : (ks : List MarkedBuffer) (x : Session) → state_of x.state ≡ idle (state_of x.state) → (session_of ks x).search ≡ cond (is_search_mode (state_of x.state).mode) (session_of ks x).search None
 search_kept ks x fresh = no_search_at_rest ks x fresh ∙ sym (none_at_rest (session_of ks x).search (state_of x.state) fresh)
 
 -- CALLS

@@ -22,8 +22,8 @@ pub record AroundSearch : Type 0 where
   pub old : List ℕ
   pub typed : List ℕ
 
--- what becomes of a mode: it stays; or, of a query-replace, it goes on, or is over since the last match was met, and so many more were
--- replaced; or, of an incremental search, it stays, and is failing or not
+-- what becomes of a mode: it stays; or, of a query-replace, so many more were replaced, and it goes on, or is over, since there is no
+-- further match (or there was none from the start); or, of an incremental search, it stays, and is failing or not
 pub data ModePlan : Type 0 where
   Keep_mode : ModePlan
   Goes_on : (replaced : ℕ) → ModePlan
@@ -65,7 +65,7 @@ met len n point (Some m) = record { point = At (m + len); sought = Anchor_at m; 
 abbrev pub next_match : AroundSearch → ℕ → ℕ → PointPlan → List ℕ → SearchFinish
 next_match x from n point text = met (length x.old) n point (first_match x.old text from)
 
--- a search goes on in its own buffer; no key leads to a window that shows another
+-- a search goes on in its own buffer; no key leads to a window that shows another. Whether it was failing before a step changes nothing
 abbrev pub seek : Seeking → List ℕ → AroundSearch → Result SearchFinish Message
 seek (SearchFor d) text x =
     if length x.typed == 0 then Err NoPattern
