@@ -41,10 +41,6 @@ pub record Does (d : Directory) (ks ls : List MarkedBuffer) (x y : Session) (see
 abbrev pub DoesStart : Directory → List MarkedBuffer → List MarkedBuffer → Session → Session → List ℕ → List ℕ → Type 0
 DoesStart d ks ls x y pattern put = Does d ks ls x y (state_set (replacing_state pattern put)) (Run (Seek StartReplace) None put)
 
--- the world is as it was
-abbrev pub IsSameWorld : Directory → List MarkedBuffer → List MarkedBuffer → List Session → List Session → Type 0
-IsSameWorld d ks ls xs ys = (next : Option ℕ) → world_of d ls ys next ≡ world_of d ks xs next
-
 -- WHERE IT ACTS: it reads the text, or writes it too
 abbrev pub text_mask : Bool → ℕ
 text_mask writes = cond writes 3 1
