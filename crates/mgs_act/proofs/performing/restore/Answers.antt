@@ -1,13 +1,22 @@
-use Rattle.std.proofs.Common.{◌≡◌, ℕ, ◌+◌, Bool, true, false, cond, List, [], length, sym, ap, subst, ◌∙◌, arith}
+use Rattle.std.proofs.Common.{◌≡◌, ℕ, ◌+◌, ◌-◌, ◌≤◌, ◌&&◌, ◌||◌, nat_lt, ◌==◌, Bool, true, false, cond, List, [], length, refl, sym, ap, subst, ◌∙◌, arith, ltb-false}
 use Rattle.mgs_model.specs.Acts.{is_full}
 use Rattle.mgs_model.specs.Text.{is_edit}
 use Rattle.mgs_model.specs.Apply.{change_first}
 use Rattle.mgs_buffers.specs.MarkedBuffer.{marked_at, marked_edited, marked_named}
-use Rattle.mgs_edit.specs.Reading.{undone_read}
 use Rattle.mgs_plan.specs.Actions.{removed_by}
-use Rattle.mgs_plan.proofs.Leaving.{has_room, no_edit}
+use Rattle.mgs_plan.proofs.Leaving.{no_edit}
 use Rattle.mgs_act.proofs.Marked.{when_refused}
 use Rattle.mgs_act.proofs.performing.restore.Goals as goal
+
+not_long : (edits long last : Bool) → edits ≡ true → (edits && (long || last)) ≡ false → long ≡ false
+not_long true true last e r = cc
+not_long true false last e r = refl
+not_long false long last e r = cc
+
+-- an edit that has room makes a text within the limit
+has_room : (size serial a b : ℕ) (put : List ℕ) → is_edit a b put ≡ true → is_full size serial a b put ≡ false → size - (b - a) + length put ≤ 1048576
+has_room size serial a b put e r =
+    ltb-false 1048576 (size - (b - a) + length put) (not_long (is_edit a b put) (nat_lt 1048576 (size - (b - a) + length put)) (serial == 18446744073709551615) e r)
 
 pub returns-then-not-is_undo_an_edit-clause-ok : goal.returns-then-not-is_undo_an_edit-clause-ok
 returns-then-not-is_undo_an_edit-clause-ok g c = λ kill.
@@ -56,8 +65,8 @@ overflow_add-result g c =
     let u = c.args.undone.now in
     let b = (marked_at c.args.name.now c.args.buffers.now).buffer in
     let removed = removed_by u.serial b.items in
-    let room = has_room (length b.text) b.serial (undone_read b.text [] removed u) (sym (c.is_undo_an_edit.ensures removed (c.requires.can []).len) ∙ c.if-not-is_undo_an_edit.false) (c.requires.can []).room in
-    omega (arith, room.0, (c.requires.can []).within, ap (λ (chars : List ℕ). length chars) c.in_ok-back.ensures)
+    let room = has_room (length b.text) b.serial u.from (u.from + u.gone) removed (sym (c.is_undo_an_edit.ensures removed (c.requires.can []).len) ∙ c.if-not-is_undo_an_edit.false) (c.requires.can []).room in
+    omega (arith, room, (c.requires.can []).within, ap (λ (chars : List ℕ). length chars) c.in_ok-back.ensures)
 
 -- what was taken out then comes back
 pub returns-clause-ok : goal.returns-clause-ok
