@@ -21,19 +21,19 @@ slice_get-numbered n (suc i) (e ∷ es) =
     slice_get-numbered (n - 1) i es ∙ ap (λ s. option_map (item_of s) (slice_get es i)) same
 
 -- none has a serial above the last
-pub find-above : (n k : ℕ) (es : List Edit) → n < k → find (has_serial k) (numbered n es) ≡ None
-find-above n k [] h = refl
-find-above n k (e ∷ es) h =
+pub find_above : (n k : ℕ) (es : List Edit) → n < k → find (has_serial k) (numbered n es) ≡ None
+find_above n k [] h = refl
+find_above n k (e ∷ es) h =
     let go : (b : Bool) → (n == k) ≡ b → cond b (Some (item_of n e)) (find (has_serial k) (numbered (n - 1) es)) ≡ None =
     λ b. elim b as (λ b. (n == k) ≡ b → cond b (Some (item_of n e)) (find (has_serial k) (numbered (n - 1) es)) ≡ None) [
       | true ↦ λ t. absurd (omega (arith, eqb-true n k t))
-      | false ↦ λ t. find-above (n - 1) k es (omega arith)
+      | false ↦ λ t. find_above (n - 1) k es (omega arith)
     ]
     in go (n == k) refl
 
-pub find-numbered : (n k : ℕ) (es : List Edit) → length es ≤ n → k ≤ n → find (has_serial k) (numbered n es) ≡ option_map (item_of k) (slice_get es (n - k))
-find-numbered n k [] few h = refl
-find-numbered n k (e ∷ es) few h =
+pub find_numbered : (n k : ℕ) (es : List Edit) → length es ≤ n → k ≤ n → find (has_serial k) (numbered n es) ≡ option_map (item_of k) (slice_get es (n - k))
+find_numbered n k [] few h = refl
+find_numbered n k (e ∷ es) few h =
     let goal : Bool → Type 0 = λ b. (n == k) ≡ b → cond b (Some (item_of n e)) (find (has_serial k) (numbered (n - 1) es)) ≡ option_map (item_of k) (slice_get (e ∷ es) (n - k)) in
     let go : (b : Bool) → goal b =
     λ b. elim b as goal [
@@ -43,7 +43,7 @@ find-numbered n k (e ∷ es) few h =
           let next : n - k ≡ suc (n - 1 - k) = omega arith in
           let fewer : length es ≤ n - 1 = omega arith in
           let below : k ≤ n - 1 = omega arith in
-          rw next (find-numbered (n - 1) k es fewer below)
+          rw next (find_numbered (n - 1) k es fewer below)
     ]
     in go (n == k) refl
 

@@ -100,18 +100,14 @@ impl Record {
     }
 
     /// The edit of a serial, where it is kept.
+    #[tactic(auto, using(crate::proofs::NumberedLemmas::find_above, crate::proofs::NumberedLemmas::find_numbered))]
     pub fn item(&self, serial: u64) -> Option<&Edit>
         ensures { option_map (item_of serial) (option_copied result) ≡ find (has_serial serial) self.now.items }
     {
         if self.serial < serial {
             return None;
         }
-        let behind = self.serial - serial;
-        if behind < LIMIT as u64 {
-            self.edits.get(behind as usize)
-        } else {
-            None
-        }
+        self.edits.get((self.serial - serial) as usize)
     }
 }
 
