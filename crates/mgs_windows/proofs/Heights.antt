@@ -1,5 +1,5 @@
 -- Lists of windows of which one is changed, goes, or becomes two.
-use Rattle.std.proofs.Common.{◌≡◌, ℕ, zero, suc, ◌+◌, ◌-◌, ◌/◌, ◌<◌, ◌≤◌, ◌≢◌, Bool, true, false, cond, List, [], ◌∷◌, length, Option, Some, None, refl, sym, ap, ◌∙◌, arith, ltb-true}
+use Rattle.std.proofs.Common.{◌≡◌, ℕ, zero, suc, ◌+◌, ◌-◌, ◌/◌, ◌<◌, ◌≤◌, ◌≢◌, Bool, true, false, cond, List, [], ◌∷◌, length, Option, Some, None, refl, sym, ap, ◌∙◌, arith, get_or, ltb-true}
 use Rattle.std.specs.Prelude.{slice_set, slice_index_or, remove, nat_lt, All}
 use Rattle.std.specs.List.{insert}
 use Rattle.std.specs.Option.{option_map}
@@ -9,7 +9,7 @@ use Rattle.mgs_model.specs.Apply.{change_at}
 use Rattle.mgs_windows.specs.declared.WindowMarks.{WindowMarks}
 use Rattle.mgs_windows.specs.declared.Window.{Window}
 use Rattle.mgs_windows.specs.declared.RowPane.{RowPane}
-use Rattle.mgs_windows.specs.Panes.{IsWindowList, closer, given, grown, height_at, mark_set, marked, rows_at, rows_set, showing, showing_rows, shows_at, shrunk, split_at, upper_half, room_of, shown_in, one_shown, windows_without}
+use Rattle.mgs_windows.specs.Panes.{IsWindowList, closer, given, grown, height_at, lower_half, mark_set, marked, rows_set, showing, showing_rows, shows_at, shrunk, split_at, room_of, shown_in, one_shown, windows_without}
 
 -- what is read at an index
 pub height_or : (xs : List Window) (i : ℕ) (x : Window) → i < length xs → (slice_index_or xs i x).height ≡ height_at i xs
@@ -21,11 +21,6 @@ pub shows_or : (xs : List Window) (i : ℕ) (x : Window) → i < length xs → (
 shows_or [] i x within = absurd (omega (arith, within))
 shows_or (z ∷ xs) zero x within = refl
 shows_or (z ∷ xs) (suc i) x within = shows_or xs i x (omega (arith, within))
-
-pub rows_or : (xs : List Window) (i : ℕ) (x : Window) → i < length xs → (slice_index_or xs i x).rows ≡ rows_at i xs
-rows_or [] i x within = absurd (omega (arith, within))
-rows_or (z ∷ xs) zero x within = refl
-rows_or (z ∷ xs) (suc i) x within = rows_or xs i x (omega (arith, within))
 
 -- one is written by what is read of it field by field
 set_so : (xs : List Window) (i : ℕ) (x y z : Window) (f : Window → Window) → slice_set xs i (f (record { height = (slice_index_or xs i x).height; shows = (slice_index_or xs i y).shows; rows = (slice_index_or xs i z).rows })) ≡ change_at i f xs
@@ -282,20 +277,17 @@ half_most h = omega (arith, div-mul-le_self h 2)
 half_least : (h : ℕ) → 2 ≤ h → 1 ≤ h / 2
 half_least h two = le-div 1 h 2 (omega arith) (omega (arith, two))
 
-split_there : (xs : List Window) (k : ℕ) (shows : Option WindowMarks) (r : ℕ) (pane : RowPane) → r ≡ height_at k xs → pane ≡ rows_at k xs → k < length xs → insert (change_at k (shrunk (r - r / 2)) xs) (suc k) (record { height = r - 1 - r / 2; shows = shows; rows = pane }) ≡ split_at k shows xs
-split_there [] k shows r pane is same within = absurd (omega (arith, within))
-split_there (x ∷ xs) zero shows r pane is same within =
-    let upper : x.height - (r - r / 2) ≡ x.height / 2 = omega (arith, is, half_most r, ap (λ h. h / 2) is) in
-    ap (λ (h : ℕ). let w : Window = record { height = h; shows = x.shows; rows = x.rows } in w ∷ record { height = r - 1 - r / 2; shows = shows; rows = pane } ∷ xs) upper
-    ∙ ap (λ (h : ℕ). let w : Window = record { height = h - 1 - h / 2; shows = shows; rows = pane } in upper_half x ∷ w ∷ xs) is
-    ∙ ap (λ (p : RowPane). let w : Window = record { height = x.height - 1 - x.height / 2; shows = shows; rows = p } in upper_half x ∷ w ∷ xs) same
-split_there (x ∷ xs) (suc k) shows r pane is same within = ap (λ ws. x ∷ ws) (split_there xs k shows r pane is same (omega (arith, within)))
+split_there : (xs : List Window) (k : ℕ) (shows : Option WindowMarks) (x : Window) → x ≡ get_or xs k x → k < length xs → insert (change_at k (shrunk (x.height - x.height / 2)) xs) (suc k) (lower_half shows x) ≡ split_at k shows xs
+split_there [] k shows x is within = absurd (omega (arith, within))
+split_there (y ∷ xs) zero shows x is within =
+    let upper : y.height - (y.height - y.height / 2) ≡ y.height / 2 = omega (arith, half_most y.height) in
+    rw is (ap (λ (h : ℕ). let w : Window = record y { height = h } in w ∷ lower_half shows y ∷ xs) upper)
+split_there (y ∷ xs) (suc k) shows x is within = ap (λ ws. y ∷ ws) (split_there xs k shows x is (omega (arith, within)))
 
-pub split_so : (xs : List Window) (k : ℕ) (shows : Option WindowMarks) (r : ℕ) (pane : RowPane) → r ≡ height_at k xs → pane ≡ rows_at k xs → k < length xs → insert (change_at k (shrunk (r - r / 2)) xs) (k + 1) (record { height = r - 1 - r / 2; shows = shows; rows = pane }) ≡ split_at k shows xs
-split_so xs k shows r pane is same within =
+pub split_so : (xs : List Window) (k : ℕ) (shows : Option WindowMarks) (x : Window) → x ≡ get_or xs k x → k < length xs → insert (change_at k (shrunk (x.height - x.height / 2)) xs) (k + 1) (lower_half shows x) ≡ split_at k shows xs
+split_so xs k shows x is within =
     let next : k + 1 ≡ suc k = omega arith in
-    ap (λ (n : ℕ). let w : Window = record { height = r - 1 - r / 2; shows = shows; rows = pane } in insert (change_at k (shrunk (r - r / 2)) xs) n w) next
-    ∙ split_there xs k shows r pane is same within
+    ap (λ (n : ℕ). insert (change_at k (shrunk (x.height - x.height / 2)) xs) n (lower_half shows x)) next ∙ split_there xs k shows x is within
 
 room_split : (xs : List Window) (k : ℕ) (shows : Option WindowMarks) → k < length xs → 3 ≤ height_at k xs → room_of (split_at k shows xs) ≡ room_of xs
 room_split [] k shows within high = absurd (omega (arith, within))

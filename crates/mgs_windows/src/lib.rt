@@ -8,7 +8,7 @@ mod without_buffer;
 ghost use Rattle.std.specs.Prelude.{◌≡◌, ◌≢◌, ◌-◌, ◌/◌, ◌+◌, ◌<◌, ◌≤◌, [], ◌∷◌, length, slice_get, vec_capacity, Some, OnOk, ◌^◌};
 ghost use Rattle.mgs_model.specs.Apply.{change_at};
 ghost use Rattle.std.specs.Option.{option_map};
-ghost use Rattle.mgs_windows.specs.Panes.{WindowList, IsWindowList, closer, given, grown, height_at, left_by, list_without_buffer, mark_set, marked, one_shown, places_after, rows_at, rows_set, showing, showing_rows, shown_in, shows_at, shrunk, single_window, split_at, window_removed, window_rows_shown, window_shown, window_split, windows_without};
+ghost use Rattle.mgs_windows.specs.Panes.{WindowList, IsWindowList, closer, given, grown, height_at, left_by, list_without_buffer, lower_half, mark_set, marked, one_shown, places_after, rows_set, showing, showing_rows, shown_in, shows_at, shrunk, single_window, split_at, window_removed, window_rows_shown, window_shown, window_split, windows_without};
 ghost use Rattle.mgs_windows.specs.declared.RowPane.TheVariants.{NoRows};
 
 use crate::places::put_place;
@@ -220,15 +220,6 @@ fn shows_of(windows: &[Window], index: usize) -> Option<WindowMarks>
     windows[index].shows
 }
 
-/// The rows of the window at an index.
-#[tactic(auto, using(crate::proofs::Heights::rows_or))]
-fn rows_of(windows: &[Window], index: usize) -> RowPane
-    requires { index < length windows.now }
-    ensures { result ≡ rows_at index windows.now }
-{
-    windows[index].rows
-}
-
 /// So many rows go from one window to another.
 fn give_rows(list: &mut ArrayVec<Window, 8>, from: usize, to: usize, rows: usize)
     requires from { from < length list.old.items }
@@ -264,27 +255,29 @@ fn halve(list: &mut ArrayVec<Window, 8>, index: usize, rows: usize)
     shrink(list.as_mut_slice(), index, rows - rows / 2);
 }
 
+/// The lower half of a window that becomes two, which has a mode line of its own.
+fn lower_half(window: Window, shows: Option<WindowMarks>) -> Window
+    requires { 1 ≤ window.height }
+    ensures { result ≡ lower_half shows window }
+{
+    Window {
+        height: window.height - 1 - window.height / 2,
+        shows,
+        rows: window.rows,
+    }
+}
+
 /// The window at an index becomes two.
+#[tactic(auto, using(crate::proofs::Heights::height_or, crate::proofs::Heights::split_so))]
 fn split_window(list: &mut ArrayVec<Window, 8>, index: usize, shows: Option<WindowMarks>)
     requires within { index < length list.old.items }
     requires few { length list.old.items < 8 }
     requires high { 1 ≤ height_at index list.old.items }
     ensures { list.new.items ≡ split_at index shows list.old.items }
 {
-    // The prover hands on a window only where each type in it was named.
-    let _mark: Option<MarkId> = None;
-    let rows = height_of(list.as_slice(), index);
-    let height = rows - 1 - rows / 2;
-    let pane = rows_of(list.as_slice(), index);
-    halve(list, index, rows);
-    list.insert(
-        index + 1,
-        Window {
-            height,
-            shows,
-            rows: pane,
-        },
-    );
+    let window = list[index];
+    halve(list, index, window.height);
+    list.insert(index + 1, lower_half(window, shows));
 }
 
 /// The index of the selected window, once the one at `index` is gone.
