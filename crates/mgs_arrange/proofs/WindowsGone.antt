@@ -12,7 +12,7 @@ use Rattle.mgs_model.specs.declared.message.Message.TheVariants.{OnlyOneWindow}
 use Rattle.mgs_model.specs.declared.session.Arrangement.TheVariants.{DeleteWindow}
 use Rattle.mgs_buffers.specs.MarkedBuffer.{MarkedBuffer}
 use Rattle.mgs_windows.specs.Panes as panes
-use Rattle.mgs_windows.specs.Panes.{height_at, is_place_in, places_after, rows_at, shows_at, window_removed, windows_without, with_place}
+use Rattle.mgs_windows.specs.Panes.{WindowList, height_at, is_place_in, places_after, rows_at, shows_at, window_removed, windows_without, with_place}
 use Rattle.mgs_windows.specs.declared.WindowMarks.{WindowMarks}
 use Rattle.mgs_windows.specs.declared.Window.{Window}
 use Rattle.mgs_windows.specs.declared.RowPane.{RowPane}
@@ -26,7 +26,6 @@ use Rattle.mgs_world.specs.WindowMarks.{WindowMarksDropped}
 use Rattle.mgs_world.proofs.WindowMarks.{same_sizes, session_local}
 use Rattle.mgs_world.proofs.Worlds.{same_positions}
 use Rattle.mgs_arrange.specs.Arranged.{arranged_or_told, grown, left_by, others_gone, rearranged, shrunk, window_gone}
-use Rattle.mgs_arrange.specs.Arranging.{Rearranged}
 use Rattle.mgs_arrange.proofs.Others.{others_after_above, others_after_below, others_of_one}
 use Rattle.mgs_arrange.proofs.Slots.{map_remove}
 
@@ -130,26 +129,21 @@ after_uses m i None ps = omega arith
 after_uses m i (Some x) ps = put_uses m i x ps
 
 -- what is given up is what the session uses no longer
-gone_uses : (m : List ℕ) (i k to : ℕ) (x : Session) → k < length x.windows.windows → session_uses m i (record x { windows = window_removed k to x.windows }) + window_marks_uses m i (panes.left_by (shows_at k x.windows.windows) x.windows.places) ≡ session_uses m i x
-gone_uses m i k to x within =
-    omega (arith, without_uses m i k to x.windows.windows within, after_uses m i (shows_at k x.windows.windows) x.windows.places)
+pub gone_uses : (m : List ℕ) (i k to : ℕ) (x : Session) (o : Option WindowMarks) (w : WindowList) → k < length x.windows.windows → o ≡ panes.left_by (shows_at k x.windows.windows) x.windows.places → w ≡ window_removed k to x.windows → session_uses m i (record x { windows = w }) + window_marks_uses m i o ≡ session_uses m i x
+gone_uses m i k to x o w within e list =
+    rw (e, list) (omega (arith, without_uses m i k to x.windows.windows within, after_uses m i (shows_at k x.windows.windows) x.windows.places))
 
 -- ONE GOES
 
-pub left_sound : (ks : List MarkedBuffer) (x : Session) (k to : ℕ) → k < length x.windows.windows → IsSessionSound ks x → IsShownSound ks (panes.left_by (shows_at k x.windows.windows) x.windows.places)
-left_sound ks x k to within sound = record { once = λ m i. omega (arith, sound.once m i, gone_uses m i k to x within) }
+pub left_sound : (ks : List MarkedBuffer) (x : Session) (k : ℕ) (o : Option WindowMarks) → IsSessionSound ks x → k < length x.windows.windows → o ≡ panes.left_by (shows_at k x.windows.windows) x.windows.places → IsShownSound ks o
+left_sound ks x k o sound within e = record { once = λ m i. omega (arith, sound.once m i, gone_uses m i k 0 x o (window_removed k 0 x.windows) within e refl) }
 
-pub rest_sound : (ks ls : List MarkedBuffer) (x : Session) (k to : ℕ) → k < length x.windows.windows → IsSessionSound ks x → WindowMarksDropped (panes.left_by (shows_at k x.windows.windows) x.windows.places) ks ls → IsSessionSound ls (record x { windows = window_removed k to x.windows })
-rest_sound ks ls x k to within sound h = record { once = λ m i. omega (arith, sound.once m i, gone_uses m i k to x within, h.uses m i) }
-
-pub rest_rearranged : (ks ls : List MarkedBuffer) (x : Session) (k to : ℕ) → k < length x.windows.windows → WindowMarksDropped (panes.left_by (shows_at k x.windows.windows) x.windows.places) ks ls → Rearranged ks ls x (record x { windows = window_removed k to x.windows })
-rest_rearranged ks ls x k to within h = record { buffers = h.buffers; uses = λ m i. omega (arith, gone_uses m i k to x within, h.uses m i); stay = λ m i state. h.stay m i; size = refl }
-
-pub rest_gone : (ks ls : List MarkedBuffer) (x : Session) (k to : ℕ) → k < length x.windows.windows → IsSessionSound ks x → WindowMarksDropped (panes.left_by (shows_at k x.windows.windows) x.windows.places) ks ls → session_of ls (record x { windows = window_removed k to x.windows }) ≡ window_gone k to (session_of ks x)
-rest_gone ks ls x k to within sound h =
-    let y : Session = record x { windows = window_removed k to x.windows } in
-    session_local ls ks y (same_sizes ks ls h.buffers) (λ n i used. h.stay n i (omega (arith, used, gone_uses n i k to x within, sound.once n i)) (omega (arith, used, gone_uses n i k to x within, sound.once n i, h.uses n i)))
-    ∙ session_gone ks x k to within
+pub rest_gone : (ks ls : List MarkedBuffer) (x : Session) (k to : ℕ) (o : Option WindowMarks) (w : WindowList) → IsSessionSound ks x → WindowMarksDropped o ks ls → k < length x.windows.windows → o ≡ panes.left_by (shows_at k x.windows.windows) x.windows.places → w ≡ window_removed k to x.windows
+    → session_of ls (record x { windows = w }) ≡ window_gone k to (session_of ks x)
+rest_gone ks ls x k to o w sound h within e list =
+    let uses : (n : List ℕ) (i : ℕ) → session_uses n i (record x { windows = w }) + window_marks_uses n i o ≡ session_uses n i x = λ n i. gone_uses n i k to x o w within e list in
+    session_local ls ks (record x { windows = w }) (same_sizes ks ls h.buffers) (λ n i used. h.stay n i (omega (arith, used, uses n i, sound.once n i)) (omega (arith, used, uses n i, sound.once n i, h.uses n i)))
+    ∙ rw list (session_gone ks x k to within)
 
 -- THE SELECTED ONE GOES
 

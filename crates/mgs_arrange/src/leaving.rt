@@ -15,6 +15,7 @@ use mgs_session::{Session, break_off};
 use mgs_world::drop_window_marks;
 
 // The window at an index goes: its rows go to the heir, and its marks are the session's place in its buffer.
+#[tactic(auto, using(crate::proofs::WindowsGone::left_sound, crate::proofs::WindowsGone::gone_uses, crate::proofs::WindowsGone::rest_gone))]
 fn leave<T: Marked + Drop>(
     buffers: &mut Buffers<T>,
     session: &mut Session,
@@ -26,8 +27,8 @@ fn leave<T: Marked + Drop>(
     requires heir { heir < length session.old.windows.windows }
     requires apart { heir ≢ index }
     ensures windows { session.new ≡ record session.old { windows = window_removed index heir session.old.windows } }
-    ensures sound { IsSessionSound buffers.new session.new }
     ensures rearranged { Rearranged buffers.old buffers.new session.old session.new }
+    ensures sound { IsSessionSound buffers.new session.new }
     ensures gone { session_of buffers.new session.new ≡ window_gone index heir (session_of buffers.old session.old) }
 {
     let before = session.windows.remove(index, heir);
