@@ -11,6 +11,10 @@ use Rattle.mgs_model.specs.Acts.{fails, outcome, without_all}
 use Rattle.mgs_model.specs.Plans.{count_of, failed_state, kind_failed}
 use Rattle.mgs_model.specs.Turns.{Turn, Keep, Do, first_played, todo_turn}
 use Rattle.mgs_model.specs.Events.{act_effects, refused_state, saved_by}
+use Rattle.mgs_model.specs.declared.errors.Keyed.{Keyed}
+use Rattle.mgs_model.specs.declared.errors.Keyed.TheVariants.{Done, Quit}
+use Rattle.mgs_model.specs.declared.touched.Touched.{Touched}
+use Rattle.mgs_model.specs.declared.touched.Touched.TheVariants.{Anywhere, Nowhere}
 use Rattle.mgs_model.specs.declared.message.Message.{Message}
 use Rattle.mgs_model.specs.declared.message.Message.TheVariants.{InMacro, NoMacro, NoSuchCommand, TooMany}
 use Rattle.mgs_model.specs.declared.session.Command.{Command}
@@ -156,6 +160,15 @@ pub record TurnLeft (replaces : Bool) (old new : List Todo) : Type 0 where
 abbrev pub IsTurnStep : Directory → List MarkedBuffer → Session → Session → ModeBefore → ByteStep → Type 0
 IsTurnStep directory ks old new b step =
     IsStep (SeesNames directory ks old.user) (λ v. todo_turn v (state_of old.state) old.state.player.todo) (is_played old.state.player.todo) (TurnLeft (replaces step) old.state.player.todo) old new b step
+
+-- what is answered of a step that asks for no act, and what it touched
+abbrev pub step_keyed : ByteStep → Keyed
+step_keyed Ends = Quit
+step_keyed _ = Done
+
+abbrev pub step_touched : ByteStep → Touched
+step_touched Ends = Anywhere
+step_touched _ = Nowhere
 
 -- the first act of a play, or none of it
 abbrev pub IsFirstStep : Directory → List MarkedBuffer → model.State → Session → Session → ℕ → ModeBefore → ByteStep → Type 0

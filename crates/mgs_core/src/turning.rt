@@ -15,7 +15,7 @@ ghost use Rattle.mgs_core.specs.declared.byte_acts.ModeBefore.TheVariants.{Plain
 ghost use Rattle.mgs_core.specs.Held.{AreSettled};
 ghost use Rattle.mgs_core.specs.Judged.{judged_touched};
 ghost use Rattle.mgs_core.specs.ByteActs.{CanDo, IsReady, refused, state_before};
-ghost use Rattle.mgs_core.specs.ByteSteps.{IsFirstStep, IsTurnStep};
+ghost use Rattle.mgs_core.specs.ByteSteps.{IsFirstStep, IsTurnStep, step_keyed, step_touched};
 ghost use Rattle.mgs_core.specs.Turns.{IsFit, goes_on, has_all, touched_both, weight};
 
 use crate::byte_acts::{Before, ByteAct, ModeBefore, do_byte_act};
@@ -205,6 +205,17 @@ fn act_turn<T: Marked + Drop, S: Store>(
     }
 }
 
+/// What is answered of a step that asks for no act, and what it touched.
+fn step_answer(step: ByteStep) -> (Keyed, Touched)
+    ensures keyed { result.0 ≡ step_keyed step }
+    ensures touched { result.1 ≡ step_touched step }
+{
+    match step {
+        ByteStep::Ends => (Keyed::Quit, Touched::Anywhere),
+        _ => (Keyed::Done, Touched::Nowhere),
+    }
+}
+
 /// The next of what the session at `at` has still to do is done, or refused for want of memory, or ends its session, which is then to be
 /// taken out. It tells what it touched, and whether it changed so little that each window stands where it stood. No window settles.
 fn take_turn<T: Marked + Drop, S: Store>(
@@ -242,10 +253,8 @@ fn take_turn<T: Marked + Drop, S: Store>(
         kind: session.state.kind,
         is_playing,
     };
-    match next_step(buffers, judge, directory, &mut sessions[at], &mut was.mode) {
-        ByteStep::Kept => (Keyed::Done, Touched::Nowhere, true),
-        ByteStep::Failed => (Keyed::Done, Touched::Nowhere, true),
-        ByteStep::Ends => (Keyed::Quit, Touched::Anywhere, true),
+    let step = next_step(buffers, judge, directory, &mut sessions[at], &mut was.mode);
+    match step {
         ByteStep::Acts(act) => {
             let done = act_turn(
                 alloc, buffers, judge, directory, sessions, at, store, id, act, &mut was,
@@ -255,6 +264,10 @@ fn take_turn<T: Marked + Drop, S: Store>(
                 Ok(touched) => (Keyed::Done, touched, false),
                 Err(Short) => (Keyed::Short, Touched::Nowhere, false),
             }
+        }
+        _ => {
+            let (keyed, touched) = step_answer(step);
+            (keyed, touched, true)
         }
     }
 }

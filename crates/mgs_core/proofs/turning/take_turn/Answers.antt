@@ -1,7 +1,7 @@
 use Rattle.std.proofs.Common.{◌∙◌, ℕ, Option, None, get_or, ap, subst, sym}
 use Rattle.std.specs.Prelude.{slice_set}
 use Rattle.std.proofs.lemmas.List.{get_or_default}
-use Rattle.mgs_model.specs.declared.touched.Touched.TheVariants.{Anywhere, Nowhere}
+use Rattle.mgs_model.specs.declared.touched.Touched.TheVariants.{Nowhere}
 use Rattle.mgs_model.specs.Events.{refused_state}
 use Rattle.mgs_laws.specs.Apart.{Apart}
 use Rattle.mgs_laws.proofs.Apart.{apart_state, apart_then}
@@ -12,18 +12,19 @@ use Rattle.mgs_world.specs.Worlds.{size_in, world_of}
 use Rattle.mgs_world.proofs.Soundness.{sound_set, sizes_set}
 use Rattle.mgs_core.specs.declared.byte_acts.Before.{Before}
 use Rattle.mgs_core.specs.ByteActs.{before_turn}
+use Rattle.mgs_core.specs.Turns.{TurnedBy}
 use Rattle.mgs_core.proofs.Sizes.{place_same}
 use Rattle.mgs_core.proofs.Still.{alone_written}
-use Rattle.mgs_core.proofs.Taken.{acted_fit, acted_turn, acts_less, ends_turn, failed_fit, failed_less, failed_turn, kept_fit, kept_less, kept_turn, left_within, ready_put, refused_turn, some_there, step_apart, step_stands, within_still}
+use Rattle.mgs_core.proofs.Taken.{acted_fit, acted_turn, acts_less, idle_fit, idle_less, idle_turn, left_within, ready_put, refused_turn, some_there, step_apart, step_stands, step_state, within_still}
 use Rattle.mgs_core.proofs.turning.take_turn.Goals as goal
 
-pub next_step-requires-clause-some : goal.next_step-requires-clause-some
-next_step-requires-clause-some g c none =
+pub next_step-step-requires-clause-some : goal.next_step-step-requires-clause-some
+next_step-step-requires-clause-some g c none =
     let xs = c.args.sessions.now in
     some_there xs c.args.at (get_or xs c.args.at c.index-sessions-at-2.result) c.requires.within (ap (get_or xs c.args.at) c.index-sessions-at-2.is) c.requires.some none
 
-pub returns-in-Kept : goal.returns-in-Kept
-returns-in-Kept g c =
+pub returns-in_default : goal.returns-in_default
+returns-in_default g c =
     let d = c.args.directory.now in
     let ks = c.args.buffers.now in
     let xs = c.args.sessions.now in
@@ -31,72 +32,25 @@ returns-in-Kept g c =
     let at = c.args.at in
     let h = get_or xs at c.index-sessions-at-2.result in
     let is_h = ap (get_or xs at) c.index-sessions-at-2.is in
-    let y = c.next_step.new.session in
-    let b = c.next_step.new.before in
+    let y = c.next_step-step.new.session in
+    let b = c.next_step-step.new.before in
     let place = c.requires.place in
     let within = c.requires.within in
-    let s = c.in-Kept.ensures.step in
+    let step = c.next_step-step.result in
+    let s = c.next_step-step.ensures.step in
+    let none = c.in_default.not-Acts in
+    let alone = step_state d ks xs None id at h y place within is_h b step s in
+    let answered = c.step_answer-keyed.ensures.keyed in
     record {
-      judged = c.next_step.ensures.judged;
-      sound = sound_set ks xs at h y is_h (λ n i. ap (session_uses n i) s.state) c.requires.sound;
-      sizes = sizes_set xs at h y is_h (ap size_in s.state);
-      less = λ e. kept_less d ks xs None id at h y place within is_h b _ _ (left_within at ks (slice_set xs at y) c.len-count.ensures.limits) s;
-      fit = λ e. kept_fit d ks xs None id at h y place within is_h b s;
-      turned = λ next. kept_turn d ks xs next id at h y place within is_h b _ s;
-      stands = λ still rests next. step_stands d ks xs next id at h y place within is_h s.state s.stays (rests next);
-      alone = λ still. alone_written at ks xs h y is_h s.state;
-      touched = λ next. step_apart d ks xs next id at h y place within is_h Nowhere s.state s.stays;
-    }
-
-pub returns-in-Failed : goal.returns-in-Failed
-returns-in-Failed g c =
-    let d = c.args.directory.now in
-    let ks = c.args.buffers.now in
-    let xs = c.args.sessions.now in
-    let id = c.args.id in
-    let at = c.args.at in
-    let h = get_or xs at c.index-sessions-at-2.result in
-    let is_h = ap (get_or xs at) c.index-sessions-at-2.is in
-    let y = c.next_step.new.session in
-    let b = c.next_step.new.before in
-    let place = c.requires.place in
-    let within = c.requires.within in
-    let s = c.in-Failed.ensures.step in
-    record {
-      judged = c.next_step.ensures.judged;
-      sound = sound_set ks xs at h y is_h (λ n i. ap (session_uses n i) s.state) c.requires.sound;
-      sizes = sizes_set xs at h y is_h (ap size_in s.state);
-      less = λ e. failed_less d ks xs None id at h y place within is_h b _ _ s c.requires.some;
-      fit = λ e. failed_fit d ks xs None id at h y place within is_h b s;
-      turned = λ next. failed_turn d ks xs next id at h y place within is_h b _ s;
-      stands = λ still rests next. step_stands d ks xs next id at h y place within is_h s.state s.stays (rests next);
-      alone = λ still. alone_written at ks xs h y is_h s.state;
-      touched = λ next. step_apart d ks xs next id at h y place within is_h Nowhere s.state s.stays;
-    }
-
-pub returns-in-Ends : goal.returns-in-Ends
-returns-in-Ends g c =
-    let d = c.args.directory.now in
-    let ks = c.args.buffers.now in
-    let xs = c.args.sessions.now in
-    let id = c.args.id in
-    let at = c.args.at in
-    let h = get_or xs at c.index-sessions-at-2.result in
-    let is_h = ap (get_or xs at) c.index-sessions-at-2.is in
-    let y = c.next_step.new.session in
-    let place = c.requires.place in
-    let within = c.requires.within in
-    let s = c.in-Ends.ensures.step in
-    record {
-      judged = c.next_step.ensures.judged;
-      sound = sound_set ks xs at h y is_h (λ n i. ap (session_uses n i) s.state) c.requires.sound;
-      sizes = sizes_set xs at h y is_h (ap size_in s.state);
-      less = λ e. cc;
-      fit = λ e. cc;
-      turned = λ next. ends_turn d ks xs next id at h y place within is_h c.next_step.new.before _ s;
-      stands = λ still rests next. step_stands d ks xs next id at h y place within is_h s.state s.stays (rests next);
-      alone = λ still. alone_written at ks xs h y is_h s.state;
-      touched = λ next. step_apart d ks xs next id at h y place within is_h Anywhere s.state s.stays;
+      judged = c.next_step-step.ensures.judged;
+      sound = sound_set ks xs at h y is_h (λ n i. ap (session_uses n i) alone.0) c.requires.sound;
+      sizes = sizes_set xs at h y is_h (ap size_in alone.0);
+      less = λ e. idle_less d ks xs None id at h y place within is_h b step _ _ (left_within at ks (slice_set xs at y) c.len-count.ensures.limits) c.requires.some none s (sym answered ∙ e);
+      fit = λ e. idle_fit d ks xs None id at h y place within is_h b step none s (sym answered ∙ e);
+      turned = λ next. subst (TurnedBy _ _ (world_of d ks xs next) (world_of d ks (slice_set xs at y) next) _ _ id) (sym answered) (idle_turn d ks xs next id at h y place within is_h b step _ none s);
+      stands = λ still rests next. step_stands d ks xs next id at h y place within is_h alone.0 alone.1 (rests next);
+      alone = λ still. alone_written at ks xs h y is_h alone.0;
+      touched = λ next. step_apart d ks xs next id at h y place within is_h c.step_answer-keyed.result.1 alone.0 alone.1;
     }
 
 pub act_turn-done-requires : goal.act_turn-done-requires
@@ -105,7 +59,7 @@ act_turn-done-requires g c =
     let at = c.args.at in
     let h = get_or xs at c.index-sessions-at-2.result in
     let is_h = ap (get_or xs at) c.index-sessions-at-2.is in
-    let y = c.next_step.new.session in
+    let y = c.next_step-step.new.session in
     let s = c.in-Acts.ensures.step in
     let same = sizes_set xs at h y is_h (ap size_in s.state) in
     record {
@@ -114,7 +68,7 @@ act_turn-done-requires g c =
       within = within_still at xs (slice_set xs at y) c.requires.within same;
       ready = ready_put xs at y c.in-Acts.act c.requires.within s.ready;
       here = s.here;
-      judged = c.next_step.ensures.judged;
+      judged = c.next_step-step.ensures.judged;
     }
 
 pub returns-in-Ok : goal.returns-in-Ok
@@ -126,8 +80,8 @@ returns-in-Ok g c =
     let at = c.args.at in
     let h = get_or xs at c.index-sessions-at-2.result in
     let is_h = ap (get_or xs at) c.index-sessions-at-2.is in
-    let y = c.next_step.new.session in
-    let b = c.next_step.new.before in
+    let y = c.next_step-step.new.session in
+    let b = c.next_step-step.new.before in
     let place = c.requires.place in
     let within = c.requires.within in
     let act = c.in-Acts.act in
@@ -163,8 +117,8 @@ returns-in-Err g c =
     let at = c.args.at in
     let h = get_or xs at c.index-sessions-at-2.result in
     let is_h = ap (get_or xs at) c.index-sessions-at-2.is in
-    let y = c.next_step.new.session in
-    let b = c.next_step.new.before in
+    let y = c.next_step-step.new.session in
+    let b = c.next_step-step.new.before in
     let place = c.requires.place in
     let within = c.requires.within in
     let act = c.in-Acts.act in
