@@ -8,6 +8,7 @@ ghost use Rattle.mgs_world.specs.Worlds.{buffers_of};
 ghost use Rattle.mgs_world.specs.Sound.{IsSessionSound, IsWindowSound};
 ghost use Rattle.mgs_buffers.specs.Judging.{AreJudged, rules_kept};
 ghost use Rattle.mgs_buffers.specs.MarkedBuffer.{HasBuffer, marked_at};
+ghost use Rattle.mgs_buffers.specs.Permitting.{right_decision};
 ghost use Rattle.mgs_grid.specs.Panes.{with_rows};
 ghost use Rattle.mgs_grid.specs.RowSets.{has_row, AreIn, AreSameApart};
 ghost use Rattle.mgs_model.specs.World.{may};
@@ -204,6 +205,28 @@ fn redraw_text<T: Marked + Drop>(
     (measures.row.min(height - 1), measures.col)
 }
 
+/// Why a buffer's text may not be read.
+fn denial<T: Marked + Drop>(
+    found: &Found<T>,
+    judge: &mut Judge,
+    directory: &Directory,
+    user: &Name,
+) -> Decision
+    requires { AreJudged directory.now (rules_kept found.now.all) judge.old }
+    ensures value { result ≡ right_decision directory.now (marked_at found.now.name found.now.all).buffer user.now ReadData }
+    ensures judged { AreJudged directory.now (rules_kept found.now.all) judge.new }
+{
+    found.decide_by(judge, directory, user, Right::ReadData)
+}
+
+/// Draws the mode line of a text that may not be read: it tells no place in it.
+fn draw_unread_mode(name: &Name, heading: Option<bool>, row: usize, grid: &mut Grid)
+    requires { row < grid.old.rows }
+    ensures { grid.new ≡ with_rows row (mode_row grid.old.cols (buffer_mode (told_as name.now heading) None) ∷ []) grid.old }
+{
+    grid.draw_mode(row, named(name, heading), None);
+}
+
 /// Notes that all rows of a window were drawn, and that it shows no text that is kept.
 fn note_rows(first: usize, height: usize, texts: &mut DrawnTexts, rows: &mut RowSet)
     requires { first + height + 1 ≤ ROWS_MAX }
@@ -271,10 +294,9 @@ fn redraw_window<T: Marked + Drop>(
             grid,
         );
     }
-    let decision = found.decide_by(judge, directory, user, Right::ReadData);
+    let decision = denial(&found, judge, directory, user);
     grid.draw_unread(place.first, height, decision);
-    let heading = named(found.name(), heading);
-    grid.draw_mode(place.first + height, heading, None);
+    draw_unread_mode(found.name(), heading, place.first + height, grid);
     note_rows(place.first, height, texts, rows);
     (0, 0)
 }

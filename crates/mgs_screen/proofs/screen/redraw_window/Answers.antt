@@ -5,9 +5,9 @@ use Rattle.mgs_model.specs.Rows.{Row, mode_row, buffer_mode, unread_rows}
 use Rattle.mgs_grid.specs.Cells.{rows_put}
 use Rattle.mgs_model.specs.declared.right.Right.TheVariants.{ReadData}
 use Rattle.mgs_model.specs.declared.entry.Decision.{Decision}
-use Rattle.mgs_model.specs.Access.{decider, decision_by}
 use Rattle.mgs_buffers.specs.Found.{Named}
 use Rattle.mgs_buffers.specs.MarkedBuffer.{MarkedBuffer, HasBuffer, marked_at}
+use Rattle.mgs_buffers.specs.Permitting.{right_decision}
 use Rattle.mgs_windows.specs.declared.WindowMarks.{WindowMarks}
 use Rattle.mgs_windows.specs.declared.Window.{Window}
 use Rattle.mgs_model.specs.Draw.{pane_rows}
@@ -67,13 +67,13 @@ returns-clause-lines g c =
     let cannot : may c.args.directory.now user ReadData (marked_at x.name ks).buffer ≡ false =
     sym (ap (λ (f : Named). may c.args.directory.now user ReadData (marked_at f.name f.all).buffer) c.find-found.ensures) ∙ sym c.seen-heading.ensures.reads ∙ c.if-reads.false in
     let head : Named → Option (List ℕ × Bool) = λ (f : Named). heading_to c.args.directory.now user f.all f.name in
-    let why : Named → Decision = λ (f : Named). decision_by (decider c.args.directory.now (marked_at f.name f.all).buffer.owners user (marked_at f.name f.all).buffer.entries) (ReadData ∷ []) in
+    let why : Named → Decision = λ (f : Named). right_decision c.args.directory.now (marked_at f.name f.all).buffer user ReadData in
     let drawn : Option (List ℕ × Bool) → Decision → List Row = λ (h : Option (List ℕ × Bool)) (d : Decision).
     rows_put c.args.place.first (unread_rows cols w.height d ++ mode_row cols (buffer_mode h None) ∷ []) c.args.grid.now.lines in
-    (pane_put c.args.place.first w.height (unread_rows cols w.height c.decide_by-decision.result) (buffer_mode c.named-heading.result None) c.args.grid.now c.draw_unread.new.self c.draw_mode.new.self
-    c.requires.room.rows c.cols-cols.ensures.picture.count (length-unread_rows cols w.height c.decide_by-decision.result) c.draw_unread.ensures c.draw_mode.ensures).lines
-    ∙ ap (λ (h : Option (List ℕ × Bool)). drawn h c.decide_by-decision.result) (c.named-heading.ensures ∙ ap (λ (n : List ℕ). told_as n c.seen-heading.result.0) c.name.ensures.value ∙ c.seen-heading.ensures.heading)
-    ∙ ap (drawn (head c.find-found.result)) c.decide_by-decision.ensures.value
+    (pane_put c.args.place.first w.height (unread_rows cols w.height c.denial-decision.result) (buffer_mode (told_as c.name.result.now c.seen-heading.result.0) None) c.args.grid.now c.draw_unread.new.self c.draw_unread_mode.new.grid
+    c.requires.room.rows c.cols-cols.ensures.picture.count (length-unread_rows cols w.height c.denial-decision.result) c.draw_unread.ensures c.draw_unread_mode.ensures).lines
+    ∙ ap (λ (h : Option (List ℕ × Bool)). drawn h c.denial-decision.result) (ap (λ (n : List ℕ). told_as n c.seen-heading.result.0) c.name.ensures.value ∙ c.seen-heading.ensures.heading)
+    ∙ ap (drawn (head c.find-found.result)) c.denial-decision.ensures.value
     ∙ ap (λ (f : Named). drawn (head f) (why f)) c.find-found.ensures
     ∙ ap (λ (rows : List Row). rows_put c.args.place.first rows c.args.grid.now.lines) (sym (window_unread c.args.place.selected cols c.args.directory.now user ks w x c.in-Some.is kept cannot))
 
@@ -113,24 +113,24 @@ returns-in_default-clause-drawn g c =
 pub returns-clause-stands : goal.returns-clause-stands
 returns-clause-stands g c =
     let p : Picture = c.args.grid.now in
-    let q : Picture = c.draw_mode.new.self in
+    let q : Picture = c.draw_unread_mode.new.grid in
     let w : Window = c.args.window.now in
     let first : ℕ = c.args.place.first in
-    let pane : List Row = unread_rows p.cols w.height c.decide_by-decision.result in
-    let size : length pane ≡ w.height = length-unread_rows p.cols w.height c.decide_by-decision.result in
-    let mode : List ℕ = buffer_mode c.named-heading.result None in
-    let put : IsPut first (pane ++ mode_row p.cols mode ∷ []) p q = pane_put first w.height pane mode p c.draw_unread.new.self q c.requires.room.rows c.cols-cols.ensures.picture.count size c.draw_unread.ensures c.draw_mode.ensures in
+    let pane : List Row = unread_rows p.cols w.height c.denial-decision.result in
+    let size : length pane ≡ w.height = length-unread_rows p.cols w.height c.denial-decision.result in
+    let mode : List ℕ = buffer_mode (told_as c.name.result.now c.seen-heading.result.0) None in
+    let put : IsPut first (pane ++ mode_row p.cols mode ∷ []) p q = pane_put first w.height pane mode p c.draw_unread.new.self q c.requires.room.rows c.cols-cols.ensures.picture.count size c.draw_unread.ensures c.draw_unread_mode.ensures in
     texts_passed (buffers_of c.args.buffers.now) p q first (first + (w.height + 1)) (pane ++ mode_row p.cols mode ∷ []) c.args.drawn_texts.now c.args.texts.now c.note_rows-2.new.texts put
     (omega (arith, length-append pane (mode_row p.cols mode ∷ []), size)) c.note_rows-2.ensures.texts c.requires.stands
 
 pub returns-clause-drawn : goal.returns-clause-drawn
 returns-clause-drawn g c =
     let p : Picture = c.args.grid.now in
-    let q : Picture = c.draw_mode.new.self in
+    let q : Picture = c.draw_unread_mode.new.grid in
     let w : Window = c.args.window.now in
     let first : ℕ = c.args.place.first in
-    let pane : List Row = unread_rows p.cols w.height c.decide_by-decision.result in
-    let size : length pane ≡ w.height = length-unread_rows p.cols w.height c.decide_by-decision.result in
-    let mode : List ℕ = buffer_mode c.named-heading.result None in
-    let put : IsPut first (pane ++ mode_row p.cols mode ∷ []) p q = pane_put first w.height pane mode p c.draw_unread.new.self q c.requires.room.rows c.cols-cols.ensures.picture.count size c.draw_unread.ensures c.draw_mode.ensures in
+    let pane : List Row = unread_rows p.cols w.height c.denial-decision.result in
+    let size : length pane ≡ w.height = length-unread_rows p.cols w.height c.denial-decision.result in
+    let mode : List ℕ = buffer_mode (told_as c.name.result.now c.seen-heading.result.0) None in
+    let put : IsPut first (pane ++ mode_row p.cols mode ∷ []) p q = pane_put first w.height pane mode p c.draw_unread.new.self q c.requires.room.rows c.cols-cols.ensures.picture.count size c.draw_unread.ensures c.draw_unread_mode.ensures in
     put_drawn c.args.rows.now c.note_rows-2.new.rows first (w.height + 1) (pane ++ mode_row p.cols mode ∷ []) p q put (omega (arith, length-append pane (mode_row p.cols mode ∷ []), size)) c.note_rows-2.ensures.kept c.note_rows-2.ensures.put
