@@ -67,7 +67,7 @@ use Rattle.mgs_core.specs.KeyActs.{started_by, started_state, started_world}
 use Rattle.mgs_core.specs.Calls.{closed}
 use Rattle.mgs_core.specs.ByteActs.{CanDo, IsReady, asked_of, before_turn, model_act, deciding_state, deciding_world, finds, is_finding, is_replacement, is_replacing, may_want_memory, refused, seek_act, starts_replacing}
 use Rattle.mgs_core.specs.AtPlace.{IsActRefused}
-use Rattle.mgs_core.specs.ByteSteps.{IsTurnStep, SearchStays, SeesNames, TurnLeft, step_keyed}
+use Rattle.mgs_core.specs.ByteSteps.{IsTurnStep, SearchStays, SeesNames, TurnLeft, keyed_without_act}
 use Rattle.mgs_core.specs.Turns.{IsLess, IsWithin, TurnDone, TurnRefused, TurnedBy, IsFit, has_all, is_played, is_quiet, weight}
 use Rattle.mgs_core.proofs.Begun.{closed_state, search_still}
 use Rattle.mgs_core.proofs.Keyed.{acted_single}
@@ -412,27 +412,27 @@ module _ (d : Directory) (ks : List MarkedBuffer) (xs : List Session) (next : Op
   failed_none b s = todo_put ∙ ap (λ (o : model.State). o.todo) s.told
 
   -- where no act is asked for, with what is answered then
-  pub idle_less : (b : ModeBefore) (step : ByteStep) (m n : ℕ) → n ≤ 1048576 → ((state_at at xs).todo ≡ [] → ⊥) → ((byte_act : ByteAct) → step ≡ Acts byte_act → ⊥) → IsTurnStep d ks h y b step → step_keyed step ≡ keyed.Done → IsLess m n (state_at at xs).todo (state_at at (slice_set xs at y)).todo
-  idle_less b Kept m n within some none s done =
+  pub less_without_act : (b : ModeBefore) (step : ByteStep) (m n : ℕ) → n ≤ 1048576 → ((state_at at xs).todo ≡ [] → ⊥) → ((byte_act : ByteAct) → step ≡ Acts byte_act → ⊥) → IsTurnStep d ks h y b step → keyed_without_act step ≡ keyed.Done → IsLess m n (state_at at xs).todo (state_at at (slice_set xs at y)).todo
+  less_without_act b Kept m n within some none s done =
       subst (λ (todo : List Todo). IsLess m n todo (state_at at (slice_set xs at y)).todo) (sym todo_there)
       (subst (IsLess m n h.state.player.todo) (sym todo_put) (turn_less m n false y.state.player.todo within s.left (by (has_all h.state.player.todo) refl), s.left.played))
     where
       by : (all : Bool) → has_all h.state.player.todo ≡ all → has_all h.state.player.todo ≡ false
       by true e = (let replaces = (s.left.same e).0 in cc)
       by false e = e
-  idle_less b Failed m n within some none s done = subst (IsLess m n (state_at at xs).todo) (sym (failed_none b s)) (some_left m (state_at at xs).todo some, refl)
-  idle_less b Ends m n within some none s done = cc
-  idle_less b (Acts byte_act) m n within some none s done = absurd (none byte_act refl)
+  less_without_act b Failed m n within some none s done = subst (IsLess m n (state_at at xs).todo) (sym (failed_none b s)) (some_left m (state_at at xs).todo some, refl)
+  less_without_act b Ends m n within some none s done = cc
+  less_without_act b (Acts byte_act) m n within some none s done = absurd (none byte_act refl)
 
-  pub idle_fit : (b : ModeBefore) (step : ByteStep) → ((byte_act : ByteAct) → step ≡ Acts byte_act → ⊥) → IsTurnStep d ks h y b step → step_keyed step ≡ keyed.Done → IsFit (state_at at (slice_set xs at y))
-  idle_fit b Kept none s done = subst IsFit (sym (state_put xs at y within)) s.fit
-  idle_fit b Failed none s done = fit_empty (state_at at (slice_set xs at y)) (failed_none b s)
-  idle_fit b Ends none s done = cc
-  idle_fit b (Acts byte_act) none s done = absurd (none byte_act refl)
+  pub fit_without_act : (b : ModeBefore) (step : ByteStep) → ((byte_act : ByteAct) → step ≡ Acts byte_act → ⊥) → IsTurnStep d ks h y b step → keyed_without_act step ≡ keyed.Done → IsFit (state_at at (slice_set xs at y))
+  fit_without_act b Kept none s done = subst IsFit (sym (state_put xs at y within)) s.fit
+  fit_without_act b Failed none s done = fit_empty (state_at at (slice_set xs at y)) (failed_none b s)
+  fit_without_act b Ends none s done = cc
+  fit_without_act b (Acts byte_act) none s done = absurd (none byte_act refl)
 
-  pub idle_turn : (b : ModeBefore) (step : ByteStep) (t : StoreTold) → ((byte_act : ByteAct) → step ≡ Acts byte_act → ⊥) → IsTurnStep d ks h y b step → TurnedBy (is_played (state_at at xs).todo) (state_at at (slice_set xs at y)).todo (world_of d ks xs next) (world_of d ks (slice_set xs at y) next) t t id (step_keyed step)
-  idle_turn b Kept t none s = record { state = state_of y.state; act = None; turn = next_turn (Keep (state_of y.state)) s.turn; done = (changed s.state s.stays, refl) }
-  idle_turn b Failed t none s =
+  pub turn_without_act : (b : ModeBefore) (step : ByteStep) (t : StoreTold) → ((byte_act : ByteAct) → step ≡ Acts byte_act → ⊥) → IsTurnStep d ks h y b step → TurnedBy (is_played (state_at at xs).todo) (state_at at (slice_set xs at y)).todo (world_of d ks xs next) (world_of d ks (slice_set xs at y) next) t t id (keyed_without_act step)
+  turn_without_act b Kept t none s = record { state = state_of y.state; act = None; turn = next_turn (Keep (state_of y.state)) s.turn; done = (changed s.state s.stays, refl) }
+  turn_without_act b Failed t none s =
       let w : World = world_of d ks xs next in
       let v : World = with_state id (λ was. s.before) w in
       record {
@@ -453,7 +453,7 @@ module _ (d : Directory) (ks : List MarkedBuffer) (xs : List Session) (next : Op
           },
         );
       }
-  idle_turn b Ends t none s = record {
+  turn_without_act b Ends t none s = record {
     state = s.before;
     argument = s.argument;
     turn = next_turn (Do s.before (Run Exit s.argument [])) s.turn;
@@ -462,7 +462,7 @@ module _ (d : Directory) (ks : List MarkedBuffer) (xs : List Session) (next : Op
     gone = ap (λ (w : World). closed w id) (changed s.state s.stays) ∙ closed_state (world_of d ks xs next) id (λ was. state_of y.state);
     left = refl;
   }
-  idle_turn b (Acts byte_act) t none s = absurd (none byte_act refl)
+  turn_without_act b (Acts byte_act) t none s = absurd (none byte_act refl)
 
   -- and where there is an act
   module _ (b : ModeBefore) (byte_act : ByteAct) (s : IsTurnStep d ks h y b (Acts byte_act)) where

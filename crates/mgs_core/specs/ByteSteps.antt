@@ -162,13 +162,13 @@ IsTurnStep directory ks old new b step =
     IsStep (SeesNames directory ks old.user) (λ v. todo_turn v (state_of old.state) old.state.player.todo) (is_played old.state.player.todo) (TurnLeft (replaces step) old.state.player.todo) old new b step
 
 -- what is answered of a step that asks for no act, and what it touched
-abbrev pub step_keyed : ByteStep → Keyed
-step_keyed Ends = Quit
-step_keyed _ = Done
+abbrev pub keyed_without_act : ByteStep → Keyed
+keyed_without_act Ends = Quit
+keyed_without_act _ = Done
 
-abbrev pub step_touched : ByteStep → Touched
-step_touched Ends = Anywhere
-step_touched _ = Nowhere
+abbrev pub touched_without_act : ByteStep → Touched
+touched_without_act Ends = Anywhere
+touched_without_act _ = Nowhere
 
 -- the first act of a play, or none of it
 abbrev pub IsFirstStep : Directory → List MarkedBuffer → model.State → Session → Session → ℕ → ModeBefore → ByteStep → Type 0

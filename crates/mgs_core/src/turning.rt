@@ -15,7 +15,7 @@ ghost use Rattle.mgs_core.specs.declared.byte_acts.ModeBefore.TheVariants.{Plain
 ghost use Rattle.mgs_core.specs.Held.{AreSettled};
 ghost use Rattle.mgs_core.specs.Judged.{judged_touched};
 ghost use Rattle.mgs_core.specs.ByteActs.{CanDo, IsReady, refused, state_before};
-ghost use Rattle.mgs_core.specs.ByteSteps.{IsFirstStep, IsTurnStep, step_keyed, step_touched};
+ghost use Rattle.mgs_core.specs.ByteSteps.{IsFirstStep, IsTurnStep, keyed_without_act, touched_without_act};
 ghost use Rattle.mgs_core.specs.Turns.{IsFit, goes_on, has_all, touched_both, weight};
 
 use crate::byte_acts::{Before, ByteAct, ModeBefore, do_byte_act};
@@ -206,9 +206,9 @@ fn act_turn<T: Marked + Drop, S: Store>(
 }
 
 /// What is answered of a step that asks for no act, and what it touched.
-fn step_answer(step: ByteStep) -> (Keyed, Touched)
-    ensures keyed { result.0 ≡ step_keyed step }
-    ensures touched { result.1 ≡ step_touched step }
+fn answer_without_act(step: ByteStep) -> (Keyed, Touched)
+    ensures keyed { result.0 ≡ keyed_without_act step }
+    ensures touched { result.1 ≡ touched_without_act step }
 {
     match step {
         ByteStep::Ends => (Keyed::Quit, Touched::Anywhere),
@@ -266,7 +266,7 @@ fn take_turn<T: Marked + Drop, S: Store>(
             }
         }
         _ => {
-            let (keyed, touched) = step_answer(step);
+            let (keyed, touched) = answer_without_act(step);
             (keyed, touched, true)
         }
     }

@@ -15,7 +15,7 @@ use Rattle.mgs_core.specs.ByteActs.{before_turn}
 use Rattle.mgs_core.specs.Turns.{TurnedBy}
 use Rattle.mgs_core.proofs.Sizes.{place_same}
 use Rattle.mgs_core.proofs.Still.{alone_written}
-use Rattle.mgs_core.proofs.Taken.{acted_fit, acted_turn, acts_less, idle_fit, idle_less, idle_turn, left_within, ready_put, refused_turn, some_there, step_apart, step_stands, step_state, within_still}
+use Rattle.mgs_core.proofs.Taken.{acted_fit, acted_turn, acts_less, fit_without_act, less_without_act, turn_without_act, left_within, ready_put, refused_turn, some_there, step_apart, step_stands, step_state, within_still}
 use Rattle.mgs_core.proofs.turning.take_turn.Goals as goal
 
 pub next_step-step-requires-clause-some : goal.next_step-step-requires-clause-some
@@ -40,17 +40,17 @@ returns-in_default g c =
     let s = c.next_step-step.ensures.step in
     let none = c.in_default.not-Acts in
     let alone = step_state d ks xs None id at h y place within is_h b step s in
-    let answered = c.step_answer-keyed.ensures.keyed in
+    let answered = c.answer_without_act-keyed.ensures.keyed in
     record {
       judged = c.next_step-step.ensures.judged;
       sound = sound_set ks xs at h y is_h (λ n i. ap (session_uses n i) alone.0) c.requires.sound;
       sizes = sizes_set xs at h y is_h (ap size_in alone.0);
-      less = λ e. idle_less d ks xs None id at h y place within is_h b step _ _ (left_within at ks (slice_set xs at y) c.len-count.ensures.limits) c.requires.some none s (sym answered ∙ e);
-      fit = λ e. idle_fit d ks xs None id at h y place within is_h b step none s (sym answered ∙ e);
-      turned = λ next. subst (TurnedBy _ _ (world_of d ks xs next) (world_of d ks (slice_set xs at y) next) _ _ id) (sym answered) (idle_turn d ks xs next id at h y place within is_h b step _ none s);
+      less = λ e. less_without_act d ks xs None id at h y place within is_h b step _ _ (left_within at ks (slice_set xs at y) c.len-count.ensures.limits) c.requires.some none s (sym answered ∙ e);
+      fit = λ e. fit_without_act d ks xs None id at h y place within is_h b step none s (sym answered ∙ e);
+      turned = λ next. subst (TurnedBy _ _ (world_of d ks xs next) (world_of d ks (slice_set xs at y) next) _ _ id) (sym answered) (turn_without_act d ks xs next id at h y place within is_h b step _ none s);
       stands = λ still rests next. step_stands d ks xs next id at h y place within is_h alone.0 alone.1 (rests next);
       alone = λ still. alone_written at ks xs h y is_h alone.0;
-      touched = λ next. step_apart d ks xs next id at h y place within is_h c.step_answer-keyed.result.1 alone.0 alone.1;
+      touched = λ next. step_apart d ks xs next id at h y place within is_h c.answer_without_act-keyed.result.1 alone.0 alone.1;
     }
 
 pub act_turn-done-requires : goal.act_turn-done-requires
