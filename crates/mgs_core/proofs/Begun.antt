@@ -17,7 +17,9 @@ use Rattle.mgs_session.specs.declared.search.Aim.{Aim}
 use Rattle.mgs_session.specs.declared.search.Aim.TheVariants.{Find, Replace}
 use Rattle.mgs_session.specs.declared.search.Search.{Search}
 use Rattle.mgs_mini.specs.Typing.{PromptInput}
-use Rattle.mgs_world.specs.Worlds.{aim_mode, buffers_of, mode_in, search_of, state_at, state_of, state_or_first, session_id, session_of, world_of}
+use Rattle.mgs_world.specs.Sound.{IsSound, session_uses}
+use Rattle.mgs_world.specs.Worlds.{aim_mode, buffers_of, mode_in, search_of, size_in, sizes_in, state_at, state_of, state_or_first, session_id, session_of, world_of}
+use Rattle.mgs_world.proofs.Soundness.{sound_set, sizes_set}
 use Rattle.mgs_core.specs.Calls.{closed}
 use Rattle.mgs_core.specs.Turns.{has_all, weight}
 use Rattle.mgs_core.proofs.Steps.{set_there, world_changed}
@@ -62,27 +64,44 @@ search_still bs (Some s) p = by s.aim
     by (Find f) = refl
     by (Replace r) = refl
 
-pub begun_world : (d : Directory) (ks : List MarkedBuffer) (xs : List code.Session) (next : Option ℕ) (id at byte : ℕ) (h y : code.Session) → at ≡ position_or_len (session_id id) xs → at < length xs → h ≡ get_or xs at h → y ≡ held.begun byte h → world_of d ks (slice_set xs at y) next ≡ with_state id (begun_state byte) (world_of d ks xs next)
-begun_world d ks xs next id at byte h y place within is_h begins =
-    world_changed (begun_state byte) d ks xs next id at h y place within is_h (ap (session_of ks) begins ∙ by (is_full h.state.recorder))
+-- ALL SESSIONS THEN
+
+-- the one at the place begins, and all others stay
+abbrev pub Begins : ℕ → ℕ → code.Session → List code.Session → List code.Session → Type 0
+Begins byte at h xs ys = (h ≡ get_or xs at h) × (ys ≡ slice_set xs at (held.begun byte h))
+
+pub begun_world : (d : Directory) (ks : List MarkedBuffer) (xs ys : List code.Session) (next : Option ℕ) (id at byte : ℕ) (h : code.Session) → at ≡ position_or_len (session_id id) xs → at < length xs → Begins byte at h xs ys → world_of d ks ys next ≡ with_state id (begun_state byte) (world_of d ks xs next)
+begun_world d ks xs ys next id at byte h place within begins =
+    ap (λ (ss : List code.Session). world_of d ks ss next) begins.1
+    ∙ world_changed (begun_state byte) d ks xs next id at h (held.begun byte h) place within begins.0 (by (is_full h.state.recorder))
   where
     by : (c : Bool) → session_of ks (cond c (one_too_many h) (keeps byte h)) ≡ state_set (begun_if c byte) (session_of ks h)
     by true = λ i. record (session_of ks h) { search = search_still (buffers_of ks) h.state.search h.state.prompt i; state = begun_if true byte (state_of h.state) }
     by false = λ i. record (session_of ks h) { search = search_still (buffers_of ks) h.state.search h.state.prompt i; state = begun_if false byte (state_of h.state) }
 
+pub begun_sizes : (xs ys : List code.Session) (at byte : ℕ) (h : code.Session) → Begins byte at h xs ys → sizes_in ys ≡ sizes_in xs
+begun_sizes xs ys at byte h begins = ap sizes_in begins.1 ∙ sizes_set xs at h (held.begun byte h) begins.0 (begun_same size_in byte h (held.begun byte h) refl refl refl)
+
+pub begun_sound : (ks : List MarkedBuffer) (xs ys : List code.Session) (at byte : ℕ) (h : code.Session) → Begins byte at h xs ys → IsSound ks xs → IsSound ks ys
+begun_sound ks xs ys at byte h begins sound =
+    subst (IsSound ks) (sym begins.1) (sound_set ks xs at h (held.begun byte h) begins.0 (λ n i. begun_same (session_uses n i) byte h (held.begun byte h) refl refl refl) sound)
+
 -- what there is to do is the byte, or nothing
-pub begun_weight : (xs : List code.Session) (at byte : ℕ) (h y : code.Session) → at < length xs → y ≡ held.begun byte h → weight 0 (state_at at (slice_set xs at y)).todo ≤ 53689341958
-begun_weight xs at byte h y within begins =
-    subst (λ (todo : List Todo). weight 0 todo ≤ 53689341958) (sym (ap (λ (o : Option code.Session). (state_or_first o).todo) (set_there xs at y within) ∙ ap (λ (s : code.Session). s.state.player.todo) begins)) (by (is_full h.state.recorder))
+begun_todo : (xs ys : List code.Session) (at byte : ℕ) (h : code.Session) → at < length xs → Begins byte at h xs ys → (state_at at ys).todo ≡ (held.begun byte h).state.player.todo
+begun_todo xs ys at byte h within begins =
+    ap (λ (ss : List code.Session). (state_at at ss).todo) begins.1 ∙ ap (λ (o : Option code.Session). (state_or_first o).todo) (set_there xs at (held.begun byte h) within)
+
+pub begun_weight : (xs ys : List code.Session) (at byte : ℕ) (h : code.Session) → at < length xs → Begins byte at h xs ys → weight 0 (state_at at ys).todo ≤ 53689341958
+begun_weight xs ys at byte h within begins =
+    subst (λ (todo : List Todo). weight 0 todo ≤ 53689341958) (sym (begun_todo xs ys at byte h within begins)) (by (is_full h.state.recorder))
   where
     by : (c : Bool) → weight 0 (cond c (one_too_many h) (keeps byte h)).state.player.todo ≤ 53689341958
     by true = omega arith
     by false = omega arith
 
 -- and no further replacement
-pub begun_none : (xs : List code.Session) (at byte : ℕ) (h y : code.Session) → at < length xs → y ≡ held.begun byte h → has_all (state_at at (slice_set xs at y)).todo ≡ false
-begun_none xs at byte h y within begins =
-    ap (λ (o : Option code.Session). has_all (state_or_first o).todo) (set_there xs at y within) ∙ ap (λ (s : code.Session). has_all s.state.player.todo) begins ∙ by (is_full h.state.recorder)
+pub begun_none : (xs ys : List code.Session) (at byte : ℕ) (h : code.Session) → at < length xs → Begins byte at h xs ys → has_all (state_at at ys).todo ≡ false
+begun_none xs ys at byte h within begins = ap has_all (begun_todo xs ys at byte h within begins) ∙ by (is_full h.state.recorder)
   where
     by : (c : Bool) → has_all (cond c (one_too_many h) (keeps byte h)).state.player.todo ≡ false
     by true = refl

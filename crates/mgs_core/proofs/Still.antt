@@ -17,7 +17,7 @@ use Rattle.mgs_world.specs.Worlds.{buffers_of, input_in, mode_in, state_of, sear
 use Rattle.mgs_world.proofs.Sessions.{session_some}
 use Rattle.mgs_core.specs.AtPlace.{IsBare, StateAlone, state_put}
 use Rattle.mgs_core.specs.Calls.{IsStill}
-use Rattle.mgs_core.proofs.Begun.{begun_same}
+use Rattle.mgs_core.proofs.Begun.{Begins, begun_same}
 use Rattle.mgs_core.proofs.Steps.{world_changed}
 
 -- ONE SESSION HOLDS SOMETHING ELSE
@@ -55,8 +55,10 @@ pub alone_then : (at : ℕ) (ks ls ms : List MarkedBuffer) (xs ys zs : List Sess
 alone_then at ks ls ms xs ys zs a b = record { buffers = b.buffers ∙ a.buffers; state = b.state; is = b.is ∙ ap (state_put at b.state) a.is ∙ put_twice at a.state b.state xs }
 
 -- what a byte begins with is what the session holds alone
-pub begun_alone : (byte : ℕ) (x y : Session) → y ≡ held.begun byte x → y ≡ record x { state = y.state }
-begun_alone byte x y is = begun_same (λ (s : Session). let z : Session = record s { state = y.state } in z) byte x y refl refl is
+pub alone_begun : (at : ℕ) (ks : List MarkedBuffer) (xs ys : List Session) (byte : ℕ) (h : Session) → Begins byte at h xs ys → StateAlone at ks ks xs ys
+alone_begun at ks xs ys byte h begins =
+    let y = held.begun byte h in
+    subst (StateAlone at ks ks xs) (sym begins.1) (alone_written at ks xs h y begins.0 (begun_same (λ (s : Session). let z : Session = record s { state = y.state } in z) byte h y refl refl refl))
 
 -- NOTHING OF IT IS SHOWN
 

@@ -1,5 +1,5 @@
 // Of what a session has still to do in an event, one after another is done until nothing is left.
-ghost use Rattle.std.specs.Prelude.{◌≡◌, ◌<◌, ◌≤◌, [], IfOk, OnOk, OnErr, length, false, true};
+ghost use Rattle.std.specs.Prelude.{◌≡◌, ◌<◌, ◌≤◌, [], Some, IfOk, OnOk, OnErr, length, slice_get, slice_set, false, true};
 ghost use Rattle.std.specs.List.{position_or_len};
 ghost use Rattle.mgs_model.specs.World as model;
 ghost use Rattle.mgs_model.specs.declared.errors.Keyed.TheVariants.{Done, Quit};
@@ -7,6 +7,7 @@ ghost use Rattle.mgs_buffers.specs.Judging.{AreJudged, rules_kept};
 ghost use Rattle.mgs_session.specs.Playing.{are_played};
 ghost use Rattle.mgs_store.specs.Stores.{store_told};
 ghost use Rattle.mgs_seek.specs.Beginning.{search_held};
+ghost use Rattle.mgs_session.specs.Sessions.{begun};
 ghost use Rattle.mgs_session.specs.declared.search.Search.{Search};
 ghost use Rattle.mgs_world.specs.Sound.{IsSound};
 ghost use Rattle.mgs_world.specs.Worlds.{IsUnique, state_at, state_of, session_id, sizes_in};
@@ -357,6 +358,14 @@ fn is_bare(session: &Session) -> bool
     }
 }
 
+/// A byte comes to the session at `at`, as `begin` says. All others stay as they are.
+fn begin_at(sessions: &mut [Session], at: usize, byte: u8)
+    requires within { at < length sessions.old }
+    ensures { (x : Session) → slice_get sessions.old at ≡ Some x → sessions.new ≡ slice_set sessions.old at (begun byte x) }
+{
+    begin(&mut sessions[at], byte);
+}
+
 /// A byte of the session at `at`, as `Core::key` says, but that `Quit` changes what the session holds alone: it is to be taken out.
 pub fn type_in<T: Marked + Drop, S: Store>(
     alloc: Global,
@@ -385,7 +394,7 @@ pub fn type_in<T: Marked + Drop, S: Store>(
     ensures still { result.2 ≡ true → StaysStill id directory.now buffers.old buffers.new sessions.old sessions.new }
 {
     let was = is_bare(&sessions[at]);
-    begin(&mut sessions[at], byte);
+    begin_at(sessions, at, byte);
     let (keyed, touched, stands) = take_turns(
         alloc, buffers, judge, directory, sessions, at, store, id,
     );

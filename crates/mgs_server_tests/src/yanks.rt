@@ -58,6 +58,9 @@ fn kills_are_put_back(rt: HostRuntime) -> Result<(), Fail> {
         a C-k         | x                   | **L1-C1     | 1 2
         b             | x                   | **L1-C1     | 1 2 | Denied: no entry grants APPEND_DATA
         a C-y C-y     | xabcabc             | **L1-C7     | 1 8
+        c C-x 'b 'own RET 'de C-a C-k C-y | de                  | :-**-own-L1-C2 | 1 3
+        c C-x 'b 'notes RET C-y           | [no read: no entry] | **(no read)    | 1 1
+        b                                 | xabcabcde           | **L1-C1        | 1 2 | Denied: no entry grants APPEND_DATA
     ";
     scripts_show(&rt, rt.alloc(), "", others)
 }

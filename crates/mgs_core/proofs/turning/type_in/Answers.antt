@@ -1,46 +1,42 @@
-use Rattle.std.proofs.Common.{◌≡◌, ◌∙◌, ℕ, List, Option, None, get_or, refl, sym, ap, subst}
-use Rattle.std.specs.Prelude.{◌&&◌, is_some, slice_set}
+use Rattle.std.proofs.Common.{◌≡◌, ◌∙◌, ℕ, List, Option, None, get_or, ap, sym, subst}
+use Rattle.std.specs.Prelude.{◌&&◌, is_some}
 use Rattle.std.proofs.lemmas.Bool.{and_parts}
-use Rattle.std.proofs.lemmas.List.{get_or_default}
 use Rattle.mgs_buffers.specs.Judging.{AreJudged}
 use Rattle.mgs_laws.specs.Apart.{Apart, Rules, rules_in}
 use Rattle.mgs_model.specs.Events.{begun_state, with_state}
 use Rattle.mgs_model.specs.World.{World}
 use Rattle.mgs_laws.proofs.Apart.{apart_state, apart_then}
-use Rattle.mgs_session.specs.declared.Session.{Session}
-use Rattle.mgs_world.specs.Sound.{session_uses}
-use Rattle.mgs_world.specs.Worlds.{IsUnique, session_of, size_in, world_of}
+use Rattle.mgs_world.specs.Worlds.{IsUnique, session_of, world_of}
 use Rattle.mgs_world.proofs.Sessions.{session_some}
 use Rattle.mgs_world.proofs.Sizes.{sizes_of_world}
-use Rattle.mgs_world.proofs.Soundness.{sound_set, sizes_set}
-use Rattle.mgs_core.specs.AtPlace.{IsBare, StateAlone}
+use Rattle.mgs_core.specs.AtPlace.{StateAlone}
 use Rattle.mgs_core.specs.Calls.{closed}
 use Rattle.mgs_core.proofs.Apart.{apart_rests}
-use Rattle.mgs_core.proofs.Begun.{begun_none, begun_same, begun_weight, begun_world, closed_state}
+use Rattle.mgs_core.proofs.Begun.{Begins, begun_none, begun_sizes, begun_sound, begun_weight, begun_world, closed_state}
 use Rattle.mgs_core.proofs.Quits.{event_ends, event_keyed, event_quits, typed_ends}
 use Rattle.mgs_core.proofs.Sizes.{place_same}
 use Rattle.mgs_core.proofs.Stays.{state_rests, settled_as}
-use Rattle.mgs_core.proofs.Steps.{open_still}
-use Rattle.mgs_core.proofs.Still.{alone_then, alone_written, begun_alone, still_again}
+use Rattle.mgs_core.proofs.Steps.{open_still, session_there}
+use Rattle.mgs_core.proofs.Still.{alone_begun, alone_then, still_again}
 use Rattle.mgs_core.proofs.Taken.{within_still}
 use Rattle.mgs_core.proofs.turning.type_in.Goals as goal
 
 pub take_turns-keyed-requires : goal.take_turns-keyed-requires
 take_turns-keyed-requires g c =
     let xs = c.args.sessions.now in
+    let ys = c.begin_at.new.sessions in
     let at = c.args.at in
     let byte = c.args.byte in
-    let h = get_or xs at c.index-sessions-at-2.result in
-    let is_h = ap (get_or xs at) c.index-sessions-at-2.is in
-    let y = c.begin.new.session in
-    let same = sizes_set xs at h y is_h (begun_same size_in byte h y refl refl c.begin.ensures) in
+    let h = c.index-sessions-at.result in
+    let begins : Begins byte at h xs ys = (c.index-sessions-at.is, c.begin_at.ensures h (session_there xs at h c.requires.within c.index-sessions-at.is)) in
+    let same = begun_sizes xs ys at byte h begins in
     record {
-      sound = sound_set c.args.buffers.now xs at h y is_h (λ n i. begun_same (session_uses n i) byte h y refl refl c.begin.ensures) c.requires.sound;
-      place = place_same c.args.id at xs (slice_set xs at y) c.requires.place same;
-      within = within_still at xs (slice_set xs at y) c.requires.within same;
+      sound = begun_sound c.args.buffers.now xs ys at byte h begins c.requires.sound;
+      place = place_same c.args.id at xs ys c.requires.place same;
+      within = within_still at xs ys c.requires.within same;
       judged = c.requires.judged;
-      weight = begun_weight xs at byte h y c.requires.within c.begin.ensures;
-      none = begun_none xs at byte h y c.requires.within c.begin.ensures;
+      weight = begun_weight xs ys at byte h c.requires.within begins;
+      none = begun_none xs ys at byte h c.requires.within begins;
     }
 
 pub settle_unless-requires : goal.settle_unless-requires
@@ -48,15 +44,17 @@ settle_unless-requires g c =
     let d = c.args.directory.now in
     let ks = c.args.buffers.now in
     let xs = c.args.sessions.now in
+    let ys = c.begin_at.new.sessions in
     let id = c.args.id in
     let at = c.args.at in
-    let h = get_or xs at c.index-sessions-at-2.result in
-    let y = c.begin.new.session in
-    let begun : (next : Option ℕ) → world_of d ks (slice_set xs at y) next ≡ with_state id (begun_state c.args.byte) (world_of d ks xs next) =
-    λ next. begun_world d ks xs next id at c.args.byte h y c.requires.place c.requires.within (ap (get_or xs at) c.index-sessions-at-2.is) c.begin.ensures in
+    let byte = c.args.byte in
+    let h = c.index-sessions-at.result in
+    let begins : Begins byte at h xs ys = (c.index-sessions-at.is, c.begin_at.ensures h (session_there xs at h c.requires.within c.index-sessions-at.is)) in
+    let begun : (next : Option ℕ) → world_of d ks ys next ≡ with_state id (begun_state byte) (world_of d ks xs next) =
+    λ next. begun_world d ks xs ys next id at byte h c.requires.place c.requires.within begins in
     record {
       sound = c.take_turns-keyed.ensures.sound;
-      stands = λ still. c.take_turns-keyed.ensures.stands still (λ next. settled_as _ _ (begun next) (state_rests (world_of d ks xs next) id (begun_state c.args.byte) (c.requires.settles next)));
+      stands = λ still. c.take_turns-keyed.ensures.stands still (λ next. settled_as _ _ (begun next) (state_rests (world_of d ks xs next) id (begun_state byte) (c.requires.settles next)));
     }
 
 pub returns-in-Quit : goal.returns-in-Quit
@@ -64,16 +62,16 @@ returns-in-Quit g c =
     let d = c.args.directory.now in
     let ks = c.args.buffers.now in
     let xs = c.args.sessions.now in
+    let ys = c.begin_at.new.sessions in
     let id = c.args.id in
     let at = c.args.at in
     let byte = c.args.byte in
-    let h = get_or xs at c.index-sessions-at-2.result in
-    let is_h = ap (get_or xs at) c.index-sessions-at-2.is in
-    let y = c.begin.new.session in
-    let ys = slice_set xs at y in
+    let h = c.index-sessions-at.result in
+    let begins : Begins byte at h xs ys = (c.index-sessions-at.is, c.begin_at.ensures h (session_there xs at h c.requires.within c.index-sessions-at.is)) in
     let t = c.take_turns-keyed in
-    let same = sizes_set xs at h y is_h (begun_same size_in byte h y refl refl c.begin.ensures) in
-    let begun : (next : Option ℕ) → world_of d ks ys next ≡ with_state id (begun_state byte) (world_of d ks xs next) = λ next. begun_world d ks xs next id at byte h y c.requires.place c.requires.within is_h c.begin.ensures in
+    let same = begun_sizes xs ys at byte h begins in
+    let begun : (next : Option ℕ) → world_of d ks ys next ≡ with_state id (begun_state byte) (world_of d ks xs next) =
+    λ next. begun_world d ks xs ys next id at byte h c.requires.place c.requires.within begins in
     record {
       judged = t.ensures.judged;
       sound = t.ensures.sound;
@@ -83,7 +81,7 @@ returns-in-Quit g c =
       left = λ quits. (event_quits id _ _ _ _ t.result.0 quits (t.ensures.event None)).left;
       keyed = λ next.
           typed_ends (world_of d ks xs next) _ _ _ id byte t.result.0 c.in-Quit.is
-          (event_ends (world_of d ks xs next) (world_of d ks ys next) _ _ _ id byte (begun next) (session_of ks h) (session_some d ks xs next id at h c.requires.place c.requires.within is_h)
+          (event_ends (world_of d ks xs next) (world_of d ks ys next) _ _ _ id byte (begun next) (session_of ks h) (session_some d ks xs next id at h c.requires.place c.requires.within begins.0)
           (subst IsUnique (sym (sizes_of_world d ks ys next ∙ same)) c.requires.unique) (c.requires.settles next) (event_quits id _ _ _ _ t.result.0 c.in-Quit.is (t.ensures.event next)));
       touched = λ next.
           apart_then t.result.1 id (world_of d ks xs next) (world_of d ks ys next) (world_of d t.new.buffers t.new.sessions next)
@@ -95,18 +93,23 @@ returns-in_default g c =
     let d = c.args.directory.now in
     let ks = c.args.buffers.now in
     let xs = c.args.sessions.now in
-    let h = get_or xs c.args.at c.index-sessions-at-2.result in
-    let is_h = ap (get_or xs c.args.at) c.index-sessions-at-2.is in
-    let ys = slice_set xs c.args.at c.begin.new.session in
+    let ys = c.begin_at.new.sessions in
+    let id = c.args.id in
+    let at = c.args.at in
+    let byte = c.args.byte in
+    let h = get_or xs at c.index-sessions-at.result in
+    let is_h = ap (get_or xs at) c.index-sessions-at.is in
+    let begins : Begins byte at h xs ys = (is_h, c.begin_at.ensures h (session_there xs at h c.requires.within is_h)) in
     let t = c.take_turns-keyed in
-    let L = c.settle_unless.new.buffers in
-    let sizes = t.ensures.sizes ∙ sizes_set xs c.args.at h c.begin.new.session is_h (begun_same size_in c.args.byte h c.begin.new.session refl refl c.begin.ensures) in
+    let ls = c.settle_unless.new.buffers in
+    let sizes = t.ensures.sizes ∙ begun_sizes xs ys at byte h begins in
+    let begun : (next : Option ℕ) → world_of d ks ys next ≡ with_state id (begun_state byte) (world_of d ks xs next) =
+    λ next. begun_world d ks xs ys next id at byte h c.requires.place c.requires.within begins in
     let apart = λ (next : Option _).
     let w = world_of d ks xs next in
-    let begun = begun_world d ks xs next c.args.id c.args.at c.args.byte h c.begin.new.session c.requires.place c.requires.within is_h c.begin.ensures in
-    apart_rests t.result.1 c.args.id w (world_of d t.new.buffers t.new.sessions next) (world_of d L t.new.sessions next) (c.requires.settles next)
-    (apart_then t.result.1 c.args.id w (world_of d ks ys next) (world_of d t.new.buffers t.new.sessions next)
-    (subst (Apart t.result.1 c.args.id w) (sym begun) (apart_state t.result.1 c.args.id (begun_state c.args.byte) w))
+    apart_rests t.result.1 id w (world_of d t.new.buffers t.new.sessions next) (world_of d ls t.new.sessions next) (c.requires.settles next)
+    (apart_then t.result.1 id w (world_of d ks ys next) (world_of d t.new.buffers t.new.sessions next)
+    (subst (Apart t.result.1 id w) (sym (begun next)) (apart_state t.result.1 id (begun_state byte) w))
     (t.ensures.touched next))
     (c.settle_unless.ensures.world next) in
     record {
@@ -116,18 +119,17 @@ returns-in_default g c =
       gone = λ quits next. absurd (c.in_default.not-Quit quits);
       left = λ quits. absurd (c.in_default.not-Quit quits);
       keyed = λ next.
-          let found = session_some d ks xs next c.args.id c.args.at h c.requires.place c.requires.within is_h in
-          event_keyed c.args.id c.args.byte (world_of d ks xs next) (world_of d ks ys next) (world_of d t.new.buffers t.new.sessions next) (world_of d L t.new.sessions next) _ _ t.result.0 c.in_default.not-Quit (t.ensures.event next) (ap is_some found)
-          (open_still d ks L xs t.new.sessions next c.args.id sizes (ap is_some found))
-          (begun_world d ks xs next c.args.id c.args.at c.args.byte h c.begin.new.session c.requires.place c.requires.within is_h c.begin.ensures)
+          let found = session_some d ks xs next id at h c.requires.place c.requires.within is_h in
+          event_keyed id byte (world_of d ks xs next) (world_of d ks ys next) (world_of d t.new.buffers t.new.sessions next) (world_of d ls t.new.sessions next) _ _ t.result.0 c.in_default.not-Quit (t.ensures.event next) (ap is_some found)
+          (open_still d ks ls xs t.new.sessions next id sizes (ap is_some found))
+          (begun next)
           (apart next).0;
       touched = λ next. (apart next).1;
       still = λ stays next.
           let both = and_parts t.result.2 (c.is_bare-was.result && c.is_bare-now.result) stays in
           let bare = and_parts c.is_bare-was.result c.is_bare-now.result both.1 in
-          let a : StateAlone c.args.at ks t.new.buffers xs t.new.sessions = alone_then c.args.at ks ks t.new.buffers xs ys t.new.sessions (alone_written c.args.at ks xs h c.begin.new.session is_h (begun_alone c.args.byte h c.begin.new.session c.begin.ensures)) (t.ensures.alone both.0) in
-          let b : StateAlone c.args.at ks L xs t.new.sessions = record { buffers = c.settle_unless.ensures.still both.0 ∙ a.buffers; state = a.state; is = a.is } in
-          let was : IsBare h.state = subst (λ (s : Session). IsBare s.state) (get_or_default xs c.args.at c.index-sessions-at.result c.index-sessions-at-2.result c.requires.within) (c.is_bare-was.ensures bare.0) in
-          let z = get_or t.new.sessions c.args.at c.index-sessions-at-in_default.result in
-          still_again d ks L xs t.new.sessions next c.args.id c.args.at h z c.requires.place c.requires.within is_h b (ap (get_or t.new.sessions c.args.at) c.index-sessions-at-in_default.is) was (c.is_bare-now.ensures bare.1);
+          let a : StateAlone at ks t.new.buffers xs t.new.sessions = alone_then at ks ks t.new.buffers xs ys t.new.sessions (alone_begun at ks xs ys byte h begins) (t.ensures.alone both.0) in
+          let b : StateAlone at ks ls xs t.new.sessions = record { buffers = c.settle_unless.ensures.still both.0 ∙ a.buffers; state = a.state; is = a.is } in
+          let z = get_or t.new.sessions at c.index-sessions-at-in_default.result in
+          still_again d ks ls xs t.new.sessions next id at h z c.requires.place c.requires.within is_h b (ap (get_or t.new.sessions at) c.index-sessions-at-in_default.is) (c.is_bare-was.ensures bare.0) (c.is_bare-now.ensures bare.1);
     }
