@@ -15,5 +15,6 @@ mod telling;
 pub use buffers::Buffers;
 pub use fault::{AddFault, EditFault, SaveFault};
 pub use found::Found;
-pub use mgs_store::Store;
+pub use judging::OUTRIGHT_LIMIT;
+pub use mgs_store::{Store, StoreFault};
 pub use telling::Attributes;

@@ -16,9 +16,6 @@ use std::num::NonZeroUsize;
 /// The most decisions that are kept.
 pub const KEPT_LIMIT: usize = 256;
 
-/// The most entries of a list that is decided outright, with nothing kept: to go through so few costs less than to find a decision.
-pub const OUTRIGHT_LIMIT: usize = 10;
-
 /// Decides what access lists grant, and keeps what was decided: `KEPT_LIMIT` decisions at most (256), those that were asked for last.
 ///
 /// A decision is kept for the place of a buffer, a user and a mask. It holds as long as the list, the owner and the owning group of
@@ -92,8 +89,7 @@ impl Judge {
     }
 
     /// What a list decides on all rights of a mask, as `mgs_policy::decide` answers it, from what is kept or by deciding and keeping.
-    /// The list, the owner and the owning group are those of the buffer at that place. Where memory is refused, the decision is not kept,
-    /// nor is one of a list of `OUTRIGHT_LIMIT` entries (10) or fewer.
+    /// The list, the owner and the owning group are those of the buffer at that place. Where memory is refused, the decision is not kept.
     #[tactic(auto, using(crate::proofs::Rightness::deciding))]
     pub fn decide(
         &mut self,
@@ -109,9 +105,6 @@ impl Judge {
         ensures value { result ≡ decision directory.now (owners_of owner.now (option_copied group.entry)) user.now list.now mask }
         ensures kept { AreAmong self.new (kept buffer user.now mask result ∷ self.old) }
     {
-        if list.len() <= OUTRIGHT_LIMIT {
-            return decide(list, owner, group, user, directory, mask);
-        }
         if let Some(decision) = self.recall(buffer, user, mask) {
             return decision;
         }

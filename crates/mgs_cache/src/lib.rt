@@ -4,4 +4,4 @@
 mod judge;
 mod request;
 
-pub use judge::{Judge, KEPT_LIMIT, OUTRIGHT_LIMIT};
+pub use judge::{Judge, KEPT_LIMIT};

@@ -5,7 +5,9 @@ ghost use Rattle.mgs_text_tests.specs.Judged.{StayRight};
 
 use crate::people::{entry_of, list_of, named, owned, staff};
 use mgs_acl::List;
-use mgs_cache::{Judge, OUTRIGHT_LIMIT};
+use mgs_cache::Judge;
+
+const OUTRIGHT_LIMIT: usize = 10;
 use mgs_model::{Decision, Mask, Name, Owners, Right};
 use mgs_policy::Directory;
 use std::process::Abort;
@@ -103,7 +105,7 @@ fn a_judge_answers_the_same_twice(rt: HostRuntime) -> Result<(), Fail> {
     let apart = list_of(&rt, "DENY ann w\nDENY ann r");
     let together = list_of(&rt, "DENY ann wr");
     ask_twice(
-        &rt, &mut judge, &directory, &first, &shared, &apart, &together, 0,
+        &rt, &mut judge, &directory, &first, &shared, &apart, &together, 8,
     );
     let (first, shared) = (lengthened(&rt, first), lengthened(&rt, shared));
     let (apart, together) = (lengthened(&rt, apart), lengthened(&rt, together));
