@@ -1,2 +1,4 @@
 mod Matching
 mod Edited
+mod Borders
+mod Longer

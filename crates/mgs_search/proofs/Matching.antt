@@ -1,16 +1,16 @@
 -- One step of a comparison, and one of a walk over places.
-use Rattle.std.proofs.Common.{◌≡◌, ℕ, suc, true, false, ◌+◌, ◌-◌, ◌<◌, ◌≤◌, min, leb, ◌⊎◌, inl, inr, List, [], ◌∷◌, ◌++◌, length, drop, get_or, Option, Some, None, refl, sym, ap, ◌∙◌, arith, length-drop, drop-drop}
+use Rattle.std.proofs.Common.{◌≡◌, ℕ, suc, true, false, ◌+◌, ◌-◌, ◌<◌, ◌≤◌, min, leb, ◌⊎◌, inl, inr, List, [], ◌∷◌, length, drop, get_or, Option, Some, None, refl, sym, ap, ◌∙◌, arith, length-drop}
 use Rattle.std.proofs.lemmas.Bool.Decides.{leb_tells}
-use Rattle.std.proofs.lemmas.List.{drop_more, drop_all, drop-append-le, get_or-drop}
+use Rattle.std.proofs.lemmas.List.{drop_more, drop_all, get_or-drop}
 use Rattle.std.specs.Char.{eq_ignore_ascii_case}
 use Rattle.mgs_model.specs.Searching.{begins, matches_at, first_in, first_match, last_match_before, last_match}
 
 -- A COMPARISON
 
-begins_cons : (x y : ℕ) (ps ys : List ℕ) → eq_ignore_ascii_case x y ≡ true → begins (x ∷ ps) (y ∷ ys) ≡ begins ps ys
+pub begins_cons : (x y : ℕ) (ps ys : List ℕ) → eq_ignore_ascii_case x y ≡ true → begins (x ∷ ps) (y ∷ ys) ≡ begins ps ys
 begins_cons x y ps ys same = rw same refl
 
-begins_not : (x y : ℕ) (ps ys : List ℕ) → eq_ignore_ascii_case x y ≡ false → begins (x ∷ ps) (y ∷ ys) ≡ false
+pub begins_not : (x y : ℕ) (ps ys : List ℕ) → eq_ignore_ascii_case x y ≡ false → begins (x ∷ ps) (y ∷ ys) ≡ false
 begins_not x y ps ys other = rw other refl
 
 -- the rest of a list from its i-th element on
@@ -35,12 +35,6 @@ pub match_not : (ps xs : List ℕ) (p i x y : ℕ) → i < length ps → p + i <
     → begins (drop i ps) (drop i (drop p xs)) ≡ false
 match_not ps xs p i x y inside within here there other =
     cut ps xs p i x y inside within here there ∙ begins_not x y (drop (i + 1) ps) (drop (i + 1) (drop p xs)) other
-
--- where its first character does not stand, the pattern does not
-pub first_not : (ps xs : List ℕ) (p y : ℕ) → 0 < length ps → p < length xs → y ≡ get_or xs p 0 → eq_ignore_ascii_case (get_or ps 0 0) y ≡ false → matches_at ps xs p ≡ false
-first_not [] xs p y some within there other = absurd (omega arith)
-first_not (x ∷ ps) xs p y some within there other =
-    ap (begins (x ∷ ps)) (rest_from xs p 0 y within there) ∙ begins_not x y ps (drop (p + 1) xs) other
 
 -- nothing is left of the pattern
 pub match_end : (ps ys : List ℕ) (i : ℕ) → length ps ≤ i → begins (drop i ps) ys ≡ true
@@ -72,14 +66,6 @@ first_next ps xs p within other =
 pub first_passed : (ps xs : List ℕ) (p n : ℕ) (first : Option ℕ) → p < length xs → matches_at ps xs p ≡ false → first_match ps xs n ≡ first_match ps xs (p + 1) → first_match ps xs p ≡ first → first_match ps xs n ≡ first
 first_passed ps xs p n first within other is was = is ∙ first_next ps xs p within other ∙ was
 
--- k characters of a piece are passed over, whatever follows the piece
-pub piece_passed : (ps xs piece : List ℕ) (p k : ℕ) → k ≤ length piece → drop p xs ≡ piece ++ drop (p + length piece) xs
-    → ((rest : List ℕ) → first_in ps (p + k) (drop k piece ++ rest) ≡ first_in ps p (piece ++ rest)) → first_match ps xs (p + k) ≡ first_match ps xs p
-piece_passed ps xs piece p k within is passed =
-    let rest : List ℕ = drop (p + length piece) xs in
-    let left : drop (p + k) xs ≡ drop k piece ++ rest = sym (drop-drop k p xs) ∙ ap (λ (l : List ℕ). drop k l) is ∙ drop-append-le k piece rest within in
-    ap (first_in ps (p + k)) left ∙ passed rest ∙ sym (ap (first_in ps p) is)
-
 -- where no text is left, no other pattern stands
 pub first_end : (ps xs : List ℕ) (p : ℕ) → length xs ≤ p → (length ps ≡ 0 → ⊥) → first_match ps xs p ≡ None
 first_end [] xs p past some = absurd (some refl)
@@ -90,7 +76,7 @@ first_end (x ∷ ps) xs p past some = ap (first_in (x ∷ ps) p) (drop_all p xs 
 last_here : (ps xs : List ℕ) (p : ℕ) → matches_at ps xs p ≡ true → last_match ps xs p ≡ Some p
 last_here ps xs p here = rw here refl
 
-before : (ps xs : List ℕ) (p : ℕ) → matches_at ps xs p ≡ false → last_match ps xs p ≡ last_match_before ps xs p
+pub before : (ps xs : List ℕ) (p : ℕ) → matches_at ps xs p ≡ false → last_match ps xs p ≡ last_match_before ps xs p
 before ps xs p other = rw other refl
 
 -- the last match before a place is some answer: what it is where the pattern stands just before it, and where it does not

@@ -1,2 +1,3 @@
 pub mod Planned
-pub mod Firsts
+pub mod Borders
+pub mod Known

@@ -1,16 +1,19 @@
 //! Searches in a text: a pattern matches whatever the case of its ASCII letters.
 #![tactic(auto)]
 
-ghost use Rattle.std.specs.Prelude.{◌≡◌, ℕ, ◌+◌, ◌<◌, ◌≤◌, length, IfSome, true};
-ghost use Rattle.std.specs.Char.{eq_ignore_ascii_case, to_ascii_lowercase, to_ascii_uppercase};
+ghost use Rattle.std.specs.Prelude.{◌≡◌, ◌+◌, ◌≤◌, length, IfSome, true};
+ghost use Rattle.std.specs.Char.{eq_ignore_ascii_case};
 ghost use Rattle.mgs_model.specs.Searching.{matches_at, first_match, last_match, last_match_before, match_from, match_past};
-ghost use Rattle.mgs_search.specs.Firsts.{IsFirst, IsNonePassed, IsSameMatch};
 
+mod heads;
 mod incremental;
+mod known;
 mod prompted;
 mod replacing;
 
+use heads::{borders_of, head_of, last_tailed, next_headed, tail_of};
 pub use incremental::IncrementalSearch;
+pub use known::{Failed, find_known};
 use mgs_model::Direction;
 use mgs_text::Text;
 pub use prompted::search_for;
@@ -40,77 +43,6 @@ pub fn matches_at<T: Text>(text: &T, p: usize, pattern: &[char]) -> bool
     true
 }
 
-// The two cases of a pattern's first character: two comparisons with it cost less than to fold each character of a text.
-#[derive(Clone, Copy)]
-struct First {
-    small: char,
-    large: char,
-}
-
-fn first_of(pattern: &[char]) -> First
-    requires { 0 < length pattern.now }
-    ensures { IsFirst pattern.now result }
-{
-    let first = pattern[0];
-    First {
-        small: first.to_ascii_lowercase(),
-        large: first.to_ascii_uppercase(),
-    }
-}
-
-// Whether a character is one of the two cases of another.
-fn is_either(c: char, first: First) -> bool
-    ensures { (f : ℕ) → first.small ≡ to_ascii_lowercase f → first.large ≡ to_ascii_uppercase f → result ≡ eq_ignore_ascii_case f c }
-{
-    c == first.small || c == first.large
-}
-
-// How many characters stand before the first one that a pattern may begin with: all of them where there is none. No such
-// pattern is passed over, whatever follows.
-fn begun_in(piece: &[char], first: First) -> usize
-    ensures value { IsNonePassed first piece.now result }
-    ensures within { result ≤ length piece.now }
-{
-    for i in 0..piece.len() {
-        if is_either(piece[i], first) {
-            return i;
-        }
-    }
-    piece.len()
-}
-
-// The first place from `from` on where a character stands that a pattern may begin with, or the end. No such pattern is passed over.
-fn next_begun<T: Text>(text: &T, from: usize, first: First) -> usize
-    requires { from ≤ length (T.text text.now) }
-    ensures value { IsSameMatch first (λ chars. first_match chars (T.text text.now)) result from }
-    ensures order { from ≤ result }
-    ensures within { result ≤ length (T.text text.now) }
-{
-    let mut p = from;
-    while p < text.len() {
-        let piece = text.piece(p);
-        let passed = begun_in(piece, first);
-        p += passed;
-        if passed < piece.len() {
-            break;
-        }
-    }
-    p
-}
-
-// The place behind the last one before `end` where a character stands that a pattern may begin with, or 0. No such pattern is passed over.
-fn last_begun<T: Text>(text: &T, end: usize, first: First) -> usize
-    requires { end ≤ length (T.text text.now) }
-    ensures value { IsSameMatch first (λ chars. last_match_before chars (T.text text.now)) result end }
-    ensures order { result ≤ end }
-{
-    let mut left = end;
-    while left > 0 && !is_either(text.at(left - 1), first) {
-        left -= 1;
-    }
-    left
-}
-
 /// The first position from `from` on where a pattern stands.
 pub fn find_forward<T: Text>(text: &T, from: usize, pattern: &[char]) -> Option<usize>
     requires { from ≤ length (T.text text.now) }
@@ -120,13 +52,14 @@ pub fn find_forward<T: Text>(text: &T, from: usize, pattern: &[char]) -> Option<
     if pattern.is_empty() {
         return Some(from);
     }
-    let first = first_of(pattern);
-    let mut p = next_begun(text, from, first);
+    let head = head_of(pattern);
+    let borders = borders_of(head.as_slice());
+    let mut p = next_headed(text, from, head.as_slice(), borders.as_slice());
     while p < text.len() {
         if matches_at(text, p, pattern) {
             return Some(p);
         }
-        p = next_begun(text, p + 1, first);
+        p = next_headed(text, p + 1, head.as_slice(), borders.as_slice());
     }
     None
 }
@@ -140,13 +73,15 @@ pub fn find_backward<T: Text>(text: &T, from: usize, pattern: &[char]) -> Option
     if pattern.is_empty() {
         return Some(from);
     }
-    let first = first_of(pattern);
-    let mut left = last_begun(text, text.len().min(from + 1), first);
+    let tail = tail_of(pattern);
+    let borders = borders_of(tail.as_slice());
+    let end = text.len().min(from + 1);
+    let mut left = last_tailed(text, end, pattern, tail.as_slice(), borders.as_slice());
     while left > 0 {
         if matches_at(text, left - 1, pattern) {
             return Some(left - 1);
         }
-        left = last_begun(text, left - 1, first);
+        left = last_tailed(text, left - 1, pattern, tail.as_slice(), borders.as_slice());
     }
     None
 }
