@@ -153,7 +153,6 @@ fn save<T: Marked + Drop, S: Store>(
                 fail(&mut sessions[at], Message::SaveFailed);
                 Ok(Touched::Nowhere)
             }
-            SaveFault::Short => Err(Short),
             // The rights were granted when it was planned, and the file was there.
             SaveFault::Denied(_) => unreachable!(),
             SaveFault::NoFile => unreachable!(),

@@ -5,14 +5,13 @@ use Rattle.mgs_model.specs.declared.entry.Decision.{Decision}
 use Rattle.mgs_model.specs.declared.entry.Decision.TheVariants.{Granted}
 use Rattle.mgs_store.specs.Stores.{saved_of}
 use Rattle.mgs_buffers.specs.declared.fault.SaveFault.{SaveFault}
-use Rattle.mgs_buffers.specs.declared.fault.SaveFault.TheVariants.{Denied, NoFile, Short, Store}
+use Rattle.mgs_buffers.specs.declared.fault.SaveFault.TheVariants.{Denied, NoFile, Store}
 
--- the rights first, then whether there is a file; the store and memory are asked only where both stand
+-- the rights first, then whether there is a file; the store is asked only where both stand
 abbrev pub SaveAnswers : Result (Unit {0}) SaveFault → Decision → Bool → Type 0
 SaveAnswers (Ok done) due file = (due ≡ Granted) × (file ≡ true)
 SaveAnswers (Err (Denied decision)) due file = (due ≡ decision) × (decision ≢ Granted)
 SaveAnswers (Err NoFile) due file = (due ≡ Granted) × (file ≡ false)
-SaveAnswers (Err Short) due file = (due ≡ Granted) × (file ≡ true)
 SaveAnswers (Err Store) due file = (due ≡ Granted) × (file ≡ true)
 
 -- what a store accepts where it saves, and where not

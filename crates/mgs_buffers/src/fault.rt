@@ -39,8 +39,6 @@ pub enum SaveFault {
     Denied(Decision),
     /// The buffer has no file.
     NoFile,
-    /// Memory was refused, and the store was not asked.
-    Short,
     /// The store could not save the text, and counted the fault.
     Store,
 }

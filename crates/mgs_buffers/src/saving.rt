@@ -1,5 +1,5 @@
 // A save: the text of a buffer is handed to a store.
-ghost use Rattle.std.specs.Prelude.{◌≡◌, ◌≢◌, false, is_ok, Err, IfErr, IfOk, OnOk, OnErr};
+ghost use Rattle.std.specs.Prelude.{◌≡◌, ◌≢◌, false, is_ok, Err, IfErr, OnOk, OnErr};
 ghost use Rattle.mgs_model.specs.Access.{decision};
 ghost use Rattle.mgs_model.specs.Apply.{change_first};
 ghost use Rattle.mgs_store.specs.Stores.{IsCounted, told_more};
@@ -12,7 +12,7 @@ use crate::buffer::{Buffer, read_and_write};
 use crate::buffers::Buffers;
 use crate::fault::SaveFault;
 use mgs_marks::Marked;
-use mgs_model::{Name, Short};
+use mgs_model::Name;
 use mgs_policy::Directory;
 use mgs_store::Store;
 use mgs_text::Text;
@@ -38,19 +38,27 @@ fn is_stored<S: Store>(store: &mut S, name: &Name, text: &[char]) -> bool
     }
 }
 
-// Hands a text to the store, and tells whether it was saved. `Short`: memory was refused, and the store was not asked.
-fn ask_store<T: Text, S: Store>(text: &T, name: &Name, store: &mut S) -> Result<bool, Short>
-    ensures saved { IfOk result (λ stored. S.accepted store.new ≡ told_more (saves_if stored name.now (T.text text.now)) (S.accepted store.old)) }
-    ensures fault { IfOk result (λ stored. stored ≡ false → IsCounted (S.failed store.old) (S.failed store.new)) }
-    ensures unasked { OnErr result (store.new ≡ store.old) }
+// Hands a text to the store as it lies, and tells whether it was saved.
+fn ask_store<T: Text, S: Store>(text: &mut T, name: &Name, store: &mut S) -> bool
+    ensures saved { S.accepted store.new ≡ told_more (saves_if result name.now (T.text text.old)) (S.accepted store.old) }
+    ensures fault { result ≡ false → IsCounted (S.failed store.old) (S.failed store.new) }
+    ensures text { T.text text.new ≡ T.text text.old }
+    ensures marks { T.marks text.new ≡ T.marks text.old }
 {
-    match text.copy(0, text.len()) {
-        Ok(chars) => Ok(is_stored(store, name, &chars)),
-        Err(short) => Err(short),
-    }
+    text.gather();
+    is_stored(store, name, text.whole())
 }
 
 impl<T: Marked + Drop> Buffer<T> {
+    // Hands the text to the store as it lies, and tells whether it was saved.
+    fn ask_store<S: Store>(&mut self, name: &Name, store: &mut S) -> bool
+        ensures same { Changed T.text T.marks (λ k. k) self.old self.new }
+        ensures saved { S.accepted store.new ≡ told_more (saves_if result name.now (T.text self.old.text)) (S.accepted store.old) }
+        ensures fault { result ≡ false → IsCounted (S.failed store.old) (S.failed store.new) }
+    {
+        ask_store(&mut self.text, name, store)
+    }
+
     // The save of a user, under the buffer's name.
     fn save_as<S: Store>(
         &mut self,
@@ -73,14 +81,11 @@ impl<T: Marked + Drop> Buffer<T> {
         if !self.has_file {
             return Err(SaveFault::NoFile);
         }
-        match ask_store(&self.text, name, store) {
-            Ok(true) => {
-                self.unmodify();
-                Ok(())
-            }
-            Ok(false) => Err(SaveFault::Store),
-            Err(Short) => Err(SaveFault::Short),
+        if !self.ask_store(name, store) {
+            return Err(SaveFault::Store);
         }
+        self.unmodify();
+        Ok(())
     }
 }
 
@@ -89,8 +94,8 @@ impl<T: Marked + Drop> Buffers<T> {
     /// WRITE_DATA are granted to the user.
     ///
     /// The faults, checked in this order, leave the buffers as they were: `Denied`, what the buffer's access list decides, which is
-    /// not `Granted`; `NoFile` where the buffer has no file; `Short` where memory was refused; `Store` where the store could not save
-    /// the text, which it counted. But for the last the store was not asked.
+    /// not `Granted`; `NoFile` where the buffer has no file; `Store` where the store could not save the text, which it counted. But for
+    /// the last the store was not asked. No memory is taken.
     pub fn save_as<S: Store>(
         &mut self,
         directory: &Directory,

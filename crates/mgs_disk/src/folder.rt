@@ -1,10 +1,9 @@
 // The folder of a file that is replaced.
 use crate::kept::PRIVATE;
-use std::alloc::Global;
 use std::fs::{self, File, OpenFile, OpenOptions};
 use std::io::{self, ErrorKind};
 use std::os::unix::fs::OpenOptionsExt;
-use std::path::{Path, PathBuf};
+use std::path::Path;
 use std::random::RandomSource;
 
 // How many names are tried for a new file. That one of so many is taken means that something is wrong.
@@ -12,33 +11,53 @@ const TRIES: usize = 16;
 
 /// A new file, and its path.
 #[derive(Drop)]
-pub(crate) struct NewFile {
+pub(crate) struct NewFile<'a> {
     /// Where it lies.
-    pub path: PathBuf,
+    pub path: Path<'a>,
     /// The file, open for writing.
     pub file: File,
 }
 
-// A path beside a file, with a number that nobody foresees.
-fn path_beside<R: RandomSource>(rt: &R, alloc: Global, path: Path<'_>) -> io::Result<PathBuf> {
-    let mut bytes = [0; 8];
-    rt.fill_bytes(&mut bytes)?;
-    let number = u64::from_le_bytes(bytes);
-    let name = format!(in alloc; ".mgd-{number:016x}")?;
-    Ok(path.with_file_name(alloc, name.as_str())?)
+// Puts more behind a text that has room for it.
+fn put(text: &mut String, more: &str) -> io::Result<()> {
+    text.push_str(more)
+        .map_err(|_| io::Error::from(ErrorKind::OutOfMemory))
 }
 
-/// Makes an empty file beside another, which this process alone may open: it is made where nothing has its name, no link either.
-pub(crate) fn create_beside<R: fs::Files<File = File> + RandomSource + AllocGlobal>(
+// Spells a path beside a file, with a number that nobody foresees.
+fn spell_beside<R: RandomSource>(rt: &R, path: Path<'_>, beside: &mut String) -> io::Result<()> {
+    let mut bytes = [0; 8];
+    rt.fill_bytes(&mut bytes)?;
+    beside.clear();
+    if let Some(folder) = path.parent() {
+        put(beside, folder.to_string_lossy())?;
+    }
+    put(beside, "/.mgd-")?;
+    for byte in bytes {
+        put(beside, &"0123456789abcdef"[(byte >> 4) as usize..(byte >> 4) as usize + 1])?;
+        put(beside, &"0123456789abcdef"[(byte & 15) as usize..(byte & 15) as usize + 1])?;
+    }
+    Ok(())
+}
+
+/// Makes an empty file beside another, which this process alone may open: it is made where nothing has its name, no link either. Its
+/// path is spelled in the room that is lent.
+pub(crate) fn create_beside<'a, R: fs::Files<File = File> + RandomSource>(
     rt: &R,
     path: Path<'_>,
-) -> io::Result<NewFile> {
+    beside: &'a mut String,
+) -> io::Result<NewFile<'a>> {
+    let mut how = OpenOptions::new();
+    how.write(true).create_new(true).mode(PRIVATE);
     for _ in 0..TRIES {
-        let path = path_beside(rt, rt.alloc(), path)?;
-        let mut how = OpenOptions::new();
-        how.write(true).create_new(true).mode(PRIVATE);
-        match how.open(rt, path.as_path()) {
-            Ok(file) => return Ok(NewFile { path, file }),
+        spell_beside(rt, path, beside)?;
+        match how.open(rt, beside.as_str()) {
+            Ok(file) => {
+                return Ok(NewFile {
+                    path: Path::new(beside.as_str()),
+                    file,
+                });
+            }
             Err(error) if error.kind() == ErrorKind::AlreadyExists => {}
             Err(error) => return Err(error),
         }

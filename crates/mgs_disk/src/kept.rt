@@ -33,15 +33,21 @@ fn mode_after(old: Option<&Metadata>) -> u32
     }
 }
 
-/// Gives a new file the mode of the one in whose place it comes, and its owner and group as far as this process may. Nobody else can
-/// open it before: so the group stands before the mode, and the owner, who may be another, comes last.
-pub(crate) fn keep(new: &File, old: Option<&Metadata>) -> io::Result<()> {
+/// Gives a new file the group of the one in whose place it comes, as far as this process may.
+pub(crate) fn give_group(new: &File, old: Option<&Metadata>) {
     if let Some(old) = old {
         let _ = fchown(new, None, Some(old.gid()));
     }
-    new.set_permissions(Permissions::from_mode(mode_after(old)))?;
+}
+
+/// Gives it its mode. Nobody else can open it before.
+pub(crate) fn give_mode(new: &File, old: Option<&Metadata>) -> io::Result<()> {
+    new.set_permissions(Permissions::from_mode(mode_after(old)))
+}
+
+/// Gives it its owner, as far as this process may.
+pub(crate) fn give_owner(new: &File, old: Option<&Metadata>) {
     if let Some(old) = old {
         let _ = fchown(new, Some(old.uid()), None);
     }
-    Ok(())
 }

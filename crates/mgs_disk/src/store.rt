@@ -1,5 +1,5 @@
 // Where the buffers of a served configuration are saved: each in its own file.
-ghost use Rattle.std.specs.Prelude.{◌≡◌, IfOk, string_bytes};
+ghost use Rattle.std.specs.Prelude.{◌≡◌, ◌≤◌, IfOk, string_bytes, string_capacity};
 ghost use Rattle.std.specs.List.{find};
 ghost use Rattle.std.specs.Path.{path_bytes};
 ghost use Rattle.std.specs.Option.{option_map};
@@ -54,12 +54,39 @@ fn path_of<'a>(places: &'a [Place], name: &str) -> Option<Path<'a>>
     }
 }
 
+// How many bytes are gathered before they are written, and how many a path may have.
+const ROOM: usize = 8192;
+
+// Saves the text of the buffer of this name in its file.
+fn save_in_file<R: fs::Files<File = File> + RandomSource>(
+    rt: &R,
+    places: &[Place],
+    room: &mut String,
+    beside: &mut String,
+    name: &str,
+    text: &[char],
+) -> Result<(), StoreFault>
+    requires { 4 ≤ string_capacity room.old }
+    ensures { string_capacity room.old ≤ string_capacity room.new }
+{
+    let Some(path) = path_of(places, name) else {
+        return Err(StoreFault);
+    };
+    match replace_file(rt, path, room, beside, text) {
+        Ok(()) => Ok(()),
+        Err(_) => Err(StoreFault),
+    }
+}
+
 /// The files of buffers. What they hold is not known to proofs.
 #[derive(Drop)]
 pub struct FileStore<'a, R> {
     rt: &'a R,
     places: Vec<Place>,
+    room: String,
+    beside: String,
     faults: u64,
+    ghost wide: { 4 ≤ string_capacity room },
 }
 
 impl<'a, R: fs::Files<File = File> + RandomSource + AllocGlobal> FileStore<'a, R> {
@@ -75,17 +102,12 @@ impl<'a, R: fs::Files<File = File> + RandomSource + AllocGlobal> FileStore<'a, R
         Ok(FileStore {
             rt,
             places,
+            room: String::with_capacity(rt.alloc(), ROOM)?,
+            beside: String::with_capacity(rt.alloc(), ROOM)?,
             faults: 0,
         })
     }
 
-    // Saves the text of the buffer of this name in its file.
-    fn save_in_file(&self, name: &str, text: &[char]) -> Result<(), StoreFault> {
-        let Some(path) = path_of(&self.places, name) else {
-            return Err(StoreFault);
-        };
-        replace_file(self.rt, path, text).map_err(|_| StoreFault)
-    }
 }
 
 impl<'a, R: fs::Files<File = File> + RandomSource + AllocGlobal> Store for FileStore<'a, R> {
@@ -96,7 +118,14 @@ impl<'a, R: fs::Files<File = File> + RandomSource + AllocGlobal> Store for FileS
     ghost accepted = { λ store. None };
 
     fn save(&mut self, name: &str, text: &[char]) -> Result<(), StoreFault> {
-        let saved = self.save_in_file(name, text);
+        let saved = save_in_file(
+            self.rt,
+            &self.places,
+            &mut self.room,
+            &mut self.beside,
+            name,
+            text,
+        );
         if saved.is_err() {
             self.faults = self.faults.saturating_add(1);
         }

@@ -11,3 +11,4 @@ pub mod Sharing
 pub mod Shifts
 pub mod Slots
 pub mod Walks
+mod Gathering

@@ -102,7 +102,8 @@ fn turn_over(from: &mut Vec<usize>, to: &mut Vec<usize>, left: usize, len: usize
 impl Feeds {
     // Those of characters that all stand before the gap.
     pub(crate) fn of(alloc: Global, chars: &[char]) -> Result<Feeds, Short>
-        ensures { IfOk result (λ f. AreFeeds f.before.items f.after.items chars.now []) }
+        ensures feeds { IfOk result (λ f. AreFeeds f.before.items f.after.items chars.now []) }
+        ensures room { IfOk result (λ f. length f.before.items + length f.after.items ≤ vec_capacity f.before) }
     {
         let mut before = Vec::with_capacity(alloc, count(chars)).map_err(|_| Short)?;
         push_places(&mut before, 0, chars);
@@ -114,6 +115,7 @@ impl Feeds {
 
     // Makes room for `more` line feeds, wherever the gap comes to lie. `Short`: memory was refused.
     pub(crate) fn make_room(&mut self, more: usize) -> Result<(), Short>
+        ensures capacity { vec_capacity self.old.before ≤ vec_capacity self.new.before }
         ensures before { self.new.before.items ≡ self.old.before.items }
         ensures after { self.new.after.items ≡ self.old.after.items }
         ensures room_before { OnOk result (length self.new.before.items + length self.new.after.items + more ≤ vec_capacity self.new.before) }
@@ -132,7 +134,7 @@ impl Feeds {
         requires within { a ≤ length front.now + length back.now }
         requires fits { length front.now + length back.now < 2 ^ 61 }
         requires room_before { length self.old.before.items + length self.old.after.items ≤ vec_capacity self.old.before }
-        requires room_after { length self.old.before.items + length self.old.after.items ≤ vec_capacity self.old.after }
+        requires room_after { a < length front.now → length self.old.before.items + length self.old.after.items ≤ vec_capacity self.old.after }
         ensures feeds { AreFeeds self.new.before.items self.new.after.items (take a (front.now ++ back.now)) (drop a (front.now ++ back.now)) }
         ensures number { length self.new.before.items + length self.new.after.items ≡ length self.old.before.items + length self.old.after.items }
         ensures capacity { vec_capacity self.new.before ≡ vec_capacity self.old.before }
@@ -155,6 +157,7 @@ impl Feeds {
         ensures after { self.new.after.items ≡ ends_from 0 (drop n back.now) }
         ensures before { self.new.before.items ≡ self.old.before.items }
         ensures capacity { vec_capacity self.new.before ≡ vec_capacity self.old.before }
+        ensures fewer { length self.new.after.items ≤ length self.old.after.items }
     {
         let left = below(&self.after, back.len() - n + 1);
         self.after.truncate(left);
@@ -165,6 +168,7 @@ impl Feeds {
         requires room { length self.old.before.items + count_by is_feed put.now ≤ vec_capacity self.old.before }
         requires fits { a + length put.now < 2 ^ 64 }
         ensures before { self.new.before.items ≡ self.old.before.items ++ feeds_from a put.now }
+        ensures capacity { vec_capacity self.new.before ≡ vec_capacity self.old.before }
         ensures after { self.new.after.items ≡ self.old.after.items }
     {
         push_places(&mut self.before, a, put);

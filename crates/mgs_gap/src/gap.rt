@@ -1,13 +1,14 @@
 // A text over a block with a gap. A mark is a raw place of the block: its number there, the gap counted.
-ghost use Rattle.std.specs.Prelude.{◌≡◌, ℕ, ◌+◌, ◌-◌, ◌<◌, ◌≤◌, ◌++◌, Option, Some, None, length, slice_range, IfOk};
+ghost use Rattle.std.specs.Prelude.{◌≡◌, ℕ, ◌+◌, ◌-◌, ◌<◌, ◌≤◌, ◌++◌, [], Option, Some, None, length, slice_range, IfOk};
 ghost use Rattle.mgs_marks.specs.Marks.{position_in};
+ghost use Rattle.std.specs.Vec.{vec_capacity};
 ghost use Rattle.mgs_gap.specs.Feeds.{AreFeeds};
 ghost use Rattle.mgs_gap.specs.Gapped.{text_of};
 ghost use Rattle.mgs_gap.specs.RawPlaces.{text_place, IsRaw, marks_at};
 
 use crate::block::Block;
 use crate::feeds::Feeds;
-use crate::lined::edit_lined;
+use crate::lined::{edit_lined, gather_lined};
 use crate::places::{
     Gap, Splice, count_used, free_slot, leaves_marks, move_places, to_raw, to_text,
 };
@@ -25,7 +26,7 @@ pub struct GapText {
     feeds: Feeds,
     places: Vec<Option<usize>>,
     alloc: Global,
-    ghost lines: { AreFeeds feeds.before.items feeds.after.items block.front block.back },
+    ghost lines: { (AreFeeds feeds.before.items feeds.after.items block.front block.back) × (length feeds.before.items + length feeds.after.items ≤ vec_capacity feeds.before) },
     ghost raw: { (i : ℕ) → IsRaw (length block.front) block.gap (position_in places.items i) },
     ghost within: { (i : ℕ) → text_place (length block.front) block.gap (position_in places.items i) ≤ length (text_of block) },
 }
@@ -72,6 +73,8 @@ fn copied(
 impl Text for GapText {
     ghost text = { λ t. text_of t.block };
 
+    ghost together = { λ t. t.block.back ≡ [] };
+
     ghost marks = { λ t. marks_at (length t.block.front) t.block.gap t.places.items };
 
     fn of(alloc: Global, chars: &[char]) -> Result<Self, Short> {
@@ -95,6 +98,28 @@ impl Text for GapText {
 
     fn piece(&self, at: usize) -> &[char] {
         self.block.piece(at)
+    }
+
+    fn gather(&mut self) {
+        let old = self.gap();
+        // The block's size bounds every place in it.
+        let _size = self.block.after();
+        let end = self.block.before() + self.block.after();
+        let stays = Splice {
+            from: end,
+            to: end,
+            count: 0,
+        };
+        gather_lined(&mut self.block, &mut self.feeds);
+        let new = Gap {
+            start: self.block.before(),
+            width: self.block.gap(),
+        };
+        move_places(&mut self.places, old, stays, new);
+    }
+
+    fn whole(&self) -> &[char] {
+        self.block.front()
     }
 
     fn copy(&self, a: usize, b: usize) -> Result<Vec<char>, Short> {

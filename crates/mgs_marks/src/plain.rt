@@ -1,5 +1,5 @@
 // A plain text, and a slab of the positions in it.
-ghost use Rattle.std.specs.Prelude.{◌≡◌, ◌≢◌, ℕ, ◌+◌, ◌<◌, ◌≤◌, ◌^◌, Some, None, length, slice_set, IsSome, IfOk, OnErr};
+ghost use Rattle.std.specs.Prelude.{◌≡◌, ◌≢◌, ℕ, ◌+◌, ◌<◌, ◌≤◌, ◌^◌, ⊤, Some, None, length, slice_set, IsSome, IfOk, OnErr};
 ghost use Rattle.std.specs.Option.{option_map};
 ghost use Rattle.mgs_model.specs.Text.{shift, shift_all};
 ghost use Rattle.slab.specs.Slab.{get};
@@ -93,6 +93,8 @@ impl Text for PlainMarked {
 
     ghost marks = { λ t. t.marks };
 
+    ghost together = { λ _. ⊤ };
+
     fn of(alloc: Global, chars: &[char]) -> Result<Self, Short> {
         let text = PlainText::of(alloc, chars)?;
         Ok(PlainMarked {
@@ -111,6 +113,14 @@ impl Text for PlainMarked {
 
     fn piece(&self, at: usize) -> &[char] {
         self.text.piece(at)
+    }
+
+    fn gather(&mut self) {
+        self.text.gather();
+    }
+
+    fn whole(&self) -> &[char] {
+        self.text.whole()
     }
 
     fn copy(&self, a: usize, b: usize) -> Result<Vec<char>, Short> {

@@ -18,6 +18,9 @@ pub trait Text {
     // slot number to position; a text without marks has none
     ghost marks: { Self → List (Option ℕ) };
 
+    // whether all its characters lie together
+    ghost together: { Self → Type 0 };
+
     /// A text of these characters, without marks, that takes its memory from `alloc`. `Short`: it was refused.
     fn of(alloc: Global, chars: &[char]) -> Result<Self, Short>
         ensures text { IfOk result (λ t. text t ≡ chars.now) }
@@ -40,6 +43,17 @@ pub trait Text {
         ensures piece { drop at (text self.now) ≡ result.now ++ drop (at + length result.now) (text self.now) }
         ensures within { at + length result.now ≤ length (text self.now) }
         ensures some { at < length (text self.now) → 0 < length result.now };
+
+    /// Brings all characters together, until the next edit. It takes no memory.
+    fn gather(&mut self)
+        ensures together { together self.new }
+        ensures text { text self.new ≡ text self.old }
+        ensures marks { marks self.new ≡ marks self.old };
+
+    /// All characters of a text in which they lie together.
+    fn whole(&self) -> &[char]
+        requires { together self.now }
+        ensures { result.now ≡ text self.now };
 
     /// The characters from `a` up to `b`. `Short`: memory was refused.
     fn copy(&self, a: usize, b: usize) -> Result<Vec<char>, Short>

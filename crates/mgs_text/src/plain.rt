@@ -1,5 +1,5 @@
 // A text as a vector of its characters.
-ghost use Rattle.std.specs.Prelude.{◌≡◌, ℕ, ◌≤◌, [], length, IfOk, OnOk, OnErr};
+ghost use Rattle.std.specs.Prelude.{◌≡◌, ℕ, ◌≤◌, ⊤, [], length, IfOk, OnOk, OnErr};
 ghost use Rattle.mgs_model.specs.Text.{edited};
 
 use crate::Text;
@@ -46,6 +46,8 @@ impl Text for PlainText {
 
     ghost marks = { λ _. [] };
 
+    ghost together = { λ _. ⊤ };
+
     fn of(alloc: Global, chars: &[char]) -> Result<Self, Short> {
         let chars = copied(alloc, chars)?;
         Ok(PlainText { chars, alloc })
@@ -62,6 +64,12 @@ impl Text for PlainText {
     #[tactic(auto, using(crate::proofs::Pieces::all_behind))]
     fn piece(&self, at: usize) -> &[char] {
         &self.chars[at..]
+    }
+
+    fn gather(&mut self) {}
+
+    fn whole(&self) -> &[char] {
+        &self.chars
     }
 
     fn copy(&self, a: usize, b: usize) -> Result<Vec<char>, Short> {

@@ -54,7 +54,7 @@ invariant_of-self-2 c =
     let held : take now.places.len (ns ++ drop (length ns) xs) ≡ map (option_map f) xs = take_at ns (drop (length ns) xs) now.places.len long ∙ gone in
     let size : length (e.front ++ e.back) ≡ length whole - (b - a) + length put = edited_length whole e.front e.back put a b c.in_ok-edit_lined.ensures.front c.in_ok-edit_lined.ensures.back c.requires.order c.requires.within in
     record {
-      lines = c.in_ok-edit_lined.ensures.feeds;
+      lines = (c.in_ok-edit_lined.ensures.feeds, c.in_ok-edit_lined.ensures.room now.lines.1);
       raw = λ i. subst (λ ys. IsRaw m h (position_in ys i)) (sym held) (moved_raw n g a b (length put) m h (length whole) xs c.requires.order c.requires.within now.within i);
       within = λ i. subst (λ ys. text_place m h (position_in ys i) ≤ length (e.front ++ e.back)) (sym held)
           (subst (λ k. text_place m h (position_in (map (option_map f) xs) i) ≤ k) (sym size) (moved_within n g a b (length put) m h (length whole) xs c.requires.order c.requires.within now.within i));

@@ -1,0 +1,4 @@
+mod Appending
+mod Lengths
+mod Placing
+mod Telling
