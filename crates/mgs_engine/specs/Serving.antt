@@ -1,5 +1,5 @@
 -- A world that is served: for each open session, the bytes that wait for its terminal. Beside it what its store tells.
-use Rattle.std.specs.Prelude.{◌≡◌, ℕ, ◌+◌, nat_le, Bool, true, false, cond, is_some, nat_eq, List, [], ◌∷◌, ◌++◌, map, length, All, Option, Some, None, if◌then◌else◌}
+use Rattle.std.specs.Prelude.{◌≡◌, ℕ, ◌+◌, nat_le, Bool, true, false, cond, is_some, nat_eq, find, List, [], ◌∷◌, ◌++◌, map, length, All, Option, Some, None, if◌then◌else◌}
 use Rattle.std.specs.Option.{option_or}
 use Rattle.mgs_model.specs.World.{World}
 use Rattle.mgs_model.specs.Apply.{remove_first}
@@ -54,6 +54,16 @@ to_tell cause id s = cond (is_served id s) ((id, cause) ∷ []) []
 
 abbrev pub ended_by : Cause → ℕ → Serving → Serving
 ended_by cause id s = record { world = closed s.world id; store = s.store; queues = remove_first (is_queue_of id) s.queues; ended = s.ended ++ to_tell cause id s }
+
+-- whether a session is among those that ended, and among those that are to be told
+abbrev pub is_end_of : ℕ → ℕ × Cause → Bool
+is_end_of id e = nat_eq e.0 id
+
+abbrev pub has_ended : ℕ → List (ℕ × Cause) → Bool
+has_ended id ended = is_some (find (is_end_of id) ended)
+
+abbrev pub is_to_tell : ℕ → Serving → Bool
+is_to_tell id s = has_ended id s.ended
 
 -- one after another
 abbrev pub all_ended_by : Cause → List ℕ → Serving → Serving

@@ -1,8 +1,9 @@
 // Sessions whose connections are to be written to, or closed.
-ghost use Rattle.std.specs.Prelude.{◌≡◌, ◌<◌, ℕ, find, IfSome};
+ghost use Rattle.std.specs.Prelude.{◌≡◌, ◌≢◌, ◌<◌, ℕ, false, find, IfSome};
 ghost use Rattle.std.specs.Option.{option_map};
 ghost use Rattle.mgs_wire.specs.Calls.{IsBefore};
 ghost use Rattle.mgs_engine.specs.Due.{is_due};
+ghost use Rattle.mgs_engine.specs.Serving.{has_ended};
 
 use crate::ending::Cause;
 use crate::screen::Screen;
@@ -25,6 +26,7 @@ pub(crate) fn next_waiting(screens: &[Screen], after: SessionId) -> Option<Sessi
 fn lesser(least: Option<SessionId>, after: SessionId, id: SessionId) -> Option<SessionId>
     ensures above { IfSome least (λ x. after < x) → IfSome result (λ x. after < x) }
     ensures before { (x : ℕ) → IsBefore x result → IsBefore x least }
+    ensures id { (x : ℕ) → after < x → IsBefore x result → id ≢ x }
 {
     if id <= after {
         return least;
@@ -43,6 +45,7 @@ pub(crate) fn with_ended(
 ) -> Option<SessionId>
     ensures above { IfSome least (λ x. after < x) → IfSome result (λ x. after < x) }
     ensures before { (x : ℕ) → IsBefore x result → IsBefore x least }
+    ensures ended { (x : ℕ) → after < x → IsBefore x result → has_ended x ended.now ≡ false }
 {
     let mut least = least;
     for (id, _) in ended {

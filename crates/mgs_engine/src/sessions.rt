@@ -8,13 +8,15 @@ use mgs_wire::Sessions;
 impl<T: Marked + Drop, S: Store + Drop> Sessions for Engine<T, S> {
     ghost use Rattle.mgs_model.specs.Events.{is_open};
     ghost use Rattle.mgs_engine.specs.Does.{Does};
-    ghost use Rattle.mgs_engine.specs.Serving.{pending_of};
+    ghost use Rattle.mgs_engine.specs.Serving.{is_to_tell, pending_of};
 
     ghost does = { Does };
 
     ghost live = { λ id s. is_open id s.world };
 
     ghost pending = { pending_of };
+
+    ghost is_ended = { is_to_tell };
 
     fn open(&mut self, user: &str, rows: usize, cols: usize) -> Result<SessionId, OpenFault> {
         Engine::open(self, user, rows, cols)

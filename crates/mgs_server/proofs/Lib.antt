@@ -1,4 +1,5 @@
 mod Calling
+mod Due
 mod First
 mod Moving
 mod Turning

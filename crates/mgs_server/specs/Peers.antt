@@ -1,12 +1,16 @@
 -- CONNECTIONS UNDER THEIR KEYS, beside the server that they ask, and what is done to them.
-use Rattle.std.specs.Prelude.{◌≡◌, ◌≢◌, ℕ, Bool, true, false, List, [], ◌∷◌, Option, Some, None, option_map, map, slice_index_or}
+use Rattle.std.specs.Prelude.{◌≡◌, ◌≢◌, ℕ, zero, suc, ◌<◌, Bool, true, false, List, [], ◌∷◌, Option, Some, None, option_map, map, slice_index_or, nat_eq, Result}
+use Rattle.std.specs.declared.io.Error.{Error}
 use Rattle.slab.specs.Slab.{Slab}
 use Rattle.mgs_wire.specs.declared.pump.PumpedIn.{PumpedIn}
 use Rattle.mgs_wire.specs.declared.pump.PumpedIn.TheVariants.{Took, Idle, Finished, Failed}
 use Rattle.mgs_wire.specs.declared.pump.PumpedOut.{PumpedOut}
-use Rattle.mgs_wire.specs.Calls.{Call}
-use Rattle.mgs_wire.specs.Connections.{Connection, Logging_in, Serving, Refused, Over, Breaks, is_logging_in, is_over, is_reading, stopped}
-use Rattle.mgs_wire.specs.Pumps.{PumpsIn, PumpsOut, Finishes}
+use Rattle.mgs_wire.specs.Calls.{Call, PassesNone, PassesNoEnd}
+use Rattle.mgs_wire.specs.Connections.{Connection, Logging_in, Serving, Refused, Over, Breaks, is_logging_in, is_over, is_reading, session_of, stopped}
+use Rattle.mgs_wire.specs.Pumps.{PumpsIn, PumpsOut, PutsOut, Finishes}
+use Rattle.mio.specs.declared.event.event.Event.{Event}
+use Rattle.mio.specs.Event.{event_token}
+use Rattle.mgs_model.specs.declared.limits.TheConstants.{SESSION_LIMIT}
 use Rattle.mgs_server.specs.declared.peer.Peer.{Peer}
 
 -- what is served, and the connection under each key, where there is one
@@ -130,3 +134,76 @@ module _ {E : Type 0} (does : E → Call → E → Type 0) (live : ℕ → E →
 -- whatever the tickets are
 abbrev pub MovedByAny : {E : Type 0} → (E → Call → E → Type 0) → (ℕ → E → Bool) → (ℕ → E → List ℕ) → ServerState E → ServerState E → Type 0
 MovedByAny does live pending old new = (tickets : List (List ℕ × List ℕ)) → Moved does live pending tickets old new
+
+-- WHAT IS WRITTEN WHERE IT IS DUE
+
+-- a session's connection
+abbrev pub is_session : ℕ → Option ℕ → Bool
+is_session id None = false
+is_session id (Some x) = nat_eq x id
+
+abbrev pub is_conn_of : ℕ → Option Connection → Bool
+is_conn_of id None = false
+is_conn_of id (Some conn) = is_session id (session_of conn)
+
+-- its key, where it has one
+abbrev pub FindsKey : (ℕ → Option Connection) → ℕ → ℕ → Type 0
+FindsKey peers id key = (k : ℕ) → is_conn_of id (peers k) ≡ true → is_conn_of id (peers key) ≡ true
+
+module _ {E S : Type 0} (does : E → Call → E → Type 0) (live : ℕ → E → Bool) (pending : ℕ → E → List ℕ) (answers : S → List ℕ → Result ℕ Error → S → Type 0) where
+  -- what waits for a connection is written, as far as its stream takes it; where its session is not open nothing waits
+  pub record WritesConn (conn : Connection) (old : E) (next : Connection) (new : E) : Type 0 where
+    pub mid : Connection
+    pub reading : is_reading live conn old ≡ true → mid ≡ conn
+    pub stopped : is_reading live conn old ≡ false → mid ≡ stopped conn
+    pub answer : PumpedOut
+    pub before : S
+    pub after : S
+    pub put : PutsOut does pending answers answer mid old before next new after
+
+  -- so the connection under a key, if there is one; it may be over then
+  abbrev pub WritesOpen : Option Connection → ℕ → Bool → ServerState E → ServerState E → Type 0
+  WritesOpen None key over old new = (over ≡ false) × (new ≡ old)
+  WritesOpen (Some conn) key over old new = (next : Connection) × WritesConn conn old.served next new.served × IsChanged key (Some next) old.peers new.peers × (is_over next ≡ over)
+
+  -- it is closed where it is over then
+  abbrev pub Closes : Bool → ℕ → (ℕ → Option Connection) → (ℕ → Option Connection) → Type 0
+  Closes true key old new = IsChanged key None old new
+  Closes false key old new = new ≡ old
+
+  abbrev pub WritesSlot : Option Connection → ℕ → ServerState E → ServerState E → Type 0
+  WritesSlot None key old new = new ≡ old
+  WritesSlot (Some conn) key old new =
+      (next : Connection) × (mid : ℕ → Option Connection) × WritesConn conn old.served next new.served × IsChanged key (Some next) old.peers mid × Closes (is_over next) key mid new.peers
+
+  -- so the connection under a key, if there is one
+  abbrev pub WritesAt : ℕ → ServerState E → ServerState E → Type 0
+  WritesAt key old new = WritesSlot (old.peers key) key old new
+
+  -- a session's, where there is one, and then the rest
+  abbrev pub WritesNext : (ℕ → ServerState E → Type 0) → ℕ → Option ℕ → ServerState E → ServerState E → Type 0
+  WritesNext rest id None old new = new ≡ old
+  WritesNext rest id (Some next) old new = (id < next) × (key : ℕ) × FindsKey old.peers next key × (mid : ServerState E) × WritesAt key old mid × rest next mid
+
+  -- each session's in turn, above one, for which bytes wait, or which ended: at most so many
+  abbrev pub WritesDue : (ℕ → E → Bool) → ℕ → ℕ → ServerState E → ServerState E → Type 0
+  WritesDue is_ended zero id old new = new ≡ old
+  WritesDue is_ended (suc n) id old new =
+      (next : Option ℕ) × PassesNone pending id next old.served × PassesNoEnd is_ended id next old.served × WritesNext (λ x mid. WritesDue is_ended n x mid new) id next old new
+
+-- WHAT IS REPORTED, each in its turn: what was reported of is read, it is written, and then each other where that is due
+module _ {E S : Type 0} (does : E → Call → E → Type 0) (live : ℕ → E → Bool) (pending : ℕ → E → List ℕ) (answers : S → List ℕ → Result ℕ Error → S → Type 0) (is_ended : ℕ → E → Bool) (tickets : List (List ℕ × List ℕ)) where
+  pub record Handles (key : ℕ) (old new : ServerState E) : Type 0 where
+    pub read : ServerState E
+    pub reads : Moved does live pending tickets old read
+    pub written : ServerState E
+    pub writes : WritesAt does live pending answers key read written
+    pub due : WritesDue does live pending answers is_ended SESSION_LIMIT 0 written new
+
+  abbrev pub HandlesAll : List ℕ → ServerState E → ServerState E → Type 0
+  HandlesAll [] old new = new ≡ old
+  HandlesAll (key ∷ keys) old new = (mid : ServerState E) × Handles key old mid × HandlesAll keys mid new
+
+-- the keys that were reported
+abbrev pub keys_in : List Event → List ℕ
+keys_in events = map (λ e. (event_token e).0) events

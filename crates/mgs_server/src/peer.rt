@@ -1,17 +1,17 @@
 // Connections with their streams.
-ghost use Rattle.std.specs.Prelude.{◌≡◌, ◌<◌, ℕ, [], true, false, List, IfOk, IfSome};
+ghost use Rattle.std.specs.Prelude.{◌≡◌, ◌<◌, ℕ, [], true, false, List, Some, IfOk, IfSome};
 ghost use Rattle.mgs_wire.specs.Connections.{Breaks, Logging_in, is_over, is_reading};
 ghost use Rattle.mgs_wire.specs.Pumps.{Finishes};
 ghost use Rattle.mgs_server.specs.declared.peer.TheConstants.{BYTES_AT_ONCE};
-ghost use Rattle.mgs_server.specs.Peers.{IsUnread, ReadsPeer, Stepped, is_closing, is_taking};
+ghost use Rattle.mgs_server.specs.Peers.{IsUnread, ReadsPeer, Stepped, WritesConn, is_closing, is_conn_of, is_taking};
 
 use crate::accept::both_ways;
 use mgs_model::{SessionId, Short, Tickets};
-use mgs_wire::{Conn, PumpedIn, Sessions, pump_in_by, pump_out};
+use mgs_wire::{Conn, PumpedIn, Sessions, Stream, pump_in_by, pump_out};
 use mio::event::Source;
 use mio::{Registry, Token};
 use std::alloc::Global;
-use std::io::{Read, Write};
+use std::io::Read;
 use std::time::{Duration, Instant};
 
 /// The most bytes of one read. What so many keys paint has room in the queue of the largest screen, so that no session falls
@@ -37,7 +37,7 @@ pub(crate) struct Peer<S: Drop> {
     came: Option<Instant>,
 }
 
-impl<S: Read + Write + Drop> Peer<S> {
+impl<S: Read + Stream + Drop> Peer<S> {
     /// A connection of which nothing was read. `Short`: memory was refused, and the stream is dropped.
     pub(crate) fn new(alloc: Global, stream: S) -> Result<Peer<S>, Short>
         ensures { IfOk result (λ p. p.conn ≡ Logging_in []) }
@@ -65,6 +65,7 @@ impl<S: Read + Write + Drop> Peer<S> {
     /// so where its session is not open, where the line of its refusal was written, and where writing failed.
     pub(crate) fn write<E: Sessions>(&mut self, engine: &mut E) -> bool
         ensures steps { (tickets : List (List ℕ × List ℕ)) → Stepped E.does E.live E.pending tickets self.old.conn engine.old self.new.conn engine.new }
+        ensures written { WritesConn E.does E.live E.pending S.answers self.old.conn engine.old self.new.conn engine.new }
         ensures over { result ≡ is_over self.new.conn }
         ensures closing { is_reading E.live self.old.conn engine.old ≡ false → is_closing self.new.conn ≡ true }
     {
@@ -76,7 +77,9 @@ impl<S: Read + Write + Drop> Peer<S> {
 
 impl<S: Drop> Peer<S> {
     /// Whether its login opened this session.
-    pub(crate) fn is_of(&self, id: SessionId) -> bool {
+    pub(crate) fn is_of(&self, id: SessionId) -> bool
+        ensures { result ≡ is_conn_of id (Some self.now.conn) }
+    {
         self.conn.session() == Some(id)
     }
 

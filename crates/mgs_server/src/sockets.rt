@@ -1,18 +1,21 @@
 // The sockets of a server.
 ghost use Rattle.std.specs.Prelude.{◌≡◌, ◌≢◌, [], true, IfOk, IsNone};
-ghost use Rattle.mgs_server.specs.Peers.{IsOverAt, IsUnread, Moved, MovedByAny, Stepped, Taken, server_with, peers_of, slots_of};
+ghost use Rattle.mio.specs.Event.{event_token};
+ghost use Rattle.mio.specs.Events.{items};
+ghost use Rattle.mgs_model.specs.declared.limits.TheConstants.{SESSION_LIMIT};
+ghost use Rattle.mgs_server.specs.Peers.{FindsKey, IsOverAt, IsUnread, WritesAt, WritesDue, WritesOpen, Handles, HandlesAll, keys_in, is_conn_of, Moved, MovedByAny, Stepped, Taken, server_with, peers_of, slots_of};
 
 use crate::accept::accept_all;
 use crate::fault::{ListenFault, PollFailed};
 use crate::peer::{Peer, Reported};
 use mgs_model::{SESSION_LIMIT, SessionId, Tickets};
-use mgs_wire::{PumpedIn, Sessions};
-use mio::event::Event;
+use mgs_wire::{PumpedIn, Sessions, Stream};
+use mio::event::{Event, Source};
 use mio::net::{TcpListener, TcpStream};
 use mio::{Events, Interest, Poll, Registry, Token};
 use slab::Slab;
 use std::alloc::Global;
-use std::io::{self, ErrorKind};
+use std::io::{self, ErrorKind, Read};
 use std::net::{Ipv4Addr, Net, SocketAddr};
 use std::time::{Clock, Duration, Instant};
 
@@ -102,11 +105,11 @@ fn accept_reported(
 
 // Reads a connection of which this was reported once. One of which something was read is reported once there is more; where that cannot be
 // done it is given up. None: nothing was read, or nothing more is.
-fn read_peer<E: Sessions>(
+fn read_peer<E: Sessions, S: Read + Stream + Source + Drop>(
     registry: &Registry,
     engine: &mut E,
     tickets: &Tickets,
-    peer: &mut Peer<TcpStream>,
+    peer: &mut Peer<S>,
     event: &Event,
 ) -> Option<Reported>
     ensures steps { Stepped E.does E.live E.pending tickets.now peer.old.conn engine.old peer.new.conn engine.new }
@@ -127,9 +130,14 @@ fn read_peer<E: Sessions>(
 }
 
 // Whether a connection is there that is done with, once what waits for its stream was written.
-fn is_done<E: Sessions>(engine: &mut E, peers: &mut Slab<Peer<TcpStream>>, key: usize) -> bool
+fn is_done<E: Sessions, S: Read + Stream + Drop>(
+    engine: &mut E,
+    peers: &mut Slab<Peer<S>>,
+    key: usize,
+) -> bool
     ensures moved { MovedByAny E.does E.live E.pending (server_with engine.old peers.old) (server_with engine.new peers.new) }
     ensures over { result ≡ true → IsOverAt key (peers_of peers.new) }
+    ensures written { WritesOpen E.does E.live E.pending S.answers (peers_of peers.old key) key result (server_with engine.old peers.old) (server_with engine.new peers.new) }
 {
     match peers.get_mut(key) {
         Some(peer) => peer.write(engine),
@@ -138,8 +146,13 @@ fn is_done<E: Sessions>(engine: &mut E, peers: &mut Slab<Peer<TcpStream>>, key: 
 }
 
 // Writes what waits for a connection, and closes it where it is done with.
-fn write_one<E: Sessions>(engine: &mut E, peers: &mut Slab<Peer<TcpStream>>, key: usize)
-    ensures { MovedByAny E.does E.live E.pending (server_with engine.old peers.old) (server_with engine.new peers.new) }
+fn write_one<E: Sessions, S: Read + Stream + Drop>(
+    engine: &mut E,
+    peers: &mut Slab<Peer<S>>,
+    key: usize,
+)
+    ensures written { WritesAt E.does E.live E.pending S.answers key (server_with engine.old peers.old) (server_with engine.new peers.new) }
+    ensures moved { MovedByAny E.does E.live E.pending (server_with engine.old peers.old) (server_with engine.new peers.new) }
 {
     if is_done(engine, peers, key) {
         let _ = peers.try_remove(key);
@@ -147,7 +160,9 @@ fn write_one<E: Sessions>(engine: &mut E, peers: &mut Slab<Peer<TcpStream>>, key
 }
 
 // Whether the connection under a key is that of a session.
-fn is_of(peers: &Slab<Peer<TcpStream>>, key: usize, id: SessionId) -> bool {
+fn is_of<S: Drop>(peers: &Slab<Peer<S>>, key: usize, id: SessionId) -> bool
+    ensures { result ≡ is_conn_of id (peers_of peers.now key) }
+{
     match peers.get(key) {
         Some(peer) => peer.is_of(id),
         None => false,
@@ -156,7 +171,9 @@ fn is_of(peers: &Slab<Peer<TcpStream>>, key: usize, id: SessionId) -> bool {
 
 // The key of the connection of a session, which is looked for from this key on and then below it. Where there is none it is one that no
 // connection has.
-fn key_of(peers: &Slab<Peer<TcpStream>>, id: SessionId, from: usize) -> usize {
+fn key_of<S: Drop>(peers: &Slab<Peer<S>>, id: SessionId, from: usize) -> usize
+    ensures { FindsKey (peers_of peers.now) id result }
+{
     for key in from..peers.capacity() {
         if is_of(peers, key, id) {
             return key;
@@ -172,12 +189,13 @@ fn key_of(peers: &Slab<Peer<TcpStream>>, id: SessionId, from: usize) -> usize {
 
 // Writes what waits for the connections of sessions, and closes those that are done with. No more than 64 sessions are open, or ended and
 // not told.
-fn write_due<E: Sessions>(engine: &mut E, peers: &mut Slab<Peer<TcpStream>>)
-    ensures { MovedByAny E.does E.live E.pending (server_with engine.old peers.old) (server_with engine.new peers.new) }
+fn write_due<E: Sessions, S: Read + Stream + Drop>(engine: &mut E, peers: &mut Slab<Peer<S>>)
+    ensures due { WritesDue E.does E.live E.pending S.answers E.is_ended SESSION_LIMIT 0 (server_with engine.old peers.old) (server_with engine.new peers.new) }
+    ensures moved { MovedByAny E.does E.live E.pending (server_with engine.old peers.old) (server_with engine.new peers.new) }
 {
     let mut id = 0;
     let mut key = 0;
-    for _ in 0..SESSION_LIMIT {
+    for _turn in 0..SESSION_LIMIT {
         match engine.next_due(id) {
             Some(next) => {
                 id = next;
@@ -190,11 +208,11 @@ fn write_due<E: Sessions>(engine: &mut E, peers: &mut Slab<Peer<TcpStream>>)
 }
 
 // Reads the connection of which this was reported once, if there is one.
-fn read_one<E: Sessions>(
+fn read_one<E: Sessions, S: Read + Stream + Source + Drop>(
     registry: &Registry,
     engine: &mut E,
     tickets: &Tickets,
-    peers: &mut Slab<Peer<TcpStream>>,
+    peers: &mut Slab<Peer<S>>,
     event: &Event,
 )
     ensures { Moved E.does E.live E.pending tickets.now (server_with engine.old peers.old) (server_with engine.new peers.new) }
@@ -205,14 +223,15 @@ fn read_one<E: Sessions>(
 }
 
 // Reads the connection of which this was reported once, if there is one, and writes what waits for it, and for the others.
-fn serve_one<E: Sessions>(
+fn serve_one<E: Sessions, S: Read + Stream + Source + Drop>(
     registry: &Registry,
     engine: &mut E,
     tickets: &Tickets,
-    peers: &mut Slab<Peer<TcpStream>>,
+    peers: &mut Slab<Peer<S>>,
     event: &Event,
 )
-    ensures { Moved E.does E.live E.pending tickets.now (server_with engine.old peers.old) (server_with engine.new peers.new) }
+    ensures served { Handles E.does E.live E.pending S.answers E.is_ended tickets.now (event_token event.now).0 (server_with engine.old peers.old) (server_with engine.new peers.new) }
+    ensures moved { Moved E.does E.live E.pending tickets.now (server_with engine.old peers.old) (server_with engine.new peers.new) }
 {
     read_one(registry, engine, tickets, peers, event);
     write_one(engine, peers, event.token().0);
@@ -220,16 +239,17 @@ fn serve_one<E: Sessions>(
 }
 
 // Serves each connection that is ready.
-fn serve_ready<E: Sessions>(
+fn serve_ready<E: Sessions, S: Read + Stream + Source + Drop>(
     registry: &Registry,
     engine: &mut E,
     tickets: &Tickets,
-    peers: &mut Slab<Peer<TcpStream>>,
+    peers: &mut Slab<Peer<S>>,
     events: &Events,
 )
-    ensures { Moved E.does E.live E.pending tickets.now (server_with engine.old peers.old) (server_with engine.new peers.new) }
+    ensures served { HandlesAll E.does E.live E.pending S.answers E.is_ended tickets.now (keys_in (items events.now)) (server_with engine.old peers.old) (server_with engine.new peers.new) }
+    ensures moved { Moved E.does E.live E.pending tickets.now (server_with engine.old peers.old) (server_with engine.new peers.new) }
 {
-    for event in events {
+    for event in events.iter() {
         serve_one(registry, engine, tickets, peers, event);
     }
 }

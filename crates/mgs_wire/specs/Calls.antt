@@ -1,7 +1,7 @@
 -- CALLS: what connections ask of a server. A server is a type `E` of states with three words: `does old call new` says that
 -- the call may lead from one state to another with its answer, `live id state` whether a session is open, and
 -- `pending id state` the bytes that wait for its terminal.
-use Rattle.std.specs.Prelude.{◌≡◌, ℕ, ◌<◌, ◌^◌, Bool, MatchBool, List, [], ◌∷◌, Option, Some, None, Result}
+use Rattle.std.specs.Prelude.{◌≡◌, ℕ, ◌<◌, ◌^◌, Bool, false, MatchBool, List, [], ◌∷◌, Option, Some, None, Result}
 use Rattle.mgs_model.specs.declared.errors.OpenFault.{OpenFault}
 use Rattle.mgs_model.specs.declared.errors.Keyed.{Keyed}
 
@@ -29,3 +29,7 @@ IsBefore id (Some next) = id < next
 -- for no session between one and the next bytes wait
 abbrev pub PassesNone : {E : Type 0} → (ℕ → E → List ℕ) → ℕ → Option ℕ → E → Type 0
 PassesNone pending after next s = (id : ℕ) → id < 2 ^ 64 → after < id → IsBefore id next → pending id s ≡ []
+
+-- and none of them ended and is to be told
+abbrev pub PassesNoEnd : {E : Type 0} → (ℕ → E → Bool) → ℕ → Option ℕ → E → Type 0
+PassesNoEnd is_ended after next s = (id : ℕ) → id < 2 ^ 64 → after < id → IsBefore id next → is_ended id s ≡ false

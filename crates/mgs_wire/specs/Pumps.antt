@@ -1,5 +1,5 @@
 -- PUMPS: what one read of a connection, and one writing to it, do.
-use Rattle.std.specs.Prelude.{◌≡◌, ◌≢◌, ℕ, zero, suc, ◌<◌, ◌≤◌, Bool, true, false, List, [], take, length, Option, Result, Ok, Err}
+use Rattle.std.specs.Prelude.{◌≡◌, ◌≢◌, ℕ, zero, suc, ◌+◌, ◌<◌, ◌≤◌, Bool, true, false, List, [], ◌∷◌, take, drop, length, Option, Result, Ok, Err}
 use Rattle.std.specs.Io.KnownBytes.{Appends, Consumes, IsAtEnd, Keeps}
 use Rattle.std.specs.IoError.{error_kind}
 use Rattle.std.specs.declared.io.Error.{Error}
@@ -68,3 +68,32 @@ pub record WritesFirst {E : Type 0} (does : E → Call → E → Type 0) (outcom
 -- so of the bytes that wait for a connection
 abbrev pub PumpsOut : {E : Type 0} → (E → Call → E → Type 0) → (ℕ → E → List ℕ) → PumpedOut → Option (List ℕ) → Option (List ℕ) → Connection → E → Connection → E → Type 0
 PumpsOut does pending result held holds conn old next new = WritesFirst does result (waiting pending conn old) held holds conn old next new
+
+-- BY WHICH WRITES: a writer is a type `W` of states with a word, `answers old bytes answer new`: a write of these bytes was answered so
+
+-- what answer a writing ends by: no byte was taken, or an error
+abbrev pub EndsBy : Result ℕ Error → PumpedOut → Type 0
+EndsBy (Ok zero) outcome = outcome ≡ out.Failed
+EndsBy (Ok (suc n)) outcome = ⊥
+EndsBy (Err e) outcome = StopsBy (error_kind e) outcome
+
+-- it ends where no bytes are left, or by a write of all that are
+abbrev pub PutsLast : {W : Type 0} → (W → List ℕ → Result ℕ Error → W → Type 0) → List ℕ → PumpedOut → W → W → Type 0
+PutsLast answers bytes out.Drained old new = (bytes ≡ []) × (new ≡ old)
+PutsLast answers bytes outcome old new = (1 ≤ length bytes) × (answer : Result ℕ Error) × answers old bytes answer new × EndsBy answer outcome
+
+-- before that each write was of all that were left, and took so many; together they took `count`
+abbrev pub Puts : {W : Type 0} → (W → List ℕ → Result ℕ Error → W → Type 0) → List ℕ → List ℕ → PumpedOut → ℕ → W → W → Type 0
+Puts answers [] bytes outcome count old new = (count ≡ 0) × PutsLast answers bytes outcome old new
+Puts {W = W} answers (n ∷ ns) bytes outcome count old new = (mid : W) × (rest : ℕ) × answers old bytes (Ok n) mid × (count ≡ n + rest) × Puts answers ns (drop n bytes) outcome rest mid new
+
+-- bytes are written as far as the writer takes them
+pub record Put {W : Type 0} (answers : W → List ℕ → Result ℕ Error → W → Type 0) (bytes : List ℕ) (outcome : PumpedOut) (count : ℕ) (old new : W) : Type 0 where
+  pub taken : List ℕ
+  pub puts : Puts answers taken bytes outcome count old new
+
+-- so are those that wait for a connection, and what was written of them waits no longer
+pub record PutsOut {E W : Type 0} (does : E → Call → E → Type 0) (pending : ℕ → E → List ℕ) (answers : W → List ℕ → Result ℕ Error → W → Type 0) (outcome : PumpedOut) (conn : Connection) (old : E) (before : W) (next : Connection) (new : E) (after : W) : Type 0 where
+  pub count : ℕ
+  pub put : Put answers (waiting pending conn old) outcome count before after
+  pub leaves : Leaves does outcome count conn old next new

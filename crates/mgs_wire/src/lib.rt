@@ -12,6 +12,7 @@ mod login;
 mod pump;
 mod refusal;
 mod sessions;
+mod stream;
 
 pub use conn::Conn;
 pub use law::reads_in_pieces;
@@ -19,3 +20,4 @@ pub use limits::{LOGIN_LIMIT, READ_LIMIT};
 pub use pump::{PumpedIn, PumpedOut, pump_in, pump_in_by, pump_out};
 pub use refusal::Refusal;
 pub use sessions::Sessions;
+pub use stream::Stream;

@@ -5,13 +5,14 @@ ghost use Rattle.std.specs.Io.{ReadsAtMost};
 ghost use Rattle.std.specs.Io.KnownBytes.{Appends};
 ghost use Rattle.std.specs.IoError.{error_kind};
 ghost use Rattle.mgs_wire.specs.Connections.{is_reading};
-ghost use Rattle.mgs_wire.specs.Pumps.{PumpsIn, Finishes, Hears, IsCount, PumpsOut, StopsBy};
+ghost use Rattle.mgs_wire.specs.Pumps.{PumpsIn, Finishes, Hears, IsCount, PumpsOut, Put, PutsOut, StopsBy};
 
 use crate::conn::Conn;
 use crate::limits::READ_LIMIT;
 use crate::sessions::Sessions;
+use crate::stream::Stream;
 use mgs_model::Tickets;
-use std::io::{self, Error, ErrorKind, Read, Write};
+use std::io::{self, Error, ErrorKind, Read};
 
 /// What a call of `pump_in` did.
 #[derive(Clone, Copy, PartialEq, Eq)]
@@ -125,13 +126,14 @@ fn stop_of(error: &Error) -> PumpedOut
 }
 
 // Writes bytes as far as the writer takes them: how many, and how it ended.
-fn write_some<W: Write>(writer: &mut W, bytes: &[u8]) -> (usize, PumpedOut)
+fn write_some<W: Stream>(writer: &mut W, bytes: &[u8]) -> (usize, PumpedOut)
     ensures counted { IsCount result.1 result.0 (length bytes.now) }
     ensures written { Appends (W.contents writer.old) (W.contents writer.new) (take result.0 bytes.now) }
+    ensures put { Put W.answers bytes.now result.1 result.0 writer.old writer.new }
 {
     let mut count = 0;
     while count < bytes.len() {
-        match writer.write(&bytes[count..]) {
+        match writer.put(&bytes[count..]) {
             Ok(0) => return (count, PumpedOut::Failed),
             Ok(n) => count += n,
             Err(e) => return (count, stop_of(&e)),
@@ -145,8 +147,13 @@ fn write_some<W: Write>(writer: &mut W, bytes: &[u8]) -> (usize, PumpedOut)
 ///
 /// Answers: `Drained`: nothing waits any more; a refused connection is then over. `Blocked`: the writer would block. `Failed`: any
 /// other error of the writer, or it took 0 bytes; the session is closed, and the connection is over.
-pub fn pump_out<E: Sessions, W: Write>(conn: &mut Conn, engine: &mut E, writer: &mut W) -> PumpedOut
-    ensures { PumpsOut E.does E.pending result (W.contents writer.old) (W.contents writer.new) conn.old engine.old conn.new engine.new }
+pub fn pump_out<E: Sessions, W: Stream>(
+    conn: &mut Conn,
+    engine: &mut E,
+    writer: &mut W,
+) -> PumpedOut
+    ensures written { PumpsOut E.does E.pending result (W.contents writer.old) (W.contents writer.new) conn.old engine.old conn.new engine.new }
+    ensures put { PutsOut E.does E.pending W.answers result conn.old engine.old writer.old conn.new engine.new writer.new }
 {
     let (count, outcome) = write_some(writer, conn.waiting(engine));
     conn.wrote(engine, count);

@@ -7,7 +7,7 @@ use mgs_model::{Keyed, OpenFault, SessionId};
 pub trait Sessions {
     ghost use Rattle.std.specs.Prelude.{◌≡◌, ℕ, ◌≤◌, Bool, List, length};
     ghost use Rattle.std.specs.Prelude.{◌<◌, IfSome};
-    ghost use Rattle.mgs_wire.specs.Calls.{Call, Open, Byte, Close, Took, PassesNone};
+    ghost use Rattle.mgs_wire.specs.Calls.{Call, Open, Byte, Close, Took, PassesNone, PassesNoEnd};
 
     // The call may lead from one state to another, with its answer.
     ghost does: { Self → Call → Self → Type 0 };
@@ -17,6 +17,9 @@ pub trait Sessions {
 
     // The bytes that wait for a session's terminal.
     ghost pending: { ℕ → Self → List ℕ };
+
+    // Whether a session ended and is to be told.
+    ghost is_ended: { ℕ → Self → Bool };
 
     /// Opens a session of a user, whose terminal has so many rows and columns, or says why not.
     fn open(&mut self, user: &str, rows: usize, cols: usize) -> Result<SessionId, OpenFault>
@@ -44,10 +47,11 @@ pub trait Sessions {
         ensures { does self.old (Took id n) self.new };
 
     /// A session above this one whose connection is to be written to, or closed: bytes wait for its terminal, or it ended. None: there is
-    /// no more. For the sessions between no bytes wait. This body passes over no session; a server that knows its queues has a better one.
+    /// no more. For the sessions between no bytes wait, and none of them ended. This body passes over no session; a server that knows its queues has a better one.
     fn next_due(&self, after: SessionId) -> Option<SessionId>
         ensures above { IfSome result (λ id. after < id) }
         ensures passed { PassesNone pending after result self.now }
+        ensures no_end { PassesNoEnd is_ended after result self.now }
     {
         after.checked_add(1)
     }
