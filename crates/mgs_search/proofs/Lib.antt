@@ -1,4 +1,3 @@
 mod Matching
 mod Edited
 mod Borders
-mod Longer

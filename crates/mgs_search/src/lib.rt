@@ -7,13 +7,11 @@ ghost use Rattle.mgs_model.specs.Searching.{matches_at, first_match, last_match,
 
 mod heads;
 mod incremental;
-mod known;
 mod prompted;
 mod replacing;
 
 use heads::{borders_of, head_of, last_tailed, next_headed, tail_of};
 pub use incremental::IncrementalSearch;
-pub use known::{Failed, find_known};
 use mgs_model::Direction;
 use mgs_text::Text;
 pub use prompted::search_for;
