@@ -120,7 +120,7 @@ pub(crate) fn sit_in_core(
 
 // The answer of a core to a key of a session.
 pub(crate) fn press_in_core(core: &mut Core<PlainMarked, Stand>, id: SessionId, key: u8) -> Keyed {
-    core.key(id, key).0
+    core.key(id, key)
 }
 
 // A session of a user, on a terminal of so many rows and columns.
