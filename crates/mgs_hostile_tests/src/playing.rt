@@ -1,20 +1,23 @@
-// Rows that are played over the texts of the programs. `None` is everywhere: memory was refused to what is not the server's.
+// Rows that are played over any texts. `None` is everywhere: memory was refused to what is not the server's.
+use crate::refusing::{Refusing, numeral_of};
 use crate::screen::{are_same_above, cut_field, cut_word, is_first_row_of, tells_no_memory};
 use crate::stage::{Stage, bytes_of, open, press, served, shows, term_of};
 use crate::store::Takes;
 use mgs_gap::GapText;
+use mgs_marks::Marked;
 use mgs_model::{Keyed, OpenFault, SessionId};
 use mgs_term::Cell;
 use std::alloc::Global;
 
-type Server = Stage<GapText>;
+// A text that begins with two numerals refuses a growth, and no other does.
+type Numbered = Refusing<{ usize::MAX }>;
 
 /// How a row came out.
 #[derive(Clone, Copy, PartialEq, Eq)]
 pub(crate) enum Outcome {
     /// Each step showed what it is to show.
     Met,
-    /// Memory was refused, and what was shown then is what that may leave. The row has to begin anew.
+    /// Memory was refused, and what was shown then is what that may leave. The row ended there.
     Refused,
     /// Something else was shown.
     Wrong,
@@ -25,7 +28,7 @@ fn met(is_met: bool) -> Outcome {
 }
 
 // A user sits down at a terminal, with the next number as the id: at the second try where memory is refused to the first.
-fn sit(stage: &mut Server, user: &str) -> Option<Outcome> {
+fn sit<T: Marked + Drop>(stage: &mut Stage<T>, user: &str) -> Option<Outcome> {
     let opened = match open(stage, user)? {
         Err(OpenFault::Short) => open(stage, user)?,
         opened => opened,
@@ -34,7 +37,7 @@ fn sit(stage: &mut Server, user: &str) -> Option<Outcome> {
 }
 
 // The cells of the terminal of a session: none where there is no such session.
-fn cells(stage: &Server, id: SessionId) -> &[Cell] {
+fn cells<T: Marked + Drop>(stage: &Stage<T>, id: SessionId) -> &[Cell] {
     match term_of(stage, id) {
         Some(term) => term.grid(),
         None => &[],
@@ -43,8 +46,8 @@ fn cells(stage: &Server, id: SessionId) -> &[Cell] {
 
 // Memory was refused to the last of these bytes. Where one act alone can have been refused, the rows are as they were, and the bytes are typed
 // again: then there is memory.
-fn again(
-    stage: &mut Server,
+fn again<T: Marked + Drop>(
+    stage: &mut Stage<T>,
     id: SessionId,
     bytes: &[u8],
     before: &[Cell],
@@ -77,7 +80,7 @@ fn refused_of(screen: &str) -> &str {
     rest.trim_end()
 }
 
-fn step(stage: &mut Server, line: &str) -> Option<Outcome> {
+fn step<T: Marked + Drop>(stage: &mut Stage<T>, line: &str) -> Option<Outcome> {
     let (keys, screen) = cut_field(line);
     let (id, keys) = cut_word(keys);
     let Some(id) = id.parse::<u64>().ok() else {
@@ -93,7 +96,7 @@ fn step(stage: &mut Server, line: &str) -> Option<Outcome> {
     Some(outcome)
 }
 
-fn play_line(stage: &mut Server, line: &str) -> Option<Outcome> {
+fn play_line<T: Marked + Drop>(stage: &mut Stage<T>, line: &str) -> Option<Outcome> {
     if line.is_empty() {
         return Some(Outcome::Met);
     }
@@ -103,11 +106,9 @@ fn play_line(stage: &mut Server, line: &str) -> Option<Outcome> {
     }
 }
 
-fn play_once(alloc: Global, lines: &str) -> Option<Outcome> {
-    let (buffer, lines) = lines.split_once('\n').unwrap_or((lines, ""));
-    let mut stage = served(alloc, buffer, Takes::Nothing)?;
+fn play_on<T: Marked + Drop>(stage: &mut Stage<T>, lines: &str) -> Option<Outcome> {
     for line in lines.lines() {
-        match play_line(&mut stage, line)? {
+        match play_line(stage, line)? {
             Outcome::Met => {}
             other => return Some(other),
         }
@@ -115,7 +116,13 @@ fn play_once(alloc: Global, lines: &str) -> Option<Outcome> {
     Some(Outcome::Met)
 }
 
-/// Plays a row: from the start again where memory was refused.
+fn play_once(alloc: Global, lines: &str) -> Option<Outcome> {
+    let (buffer, lines) = lines.split_once('\n').unwrap_or((lines, ""));
+    let mut stage = served::<GapText>(alloc, buffer, Takes::Nothing)?;
+    play_on(&mut stage, lines)
+}
+
+/// Plays a row over the texts of the programs: from the start again where memory was refused.
 pub(crate) fn play(alloc: Global, lines: &str) -> Outcome {
     for _ in 0..3usize {
         match play_once(alloc, lines) {
@@ -124,4 +131,39 @@ pub(crate) fn play(alloc: Global, lines: &str) -> Outcome {
         }
     }
     Outcome::Refused
+}
+
+// The lines, with these two numerals in the place of each `##`.
+fn with_numerals(alloc: Global, lines: &str, numeral: &str) -> Option<String> {
+    let mut numbered = String::new(alloc);
+    for (i, part) in lines.split("##").enumerate() {
+        if i > 0 {
+            numbered.push_str(numeral).ok()?;
+            numbered.push_str(numeral).ok()?;
+        }
+        numbered.push_str(part).ok()?;
+    }
+    Some(numbered)
+}
+
+// Plays a row whose text refuses this growth, and tells whether it came to that growth.
+fn play_refused(alloc: Global, lines: &str, growth: usize) -> Option<(Outcome, bool)> {
+    let lines = with_numerals(alloc, lines, numeral_of(growth)?)?;
+    let (buffer, lines) = lines.split_once('\n').unwrap_or((lines.as_str(), ""));
+    let mut stage = served::<Numbered>(alloc, buffer, Takes::Nothing)?;
+    let outcome = play_on(&mut stage, lines)?;
+    Some((outcome, stage.is_refused))
+}
+
+/// Plays a row once for each growth of its first buffer's text and of that text's marks, which is refused, until a run comes to no such growth.
+/// The number of those that came, or of the one at which something else was shown than is to be.
+pub(crate) fn refuse_each(alloc: Global, lines: &str) -> Result<usize, usize> {
+    for growth in 1..usize::MAX {
+        match play_refused(alloc, lines, growth) {
+            Some((Outcome::Met, false)) => return Ok(growth - 1),
+            Some((Outcome::Met | Outcome::Refused, true)) => {}
+            _ => return Err(growth),
+        }
+    }
+    Err(0)
 }

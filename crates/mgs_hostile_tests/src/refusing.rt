@@ -1,5 +1,5 @@
-// A text whose growth is refused, so that an act can be told in a test for which there is no memory.
-ghost use Rattle.std.specs.Prelude.{◌≡◌};
+// A text whose growth is refused, so that an act can be told for which there is no memory.
+ghost use Rattle.std.specs.Prelude.{◌≡◌, ⊤};
 
 use mgs_marks::{Marked, PlainMarked};
 use mgs_model::{MarkId, Short};
@@ -7,9 +7,9 @@ use mgs_text::Text;
 use std::alloc::Global;
 use std::marker::Model;
 
-/// A plain text with marks. Its edits and new marks are its growths, counted from 1. Of a text that begins with two digits those from the one
-/// to the other are refused, and 9 is the last of all. Of any other text growth `NEW` is refused; where that is 0 it is an empty text, with
-/// which each new buffer begins.
+/// A plain text with marks. Its edits and new marks are its growths, counted from 1. Of a text that begins with two numerals those from the one
+/// to the other are refused: a digit is its number, `B` is 9, and so on to `Z`, and the digit 9 is the last of all. Of any other text growth `NEW`
+/// is refused; where that is 0 it is an empty text, with which each new buffer begins.
 #[derive(Drop)]
 pub(crate) struct Refusing<const NEW: usize> {
     text: PlainMarked,
@@ -18,11 +18,22 @@ pub(crate) struct Refusing<const NEW: usize> {
     growths: usize,
 }
 
-fn digit_in(character: char) -> Option<usize> {
-    match character {
-        '0'..='8' => Some((character as usize).saturating_sub('0' as usize)),
+// The numerals of single growths, from 1 on.
+const NUMERALS: &str = "12345678BCDEFGHIJKLMNOPQRSTUVWXYZ";
+
+/// The numeral of a growth, or none where no text can tell of it.
+pub(crate) fn numeral_of(growth: usize) -> Option<&'static str> {
+    NUMERALS.get(growth.checked_sub(1)?..growth)
+}
+
+fn number_of(numeral: char) -> Option<usize> {
+    match numeral {
+        '0' => Some(0),
         '9' => Some(usize::MAX),
-        _ => None,
+        _ => NUMERALS
+            .chars()
+            .position(|c| c == numeral)
+            .map(|at| at.saturating_add(1)),
     }
 }
 
@@ -31,7 +42,7 @@ fn refused_of(chars: &[char], new: usize) -> (usize, usize) {
     let (Some(first), Some(last)) = (chars.first(), chars.get(1)) else {
         return (new, new);
     };
-    match (digit_in(*first), digit_in(*last)) {
+    match (number_of(*first), number_of(*last)) {
         (Some(first), Some(last)) => (first, last),
         _ => (new, new),
     }
@@ -62,6 +73,8 @@ impl<const NEW: usize> Text for Refusing<NEW> {
     ghost text = { λ t. t.text };
 
     ghost marks = { λ t. t.marks };
+
+    ghost together = { λ _. ⊤ };
 
     fn of(alloc: Global, chars: &[char]) -> Result<Self, Short> {
         if NEW == 0 && chars.is_empty() {
@@ -96,6 +109,14 @@ impl<const NEW: usize> Text for Refusing<NEW> {
     fn replace(&mut self, a: usize, b: usize, put: &[char]) -> Result<(), Short> {
         self.grow()?;
         self.text.replace(a, b, put)
+    }
+
+    fn gather(&mut self) {
+        self.text.gather();
+    }
+
+    fn whole(&self) -> &[char] {
+        self.text.whole()
     }
 }
 

@@ -66,10 +66,9 @@ fn is_row(cells: &[Cell], row: usize, text: &str) -> bool {
     true
 }
 
-/// Whether the first row is one of these texts, which `; ` parts; `BLANK` is an empty one.
+/// Whether the first row is one of these texts, which `; ` parts.
 pub(crate) fn is_first_row_of(cells: &[Cell], texts: &str) -> bool {
     for text in texts.split("; ") {
-        let text = if text == "BLANK" { "" } else { text };
         if is_row(cells, 0, text) {
             return true;
         }

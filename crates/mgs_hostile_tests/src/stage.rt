@@ -30,6 +30,8 @@ pub(crate) struct Stage<T: Marked + Drop> {
     pub alloc: Global,
     /// The server.
     pub engine: Engine<T, Shelf>,
+    /// Whether memory was refused to an event.
+    pub is_refused: bool,
     seats: Vec<Seat>,
 }
 
@@ -92,6 +94,7 @@ pub(crate) fn served<T: Marked + Drop>(
     Some(Stage {
         alloc,
         engine,
+        is_refused: false,
         seats: Vec::new(alloc),
     })
 }
@@ -123,7 +126,10 @@ pub(crate) fn open<T: Marked + Drop>(
             feed_all(stage);
             Some(Ok(id))
         }
-        Err(fault) => Some(Err(fault)),
+        Err(fault) => {
+            stage.is_refused = stage.is_refused || fault == OpenFault::Short;
+            Some(Err(fault))
+        }
     }
 }
 
@@ -140,6 +146,7 @@ pub(crate) fn press<T: Marked + Drop>(stage: &mut Stage<T>, id: SessionId, bytes
     for byte in bytes {
         let answer = stage.engine.byte(id, *byte);
         feed_all(stage);
+        stage.is_refused = stage.is_refused || answer == Keyed::Short;
         if answer != Keyed::Done {
             return answer;
         }
