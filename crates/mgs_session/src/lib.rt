@@ -279,7 +279,7 @@ pub fn rest(session: &mut Session)
 }
 
 /// Asks a question. The argument waits for the command that the answer is for.
-pub fn ask(session: &mut Session, question: Question, argument: Option<usize>)
+pub fn ask(session: &mut Session, question: Question, argument: Option<u32>)
     ensures { session.new ≡ asking question argument session.old }
 {
     session.state.keyboard = Keyboard::holding(argument);
