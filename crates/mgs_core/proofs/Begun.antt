@@ -10,7 +10,7 @@ use Rattle.mgs_model.specs.declared.message.Message.TheVariants.{MacroTooLong}
 use Rattle.mgs_model.specs.declared.session.Kind.TheVariants.{Other}
 use Rattle.mgs_buffers.specs.MarkedBuffer.{MarkedBuffer}
 use Rattle.mgs_session.specs.Playing.{byte_typed, stopped}
-use Rattle.mgs_session.specs.Recording.{appended, is_full, nothing_recorded}
+use Rattle.mgs_mini.specs.Recording.{appended, is_full, nothing_recorded}
 use Rattle.mgs_session.specs.Sessions as held
 use Rattle.mgs_session.specs.declared.Session as code
 use Rattle.mgs_session.specs.declared.search.Aim.{Aim}

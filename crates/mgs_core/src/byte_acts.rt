@@ -14,7 +14,7 @@ use mgs_buffers::Buffers;
 use mgs_marks::Marked;
 use mgs_mini::Prompt;
 use mgs_model::{Command, Direction, Kind, SearchStep, Seeking, Short, Touched};
-use mgs_plan::KeyAct;
+use mgs_plan::{KeyAct, counted};
 use mgs_policy::Directory;
 use mgs_seek::{quit_search, replace, search_on, skip, start_replacing, start_search};
 use mgs_session::{Search, SearchString, Session};
@@ -52,7 +52,7 @@ pub enum ByteAct {
     Act(KeyAct),
     /// What the question of the prompt is for that was there before, with this argument. Its input is the answer, and names no command. The
     /// session is at rest.
-    Answer(Option<usize>),
+    Answer(Option<u32>),
     /// A step of the session's search, which has read the byte.
     Seek(SearchStep),
     /// The session's search is quit.
@@ -158,8 +158,9 @@ pub fn do_byte_act<T: Marked + Drop, S: Store>(
             let prompt = asked(before);
             let question = prompt.question();
             let input = prompt.input();
+            let count = counted(argument);
             answer(
-                alloc, buffers, directory, sessions, at, store, question, argument, input,
+                alloc, buffers, directory, sessions, at, store, question, count, input,
             )
         }
         ByteAct::Seek(step) => {

@@ -10,7 +10,7 @@ ghost use Rattle.mgs_core.specs.ByteSteps.{IsAlone, IsByteStep, IsCommandStep, c
 use crate::byte_acts::ByteAct;
 use mgs_maps::Fed;
 use mgs_model::{Command, Message, Motion, Question, REPETITION_LIMIT, Setting};
-use mgs_plan::KeyAct;
+use mgs_plan::{KeyAct, counted};
 use mgs_session::{Session, call_macro, fail, hold, rest};
 
 /// What a byte comes to in its session.
@@ -27,7 +27,7 @@ pub enum ByteStep {
 }
 
 /// Going to a line: one that no argument tells is asked for.
-fn line_act(argument: Option<usize>) -> KeyAct
+fn line_act(argument: Option<u32>) -> KeyAct
     ensures { result ≡ line_act argument }
 {
     match argument {
@@ -37,7 +37,7 @@ fn line_act(argument: Option<usize>) -> KeyAct
 }
 
 /// What a motion comes to with an argument.
-fn motion_act(motion: Motion, argument: Option<usize>) -> KeyAct
+fn motion_act(motion: Motion, argument: Option<u32>) -> KeyAct
     ensures { result ≡ motion_act motion argument }
 {
     match motion {
@@ -47,7 +47,7 @@ fn motion_act(motion: Motion, argument: Option<usize>) -> KeyAct
 }
 
 /// What a command comes to with an argument, by its keys or by its name.
-fn command_act(command: Command, argument: Option<usize>) -> KeyAct
+fn command_act(command: Command, argument: Option<u32>) -> KeyAct
     ensures { result ≡ command_act command argument }
 {
     match command {
@@ -74,10 +74,10 @@ fn is_call(command: Command) -> bool
 }
 
 /// How often something is done.
-fn times(argument: Option<usize>) -> usize
+fn times(argument: Option<u32>) -> usize
     ensures { result ≡ count_of argument }
 {
-    match argument {
+    match counted(argument) {
         None => 1,
         Some(count) => count,
     }
@@ -85,7 +85,7 @@ fn times(argument: Option<usize>) -> usize
 
 /// Why the session's macro, of at most 512 bytes, cannot be played so often: one is played or recorded, there is none, or it is more than 100
 /// times.
-fn call_fault(session: &Session, argument: Option<usize>) -> Option<Message>
+fn call_fault(session: &Session, argument: Option<u32>) -> Option<Message>
     ensures value { result ≡ call_fault session.now.state argument }
     ensures within { length session.now.state.recorder.macro ≤ 512 }
 {
@@ -103,7 +103,7 @@ fn call_fault(session: &Session, argument: Option<usize>) -> Option<Message>
 }
 
 /// The session's macro is to be played, or it is told why not.
-fn step_call(session: &mut Session, command: Command, argument: Option<usize>) -> ByteStep
+fn step_call(session: &mut Session, command: Command, argument: Option<u32>) -> ByteStep
     requires { is_call command ≡ true }
     ensures step { IsCommandStep session.old session.new command argument result }
     ensures keyed { is_keyed result ≡ true }
@@ -117,7 +117,7 @@ fn step_call(session: &mut Session, command: Command, argument: Option<usize>) -
 }
 
 /// What a command comes to in a session at rest. None ends its session while a macro plays.
-pub fn step_command(session: &mut Session, command: Command, argument: Option<usize>) -> ByteStep
+pub fn step_command(session: &mut Session, command: Command, argument: Option<u32>) -> ByteStep
     ensures step { IsCommandStep session.old session.new command argument result }
     ensures keyed { is_keyed result ≡ true }
 {

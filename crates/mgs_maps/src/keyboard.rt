@@ -66,7 +66,7 @@ impl Keyboard {
     }
 
     /// Holds an argument alone, which no digit goes on with: the argument of the command that a prompt is for.
-    pub fn holding(argument: Option<usize>) -> Keyboard
+    pub fn holding(argument: Option<u32>) -> Keyboard
         ensures { result ≡ argument_held argument }
     {
         Keyboard {
@@ -76,7 +76,7 @@ impl Keyboard {
     }
 
     /// The argument that is held.
-    pub fn argument(&self) -> Option<usize>
+    pub fn argument(&self) -> Option<u32>
         ensures { result ≡ value_of self.now.argument }
     {
         self.maps.argument()

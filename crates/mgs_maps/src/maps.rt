@@ -6,13 +6,11 @@ ghost use Rattle.mgs_maps.specs.Words.{prefix_after, inserted as inserts, is_emp
 
 use crate::table::{BRACKET, CONTROL_X, QUOTE, find_command};
 use mgs_keys::Key;
-use mgs_model::{Argument, Command, Insertion, Setting};
+use mgs_model::{ARGUMENT_LIMIT, Argument, Command, Insertion, Setting};
 
 const KEYBOARD_QUIT: u8 = 0x07;
 
 const UNIVERSAL_ARGUMENT: u8 = 0x15;
-
-const ARGUMENT_LIMIT: usize = 9999;
 
 const ASCII_LIMIT: u8 = 0x7F;
 
@@ -21,8 +19,8 @@ const ASCII_LIMIT: u8 = 0x7F;
 pub enum Fed {
     /// A word of keys or an argument goes on.
     Pending,
-    /// A word of keys is complete: its command, and the argument that was typed before it.
-    Run(Command, Option<usize>),
+    /// A word of keys is complete: its command, and the argument that was typed before it, 9,999 at most.
+    Run(Command, Option<u32>),
     /// A word of keys runs no command.
     Unbound,
 }
@@ -60,7 +58,7 @@ fn digit_added(digit: u8, argument: Option<Argument>) -> Argument
     };
     let value = before
         .saturating_mul(10)
-        .saturating_add(usize::from(digit))
+        .saturating_add(u32::from(digit))
         .min(ARGUMENT_LIMIT);
     Argument {
         value,
@@ -158,7 +156,7 @@ impl Maps {
     }
 
     // Holds an argument alone, which no digit goes on with.
-    pub(crate) fn holding(argument: Option<usize>) -> Maps
+    pub(crate) fn holding(argument: Option<u32>) -> Maps
         ensures { held_by result ≡ argument_held argument }
     {
         let argument = match argument {
@@ -175,7 +173,7 @@ impl Maps {
     }
 
     // The argument that is held.
-    pub(crate) fn argument(&self) -> Option<usize>
+    pub(crate) fn argument(&self) -> Option<u32>
         ensures { result ≡ value_of self.now.argument }
     {
         match self.argument {

@@ -1,2 +1,3 @@
 pub mod Narrowing
+pub mod Recording
 pub mod Typing

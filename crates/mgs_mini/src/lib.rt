@@ -1,4 +1,4 @@
-//! The input of a prompt, typed byte by byte. It has fixed room and takes no memory.
+//! What is typed to be used later: the input of a prompt, byte by byte, and the bytes of a macro. Both have fixed room and take no memory.
 #![tactic(auto)]
 
 ghost use Rattle.std.specs.Prelude.{◌≡◌, ◌≤◌, ℕ, List, [], length, IfSome, false};
@@ -14,10 +14,12 @@ ghost use Rattle.mgs_mini.specs.declared.Waiting.TheVariants.{NoKey};
 ghost use Rattle.mgs_mini.specs.declared.Step.TheVariants.{Answered, Unbound};
 
 mod completing;
+mod recording;
 
 use arrayvec::ArrayVec;
 pub use completing::{completion, narrowed};
 use mgs_model::{Question, Sequence, read_sequence};
+pub use recording::Recorder;
 use std::marker::Model;
 
 const ESCAPE: u8 = 0x1B;

@@ -43,8 +43,8 @@ impl MarkId {
 /// An argument, and whether a digit goes on with it: C-u is 4, and a digit replaces it.
 #[derive(Clone, Copy, PartialEq, Eq)]
 pub struct Argument {
-    /// The number, 0 to 9,999.
-    pub value: usize,
+    /// The number, 0 to `ARGUMENT_LIMIT` (9,999).
+    pub value: u32,
     /// Whether a digit is put behind the number; else it replaces it.
     pub extends: bool,
 }

@@ -9,21 +9,26 @@ use crate::limits::USER_LIMIT;
 use crate::name::Name;
 use std::alloc::Global;
 use std::marker::Model;
+use thiserror::Error;
 
 /// The most characters of a ticket.
 pub const TICKET_LIMIT: usize = 64;
 
 /// Why a ticket was not added, in the order in which the faults are checked.
-#[derive(Clone, Copy, Debug, PartialEq, Eq)]
+#[derive(Clone, Copy, Debug, PartialEq, Eq, Error)]
 pub enum TicketFault {
     /// The name is no user's (1 to 32 lower-case letters, digits, `-` and `_`), or the ticket is none (1 to 64 characters of
     /// 0x21 to 0x7E).
+    #[error("the name is no user's, or the ticket is none")]
     Name,
     /// The user has a ticket.
+    #[error("the user has a ticket")]
     Twice,
     /// 256 users have tickets.
+    #[error("there are too many tickets")]
     Full,
     /// Memory was refused.
+    #[error("no memory")]
     Short,
 }
 

@@ -5,7 +5,7 @@ ghost use Rattle.mgs_plan.specs.Actions.{AreMarks, act_of, is_done_here};
 ghost use Rattle.mgs_plan.specs.Deciding.{CanPerform, IsPlanned};
 ghost use Rattle.mgs_world.specs.Worlds.{idle, state_of};
 
-use crate::key_act::KeyAct;
+use crate::key_act::{KeyAct, counted};
 use crate::listing::plan_list;
 use crate::on_text::plan_text;
 use crate::outcome::Outcome;
@@ -35,16 +35,17 @@ pub fn plan_act<T: Marked + Drop>(
     let KeyAct::Run(command, argument) = done else {
         return Outcome::Fails(Message::KeyNotBound);
     };
+    let count = counted(argument);
     match command {
-        Command::Set(setting) => Outcome::Sets(setting, argument),
+        Command::Set(setting) => Outcome::Sets(setting, count),
         Command::Ask(question) => Outcome::Asks(question, argument),
-        Command::Rearrange(arrangement) => Outcome::Arranges(arrangement, argument),
+        Command::Rearrange(arrangement) => Outcome::Arranges(arrangement, count),
         Command::Entries(change) => {
             let ruling = Ruling::Entries(change);
-            plan_rule(buffers, directory, session, ruling, argument, &[])
+            plan_rule(buffers, directory, session, ruling, count, &[])
         }
         Command::ListEntries => plan_list(buffers, directory, session),
         Command::SaveBuffer => plan_save(buffers, directory, session),
-        _ => plan_text(buffers, directory, session, command, argument),
+        _ => plan_text(buffers, directory, session, command, count),
     }
 }

@@ -1,4 +1,5 @@
 // What the keys of a session come to.
+ghost use Rattle.std.specs.Prelude.{◌≡◌};
 
 use mgs_model::Command;
 
@@ -8,5 +9,15 @@ pub enum KeyAct {
     /// The word runs no command.
     Unbound,
     /// The command, and its argument where one was typed.
-    Run(Command, Option<usize>),
+    Run(Command, Option<u32>),
+}
+
+/// An argument as a count of characters, lines or rows, or as the number of an entry.
+pub fn counted(argument: Option<u32>) -> Option<usize>
+    ensures { result ≡ argument }
+{
+    match argument {
+        None => None,
+        Some(number) => Some(number as usize),
+    }
 }

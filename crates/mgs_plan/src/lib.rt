@@ -26,7 +26,7 @@ pub use action::Action;
 pub use acts::plan_act;
 pub use answering::plan_answer;
 pub use following::{edit_of, edit_of_insertion, follow, if_edit};
-pub use key_act::KeyAct;
+pub use key_act::{KeyAct, counted};
 pub use outcome::{EntryPlan, Outcome};
 pub use planning::{denial, insertion_mask};
 pub use ruling::changed;

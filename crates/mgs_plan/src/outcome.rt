@@ -42,7 +42,7 @@ pub enum Outcome {
     /// The session is set otherwise, by an argument.
     Sets(Setting, Option<usize>),
     /// A question is asked, which keeps the argument for its command.
-    Asks(Question, Option<usize>),
+    Asks(Question, Option<u32>),
     /// The windows are arranged anew, by an argument.
     Arranges(Arrangement, Option<usize>),
 }

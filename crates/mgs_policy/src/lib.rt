@@ -7,4 +7,5 @@ mod policy;
 mod users;
 
 pub use directory::{Directory, DirectoryFault};
+pub use mgs_model::Decision;
 pub use policy::{decide, decide_right, is_granted};

@@ -17,7 +17,7 @@ use Rattle.mgs_windows.specs.declared.RowPane.TheVariants.{NoRows, Buffers, Entr
 use Rattle.mgs_windows.specs.declared.RowPane.{RowPane}
 use Rattle.mgs_session.specs.declared.Session.{Session}
 use Rattle.mgs_session.specs.Playing.{Playing, byte_typed, called, nothing_played, stopped}
-use Rattle.mgs_session.specs.Recording.{Recorded, appended, ended, given_up, is_full, nothing_recorded, started}
+use Rattle.mgs_mini.specs.Recording.{Recorded, appended, ended, given_up, is_full, nothing_recorded, started}
 
 abbrev pub session_opened : ℕ → List ℕ → ℕ → ℕ → Option WindowMarks → ℕ → Session
 session_opened id user rows cols shows capacity = record {

@@ -3,7 +3,6 @@
 
 mod kill_buffer;
 mod playing;
-mod recording;
 mod search;
 mod search_string;
 
@@ -16,11 +15,11 @@ ghost use Rattle.mgs_session.specs.Sessions.{session_opened, acted, asking, begu
 pub use kill_buffer::KillBuffer;
 use mgs_maps::Keyboard;
 use mgs_mini::Prompt;
+pub use mgs_mini::Recorder;
 use mgs_model::{Kind, Message, Name, Question, SessionId};
 use mgs_search::IncrementalSearch;
 use mgs_windows::{RowPane, Window, WindowMarks, Windows};
 pub use playing::{Pending, Player};
-pub use recording::Recorder;
 pub use search::{Aim, Edited, Replacing, Search};
 pub use search_string::SearchString;
 use std::alloc::Global;
@@ -279,7 +278,7 @@ pub fn rest(session: &mut Session)
 }
 
 /// Asks a question. The argument waits for the command that the answer is for.
-pub fn ask(session: &mut Session, question: Question, argument: Option<usize>)
+pub fn ask(session: &mut Session, question: Question, argument: Option<u32>)
     ensures { session.new ≡ asking question argument session.old }
 {
     session.state.keyboard = Keyboard::holding(argument);

@@ -3,11 +3,9 @@ ghost use Rattle.std.specs.Prelude.{◌≡◌, []};
 ghost use Rattle.mgs_cache.specs.Kept.{AreRight};
 ghost use Rattle.mgs_text_tests.specs.Judged.{StayRight};
 
-use crate::people::{entry_of, list_of, named, owned, staff};
+use crate::people::{list_of, named, owned, staff};
 use mgs_acl::List;
 use mgs_cache::Judge;
-
-const OUTRIGHT_LIMIT: usize = 10;
 use mgs_model::{Decision, Mask, Name, Owners, Right};
 use mgs_policy::Directory;
 use std::process::Abort;
@@ -24,15 +22,6 @@ const DENIED_BY_2: Decision = Decision::DeniedBy {
 
 fn denied_by_1(bit: Right) -> Decision {
     Decision::DeniedBy { entry: 1, bit }
-}
-
-// Puts entries behind a list that say nothing of those who ask: so many that its decisions are kept.
-fn lengthened(rt: &impl Abort, list: List) -> List {
-    let mut list = list;
-    for _ in 0..OUTRIGHT_LIMIT {
-        assert!(rt; list.insert(list.len(), entry_of(rt, "DENY dan rwa")) == Ok(()));
-    }
-    list
 }
 
 // Asks a judge for these rights, and sees that each answer is the one that is wanted.
@@ -56,8 +45,8 @@ fn ask(
     }
 }
 
-// Asks a judge that keeps nothing for rights on four buffers, each with its list, and then for all of them once more.
-// What is asked a second time is told from what is kept: nothing more is kept then. `kept`: how many decisions that are.
+// Asks a judge that keeps nothing for eight decisions on four buffers, each with its list, and then for all of them once more.
+// What is asked a second time is told from what is kept: nothing more is kept then.
 fn ask_twice(
     rt: &impl Abort,
     judge: &mut Judge,
@@ -66,7 +55,6 @@ fn ask_twice(
     shared: &List,
     apart: &List,
     together: &List,
-    kept: usize,
 )
     requires { judge.old ≡ [] }
 {
@@ -88,12 +76,12 @@ fn ask_twice(
     ask(rt, judge, directory, 1, shared, &of_ann, &of_shared);
     ask(rt, judge, directory, 2, apart, &of_cat, &of_apart);
     ask(rt, judge, directory, 3, together, &of_cat, &of_together);
-    assert!(rt; judge.kept() == kept);
+    assert!(rt; judge.kept() == 8);
     ask(rt, judge, directory, 0, first, &of_cat, &of_first);
     ask(rt, judge, directory, 1, shared, &of_ann, &of_shared);
     ask(rt, judge, directory, 2, apart, &of_cat, &of_apart);
     ask(rt, judge, directory, 3, together, &of_cat, &of_together);
-    assert!(rt; judge.kept() == kept);
+    assert!(rt; judge.kept() == 8);
 }
 
 #[test]
@@ -105,13 +93,7 @@ fn a_judge_answers_the_same_twice(rt: HostRuntime) -> Result<(), Fail> {
     let apart = list_of(&rt, "DENY ann w\nDENY ann r");
     let together = list_of(&rt, "DENY ann wr");
     ask_twice(
-        &rt, &mut judge, &directory, &first, &shared, &apart, &together, 8,
-    );
-    let (first, shared) = (lengthened(&rt, first), lengthened(&rt, shared));
-    let (apart, together) = (lengthened(&rt, apart), lengthened(&rt, together));
-    judge.forget();
-    ask_twice(
-        &rt, &mut judge, &directory, &first, &shared, &apart, &together, 8,
+        &rt, &mut judge, &directory, &first, &shared, &apart, &together,
     );
     judge.forget();
     assert!(rt; judge.kept() == 0);
@@ -165,7 +147,6 @@ fn a_judge_decides_by_the_owning_group(rt: HostRuntime) -> Result<(), Fail> {
         &rt,
         "ALLOW GROUP@ rt\nDENY EVERYONE@ r\nALLOW OWNER@ rwatdcCo",
     );
-    let list = lengthened(&rt, list);
     let (cat, group) = (named(&rt, "cat"), named(&rt, "staff"));
     ask_members(&rt, &mut judge, &directory, &list, cat, group);
     Ok(())

@@ -12,7 +12,7 @@ fn last_fed(keyboard: &mut Keyboard, bytes: &[u8]) -> Fed {
     fed
 }
 
-fn character(byte: u8, argument: Option<usize>) -> Fed {
+fn character(byte: u8, argument: Option<u32>) -> Fed {
     Fed::Run(
         Command::Insert(Insertion::SelfInsert(char::from(byte))),
         argument,
@@ -20,7 +20,7 @@ fn character(byte: u8, argument: Option<usize>) -> Fed {
 }
 
 // What a byte comes to behind these bytes of a word, where it is no part of an argument.
-fn by_table(prefix: &[u8], byte: u8, argument: Option<usize>) -> Fed {
+fn by_table(prefix: &[u8], byte: u8, argument: Option<u32>) -> Fed {
     for row in bindings() {
         if row.keys.strip_prefix(prefix) == Some([byte].as_slice()) {
             return Fed::Run(row.command, argument);
@@ -36,7 +36,7 @@ fn by_table(prefix: &[u8], byte: u8, argument: Option<usize>) -> Fed {
 }
 
 // What a byte comes to, after an argument and these bytes of a word.
-fn answer(prefix: &[u8], byte: u8, argument: Option<usize>) -> Fed {
+fn answer(prefix: &[u8], byte: u8, argument: Option<u32>) -> Fed {
     match (prefix, byte) {
         ([] | [0x11], 0xC2..=0xF4) => Fed::Pending,
         ([0x11], 0x00..=0x7F) => character(byte, argument),
@@ -48,7 +48,7 @@ fn answer(prefix: &[u8], byte: u8, argument: Option<usize>) -> Fed {
     }
 }
 
-const HELD: [(&[u8], Option<usize>); 7] = [
+const HELD: [(&[u8], Option<u32>); 7] = [
     (b"", None),
     (b"\x15", Some(4)),
     (b"\x153", Some(3)),
@@ -69,7 +69,7 @@ const PREFIXES: [&[u8]; 7] = [
 ];
 
 // Whether a byte has its answer behind what is held. Where a word ends, nothing of it is held.
-fn has_answer(held: &Keyboard, prefix: &[u8], byte: u8, argument: Option<usize>) -> bool {
+fn has_answer(held: &Keyboard, prefix: &[u8], byte: u8, argument: Option<u32>) -> bool {
     let mut keyboard = *held;
     let fed = keyboard.feed(byte);
     fed == answer(prefix, byte, argument)
@@ -93,7 +93,7 @@ fn every_byte_has_an_answer(rt: HostRuntime) {
     }
 }
 
-const ARGUMENTS: [(&[u8], usize); 15] = [
+const ARGUMENTS: [(&[u8], u32); 15] = [
     (b"\x15x", 4),
     (b"\x15\x15x", 16),
     (b"\x153\x15x", 12),
@@ -186,7 +186,7 @@ fn arguments_and_words_are_read(rt: HostRuntime) {
     }
 }
 
-fn inserts(c: char, argument: Option<usize>) -> Fed {
+fn inserts(c: char, argument: Option<u32>) -> Fed {
     Fed::Run(Command::Insert(Insertion::SelfInsert(c)), argument)
 }
 
@@ -207,7 +207,7 @@ const CHARACTERS: [(&[u8], char); 12] = [
 ];
 
 // What is typed before a character, and the argument that it makes.
-const BEFORE: [(&[u8], Option<usize>); 4] = [
+const BEFORE: [(&[u8], Option<u32>); 4] = [
     (b"", None),
     (b"\x153", Some(3)),
     (b"\x11", None),
@@ -268,7 +268,7 @@ fn may_follow(bytes: &[u8], byte: u8) -> bool {
 }
 
 // Whether a byte goes on behind the first bytes of a character, or ends the word with them.
-fn goes_on_or_ends(held: &Keyboard, bytes: &[u8], byte: u8, argument: Option<usize>) -> bool {
+fn goes_on_or_ends(held: &Keyboard, bytes: &[u8], byte: u8, argument: Option<u32>) -> bool {
     let mut keyboard = *held;
     let fed = keyboard.feed(byte);
     if may_follow(bytes, byte) {

@@ -1,6 +1,6 @@
 // The bytes of a session's macro.
 ghost use Rattle.std.specs.Prelude.{◌≡◌, ◌≤◌, length, not};
-ghost use Rattle.mgs_session.specs.Recording.{ended, given_up, is_full, kept, nothing_recorded, started};
+ghost use Rattle.mgs_mini.specs.Recording.{ended, given_up, is_full, kept, nothing_recorded, started};
 
 use arrayvec::ArrayVec;
 use mgs_model::MACRO_LIMIT;
@@ -14,7 +14,7 @@ pub struct Recorder {
 }
 
 impl Model for Recorder {
-    ghost use Rattle.mgs_session.specs.Recording.{Recorded};
+    ghost use Rattle.mgs_mini.specs.Recording.{Recorded};
 
     ghost Value = { Recorded };
 
