@@ -10,7 +10,7 @@ import fcntl, os, pty, random, re, select, shutil, signal, socket, stat, struct,
 TOP = os.path.dirname(os.path.dirname(os.path.abspath(__file__)))
 PROGRAM = sys.argv[1] if len(sys.argv) > 1 else os.path.join(TOP, "crates", "mgd", "out", "mgd")
 JOIN = os.path.join(TOP, "join")
-USAGE = "usage: join [--raw] [--host HOST] [--port PORT] [--ticket-file FILE] NAME [TICKET [HOST PORT]]\r\n"
+USAGE = "usage: join [--raw] [--host HOST] [--port PORT] [--ticket-file FILE] [--server-user USER] NAME [TICKET [HOST PORT]]\r\n"
 FOLDER = tempfile.TemporaryDirectory()
 FIRST = b"\x1b[?7l\x1b[m\x1b[2J\x1b[1;1Hhello\x1b[1;3H"
 QUIT = b"\x18\x03"
@@ -113,15 +113,25 @@ class Screen:
     def lines(self):
         return ["".join(cell[0] for cell in row).rstrip() for row in self.cells]
 
-    def cut(self, rows, cols):
-        """What a terminal of another size shows of this one."""
-        cells = [[(" ", False)] * cols for _ in range(rows)]
-        for row in range(min(rows, self.rows)):
+    def cut(self, places, cols):
+        """What a terminal of another size shows of this one, where these rows are in sight."""
+        cells = [[(" ", False)] * cols for _ in places]
+        for row, place in enumerate(places):
             for col in range(min(cols, self.cols)):
-                cells[row][col] = self.cells[row][col]
-            if cols < self.cols and self.cells[row][cols][0] == "":
-                cells[row][cols - 1] = (" ", self.cells[row][cols - 1][1])
-        return cells, (min(self.row, rows - 1), min(self.col, cols - 1))
+                cells[row][col] = self.cells[place][col]
+            if cols < self.cols and self.cells[place][cols][0] == "":
+                cells[row][cols - 1] = (" ", self.cells[place][cols - 1][1])
+        return cells, (places.index(self.row), min(self.col, cols - 1))
+
+    def sights(self, rows):
+        """The rows that can be in sight in a terminal of so many: that of the cursor, the last two, and rows that follow each other."""
+        if rows >= self.rows:
+            return [list(range(self.rows))]
+        last = [self.rows - 2, self.rows - 1]
+        if rows < 3:
+            return [[self.row]] if rows == 1 else [last if self.row in last else [self.row, last[1]]]
+        found = [list(range(top, top + rows - 2)) + last for top in range(self.rows - rows + 1)]
+        return [places for places in found if self.row in places]
 
 
 class Server:
@@ -417,9 +427,14 @@ def random_paint(chance, model):
 
 
 def differences(one, model):
-    cells, cursor = model.cut(one.screen.rows, one.screen.cols)
-    wrong = [(row, one.screen.cells[row], cells[row]) for row in range(one.screen.rows) if one.screen.cells[row] != cells[row]]
-    return wrong + ([] if (one.screen.row, one.screen.col) == cursor else [((one.screen.row, one.screen.col), cursor)])
+    """How the terminal differs from what it may show: the fewest rows that do, over all choices of rows in sight."""
+    found = []
+    for places in model.sights(one.screen.rows):
+        cells, cursor = model.cut(places, one.screen.cols)
+        cells += [[(" ", False)] * one.screen.cols] * (one.screen.rows - len(cells))
+        wrong = [(row, one.screen.cells[row], cells[row]) for row in range(one.screen.rows) if one.screen.cells[row] != cells[row]]
+        found.append(wrong + ([] if (one.screen.row, one.screen.col) == cursor else [((one.screen.row, one.screen.col), cursor)]))
+    return min(found, key=len)
 
 
 def try_pictures(server):
@@ -437,7 +452,7 @@ def try_pictures(server):
             if turn % 5 == 4:
                 while select.select([one.terminal], [], [], 0.1)[0]:
                     one.pump(0)
-                size = chance.randrange(2, rows + 9), chance.randrange(2, cols + 9)
+                size = chance.randrange(1, rows + 9), chance.randrange(2, cols + 9)
                 one.screen.resize(*size, "X")
                 one.resize(*size)
             paint = random_paint(chance, model)
@@ -656,7 +671,33 @@ def try_tickets(server):
     for text in ["apple", "apple\n", "apple\r\nand more\n"]:
         with open(path, "w") as file:
             file.write(text)
+        os.chmod(path, 0o600)
         logged_in(f"a ticket in a file, {text!r}", Joined([*place, "--ticket-file", path, "ann"], MGD_TICKET="pear"))
+    for mode, whose in [(0o644, "all users of this machine"), (0o640, "its group")]:
+        os.chmod(path, mode)
+        words = f"{path} can be read by {whose}; chmod 600 {path}"
+        one = Joined([*place, "--ticket-file", path, "ann"], cols=160)
+        server.accept()
+        expect(f"a file of mode {mode:o} is told of on the screen", one.shows(words) and one.shows("hello"), one.screen.lines())
+        one.type(b"x")
+        expect("until the next key", one.wait_until(lambda: one.screen.lines()[23] == ""), one.screen.lines())
+        one.type(b"\x1dq")
+        ended = one.end()
+        expect("and once more at the end", ended == (0, True) and one.got.endswith(f"join: {words}\r\njoin: the session is over\r\n"), one.got[-200:])
+    os.chmod(path, 0o600)
+    with open(path, "w") as file:
+        file.write("a" * 64 + "\r\n")
+    one = Joined([*place, "--ticket-file", path, "ann"])
+    login = server.accept()
+    server.close()
+    expect("a ticket of 64 characters", login == b"login ann " + b"a" * 64 + b" 24 80\n" and one.end() == (3, True), login)
+    for file in [path, "/dev/zero", "/dev/urandom"]:
+        if file == path:
+            with open(path, "w") as longer:
+                longer.write("a" * 65)
+        one = Joined([*place, "--ticket-file", file, "ann"])
+        seen = one.end(), one.got
+        expect(f"more than 64 bytes of {os.path.basename(file)}", seen[0] == (1, True) and f"the first line of {file} is no ticket" in seen[1], seen)
     one = Joined(["--raw", "--", "-x", "apple", *server.to])
     login = server.accept()
     one.shows("hello")
@@ -731,6 +772,103 @@ def try_signals(server):
     expect("SIGTERM ends one that is stopped and has no terminal", ended == (128 + signal.SIGTERM, True), ended)
 
 
+def try_full_terminal(server):
+    """A terminal that takes nothing: one signal ends it after a second, and two at once."""
+    for numbers in [[signal.SIGTERM], [signal.SIGTERM, signal.SIGTERM], [signal.SIGHUP, signal.SIGINT]]:
+        one = joined(server)
+        termios.tcflow(one.slave, termios.TCOOFF)
+        server.peer.sendall(b"\x1b[2;1Hmore")
+        time.sleep(0.5)
+        start = time.monotonic()
+        for number in numbers:
+            one.process.send_signal(number)
+            time.sleep(0.3)
+        try:
+            status = one.process.wait(5)
+        except subprocess.TimeoutExpired:
+            status = "it goes on"
+            one.process.kill()
+        taken = time.monotonic() - start
+        names = " and ".join(number.name for number in numbers)
+        is_so = status in ([128 + numbers[0]] if len(numbers) == 1 else [128 + numbers[0], -numbers[1]]) and taken < 3
+        expect(f"a full terminal: {names}", is_so, (status, taken))
+        termios.tcflow(one.slave, termios.TCOON)
+        expect("and its attributes are as they were", termios.tcgetattr(one.slave) == one.before[0] and one.state()[2] == one.before[2], one.state())
+        server.close()
+
+
+# Listens as another user, and takes what comes.
+STRANGER = """
+import os, socket, sys
+os.setgid(65534), os.setuid(65534)
+sock = socket.create_server(("127.0.0.1", 0))
+print(sock.getsockname()[1], flush=True)
+while True:
+    peer, _ = sock.accept()
+    print(peer.recv(200), flush=True)
+    peer.close()
+"""
+
+
+def try_strangers_port(server):
+    """Who listens is looked at before the ticket is sent."""
+    one = Joined(["--server-user", "root", "ann", "apple", *server.to])
+    if os.getuid() or not os.path.exists("/proc/net/tcp"):
+        one.process.kill()
+        return print("left out: a port of another user, for which this has to be root of Linux")
+    login = server.accept()
+    server.close()
+    expect("root's port is trusted", login == b"login ann apple 24 80\n" and "belongs to" not in one.got, (login, one.got))
+    one.end()
+    stranger = subprocess.Popen([sys.executable, "-c", STRANGER], stdout=subprocess.PIPE, text=True)
+    port = stranger.stdout.readline().strip()
+    words = f"join: port {port} of 127.0.0.1 belongs to a program of nobody, which can keep the ticket"
+    for host in ["127.0.0.1", "localhost"]:
+        one = Joined(["--host", host, "--port", port, "ann"])
+        is_told = one.wait_for("Ticket of ann: ")
+        expect(f"a port of another user is told of before the ticket is asked for, {host}", is_told and one.got.startswith(words + "\r\n"), one.got)
+        one.type(b"\x03")
+        expect("and C-c gives up", one.end() == (130, True), one.got)
+    one = Joined(["--server-user", "root", "ann", "apple", "127.0.0.1", port])
+    seen = one.end(), one.got
+    expect("with --server-user no ticket is sent there", seen == ((1, True), f"{words}; it is not sent\r\n"), seen)
+    one = Joined(["--server-user", "nobody", "ann", "apple", "127.0.0.1", port])
+    got = stranger.stdout.readline()
+    expect("but to that user it is", "login ann apple" in got and one.end()[0] == 1 and "belongs" not in one.got, (got, one.got))
+    stranger.kill()
+    stranger.wait()
+
+
+def try_tmux(server):
+    """Characters that tmux leaves out, or takes for narrow, in place of others: nothing of what stood there is left."""
+    if not shutil.which("tmux"):
+        return print("left out: tmux is not there")
+    place = ["tmux", "-u", "-L", f"mgd-try-{os.getpid()}", "-f", "/dev/null"]
+    surroundings = {**os.environ, "LC_ALL": "C.UTF-8", "TERM": "xterm", "MGD_TICKET": "apple"}
+    run = lambda *words: subprocess.run([*place, *words], env=surroundings, capture_output=True, text=True).stdout
+    run("new", "-d", "-x", "80", "-y", "24", f"{JOIN} --port {server.port} ann")
+    login = server.accept()
+    expect("tmux: it joins", login == b"login ann apple 24 80\n", login)
+    strange = ["\u2028", "\u0378", "\u2630", "\u4dc0", "\U0001d300", "\ufdd0", "\ue000", "\u6f22", "\u00e9", "\U0001f600", "\u00ad", "\U000e0001"]
+    server.peer.sendall(b"".join(b"\x1b[%d;1H" % (row + 1) + b"#" * 40 for row in range(len(strange))))
+    deadline = time.monotonic() + 5
+    while run("capture-pane", "-p").count("#" * 40) < len(strange) and time.monotonic() < deadline:
+        time.sleep(0.1)
+    server.peer.sendall(b"".join(b"\x1b[%d;3H" % (row + 1) + character.encode() + b"\x1b[%d;3H" % (row + 1) for row, character in enumerate(strange)) + b"\x1b[20;1Hdone")
+    while "done" not in run("capture-pane", "-p") and time.monotonic() < deadline:
+        time.sleep(0.1)
+    lines = run("capture-pane", "-p").splitlines()
+    wide = re.compile(r"[\u6f22\U0001f600\u2630\u4dc0\U0001d300]")
+    wrong = []
+    for row, character in enumerate(strange):
+        taken = 2 if wide.search(character) else 1
+        if not lines[row].startswith("##") or lines[row][2:3] == "#" or lines[row].count("#") > 40 - taken:
+            wrong.append((character, lines[row]))
+    expect("tmux: what it leaves out or narrows leaves nothing behind", not wrong, wrong)
+    server.close()
+    run("kill-server")
+
+
 def try_program():
     """The same over the program itself, as far as it is there."""
     if not os.path.exists(PROGRAM):
@@ -775,7 +913,10 @@ def main():
     try_tickets(server)
     try_ends(server)
     try_signals(server)
+    try_full_terminal(server)
     try_strangers(server)
+    try_strangers_port(server)
+    try_tmux(server)
     try_own_keys(server)
     try_slow_keys(server)
     try_keys(server)
