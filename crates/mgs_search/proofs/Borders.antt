@@ -1,15 +1,16 @@
 -- Borders of a pattern: which places may be passed over when a character differs.
 use Rattle.std.proofs.Common.{◌≡◌, ◌≢◌, ℕ, suc, zero, true, false, ◌+◌, ◌-◌, ◌<◌, ◌≤◌, min, eqb, leb, ◌⊎◌, inl, inr, List, [], ◌∷◌, ◌++◌, length, drop, get_or, sym, ap, ◌∙◌, arith, length-drop, length-append}
-use Rattle.std.proofs.lemmas.Bool.Decides.{eqb_tells, leb_tells}
+use Rattle.std.proofs.lemmas.Bool.Decides.{eqb_tells, leb_tells, nat_tests}
 use Rattle.std.proofs.lemmas.Bool.{true≢false, false_from_ne_true}
 use Rattle.std.proofs.lemmas.Grind.{get_or_default_zero}
 use Rattle.std.proofs.lemmas.List.{get_or-drop, get_or_append_left}
 use Rattle.std.proofs.Math.Path.{subst}
 use Rattle.std.proofs.Math.Seq.{get_or-append_seam}
-use Rattle.std.specs.Char.{to_ascii_lowercase}
+use Rattle.std.specs.Char.{to_ascii_lowercase, to_ascii_uppercase}
 use Rattle.mgs_model.specs.Searching.{begins, matches_at, first_match, last_match_before}
 use Rattle.mgs_search.proofs.Matching.{first_next, before, begins_cons, begins_not}
-use Rattle.mgs_search.specs.Borders.{char_at, lower_at, Agrees, IsRead, IsBorders, IsStep, IsHead, IsTail}
+use Rattle.mgs_search.specs.Borders.{char_at, lower_at, Agrees, IsRead, IsBorders, IsFirst, IsStep, IsHead, IsTail}
+use Rattle.mgs_search.specs.declared.heads.First.{First}
 
 -- ONE CHARACTER
 
@@ -81,6 +82,15 @@ same_there ps text i k x c inside is here same = sym (is ∙ get_or_default_zero
 
 pub other_there : (ps : List ℕ) (text : ℕ → ℕ) (i k x c : ℕ) → k < length ps → x ≡ get_or ps k x → text i ≡ c → x ≢ c → char_at ps k ≢ text i
 other_there ps text i k x c inside is here other = λ same. other (is ∙ get_or_default_zero ps k x inside ∙ same ∙ here)
+
+-- neither case of the head's first character
+other_case : (f c : ℕ) → c ≢ f → c ≢ to_ascii_uppercase f → f ≢ to_ascii_lowercase c
+other_case f c small large = λ same. grind (arith, nat_tests)
+
+pub none_there : (ps : List ℕ) (first : First) (q c : ℕ) → IsFirst ps first → q ≡ 0 → 0 < length ps → c ≢ first.small → c ≢ first.large → IsStep ps q (to_ascii_lowercase c) 0
+none_there ps first q c is none some small large = λ text a i read here.
+    near_none ps text a i q none some (near_read ps text a i q read)
+    (λ same. other_case (char_at ps 0) c (λ e. small (e ∙ sym is.small)) (λ e. large (e ∙ sym is.large)) (ap (char_at ps) (sym none) ∙ same ∙ here))
 
 -- the borders of one more number of characters
 pub borders_pushed : (ps bs : List ℕ) (n kept : ℕ) → length bs ≡ n → IsBorders ps bs → IsRead ps (char_at ps) 1 n kept → IsBorders ps (bs ++ kept ∷ [])

@@ -2,13 +2,15 @@
 --
 --   char_at, lower_at   a character, and in its small case
 --   IsHead, IsTail      a pattern's first characters in small case; its last ones, read back
+--   IsFirst             the two cases of a head's first character
 --   Agrees              a head stands at a place, as far as is read
 --   IsRead              the last characters that were read are the first of the head, and it stands at no place before
 --   IsBorders           how many characters are left where the next one differs
 --   IsStep              one character is read
 --   IsWalk              some characters are read
 use Rattle.std.specs.Prelude.{◌≡◌, ℕ, ◌+◌, ◌-◌, ◌<◌, ◌≤◌, List, length, get_or}
-use Rattle.std.specs.Char.{to_ascii_lowercase}
+use Rattle.std.specs.Char.{to_ascii_lowercase, to_ascii_uppercase}
+use Rattle.mgs_search.specs.declared.heads.First.{First}
 
 abbrev pub char_at : List ℕ → ℕ → ℕ
 char_at xs i = get_or xs i 0
@@ -23,6 +25,10 @@ pub record IsHead (pattern head : List ℕ) : Type 0 where
 pub record IsTail (pattern tail : List ℕ) : Type 0 where
   pub within : length tail ≤ length pattern
   pub chars : (t : ℕ) → t < length tail → char_at tail t ≡ lower_at pattern (length pattern - 1 - t)
+
+pub record IsFirst (head : List ℕ) (first : First) : Type 0 where
+  pub small : first.small ≡ char_at head 0
+  pub large : first.large ≡ to_ascii_uppercase (char_at head 0)
 
 -- of the characters before the i-th
 abbrev pub Agrees : List ℕ → (ℕ → ℕ) → ℕ → ℕ → Type 0

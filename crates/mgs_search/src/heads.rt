@@ -1,7 +1,8 @@
 // Reading a text once for a pattern: no character of it is looked at again.
 ghost use Rattle.std.specs.Prelude.{◌≡◌, ℕ, ◌+◌, ◌-◌, ◌<◌, ◌≤◌, List, min, length};
 ghost use Rattle.mgs_model.specs.Searching.{first_match, last_match_before};
-ghost use Rattle.mgs_search.specs.Borders.{IsBorders, IsHead, IsStep, IsTail, IsWalk};
+ghost use Rattle.std.specs.Char.{to_ascii_lowercase};
+ghost use Rattle.mgs_search.specs.Borders.{IsBorders, IsFirst, IsHead, IsStep, IsTail, IsWalk};
 
 use arrayvec::ArrayVec;
 use mgs_text::Text;
@@ -51,6 +52,39 @@ fn step(head: &[char], borders: &[usize], q: usize, c: char) -> usize
     k + 1
 }
 
+// The two cases of a head's first character.
+#[derive(Clone, Copy)]
+struct First {
+    small: char,
+    large: char,
+}
+
+fn first_of(head: &[char]) -> First
+    requires { 0 < length head.now }
+    ensures { IsFirst head.now result }
+{
+    First {
+        small: head[0],
+        large: head[0].to_ascii_uppercase(),
+    }
+}
+
+// As `step`, for a character in whatever case. Where none of the head stands, mostly, two comparisons tell that none of it
+// does behind the character, and cost less than to fold it.
+fn step_folded(head: &[char], borders: &[usize], first: First, q: usize, c: char) -> usize
+    requires borders { IsBorders head.now borders.now }
+    requires head { length borders.now ≤ length head.now }
+    requires first { IsFirst head.now first }
+    requires within { q < length borders.now }
+    ensures value { IsStep head.now q (to_ascii_lowercase c) result }
+    ensures within { result ≤ q + 1 }
+{
+    if q == 0 && c != first.small && c != first.large {
+        return 0;
+    }
+    step(head, borders, q, c.to_ascii_lowercase())
+}
+
 /// The borders of a head.
 pub(crate) fn borders_of(head: &[char]) -> ArrayVec<usize, 120>
     requires some { 0 < length head.now }
@@ -85,9 +119,10 @@ fn walk(piece: &[char], head: &[char], borders: &[usize], q: usize) -> Walked
     ensures stands { result.stands ≤ length borders.now }
     ensures end { result.stands < length borders.now → result.read ≡ length piece.now }
 {
+    let first = first_of(head);
     let mut stands = q;
     for i in 0..piece.len() {
-        stands = step(head, borders, stands, piece[i].to_ascii_lowercase());
+        stands = step_folded(head, borders, first, stands, piece[i]);
         if stands == borders.len() {
             return Walked {
                 read: i + 1,
@@ -146,14 +181,10 @@ pub(crate) fn last_tailed<T: Text>(
         return 0;
     }
     let top = text.len().min(end - 1 + pattern.len());
+    let first = first_of(tail);
     let mut stands = 0;
     for i in 0..top {
-        stands = step(
-            tail,
-            borders,
-            stands,
-            text.at(top - 1 - i).to_ascii_lowercase(),
-        );
+        stands = step_folded(tail, borders, first, stands, text.at(top - 1 - i));
         if stands == borders.len() {
             let behind = top - (i + 1 - stands);
             return end.min((behind + 1).saturating_sub(pattern.len()));

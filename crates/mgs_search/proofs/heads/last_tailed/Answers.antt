@@ -13,8 +13,8 @@ returns-then-stands-borders-clause-value g c =
     let top : ℕ = c.min-top.result in
     let i : ℕ = c.loop-i.i in
     let is : top ≡ min (length xs) (end - 1 + length ps) = c.min-top.ensures ∙ ap (λ (n : ℕ). min n (end - 1 + length ps)) c.len.ensures.value in
-    let read : IsRead tail (λ (t : ℕ). lower_at xs (top - 1 - t)) 0 (i + 1) c.step-stands.result = c.step-stands.ensures.value (λ (t : ℕ). lower_at xs (top - 1 - t)) 0 i c.loop-i.invariant.read (ap to_ascii_lowercase (sym c.at.ensures) ∙ sym c.to_ascii_lowercase.ensures.value) in
-    back_passed ps tail xs end top (i + 1) c.step-stands.result c.min.result c.requires.tail (omega (arith, c.requires.some, c.requires.head)) (omega arith) is (omega arith) (omega arith)
+    let read : IsRead tail (λ (t : ℕ). lower_at xs (top - 1 - t)) 0 (i + 1) c.step_folded-stands.result = c.step_folded-stands.ensures.value (λ (t : ℕ). lower_at xs (top - 1 - t)) 0 i c.loop-i.invariant.read (ap to_ascii_lowercase (sym c.at.ensures)) in
+    back_passed ps tail xs end top (i + 1) c.step_folded-stands.result c.min.result c.requires.tail (omega (arith, c.requires.some, c.requires.head)) (omega arith) is (omega arith) (omega arith)
     (omega (arith, is, c.min.ensures, c.saturating_sub.ensures)) read
 
 pub loop-i-preserved : goal.loop-i-preserved
@@ -22,8 +22,8 @@ loop-i-preserved g c =
     let xs : List ℕ = g.T.Text.text c.args.text.now in
     let top : ℕ = c.min-top.result in
     record {
-      below = omega (arith, c.step-stands.ensures.within, c.loop-i.invariant.below);
-      read = c.step-stands.ensures.value (λ (t : ℕ). lower_at xs (top - 1 - t)) 0 c.loop-i.i c.loop-i.invariant.read (ap to_ascii_lowercase (sym c.at.ensures) ∙ sym c.to_ascii_lowercase.ensures.value);
+      below = omega (arith, c.step_folded-stands.ensures.within, c.loop-i.invariant.below);
+      read = c.step_folded-stands.ensures.value (λ (t : ℕ). lower_at xs (top - 1 - t)) 0 c.loop-i.i c.loop-i.invariant.read (ap to_ascii_lowercase (sym c.at.ensures));
     }
 
 pub returns-clause-value : goal.returns-clause-value

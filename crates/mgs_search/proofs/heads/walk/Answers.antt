@@ -1,19 +1,19 @@
 use Rattle.std.proofs.Common.{◌≡◌, ℕ, ◌+◌, length, arith}
 use Rattle.std.proofs.Math.Path.{subst}
-use Rattle.mgs_search.specs.Borders.{IsRead, IsStep}
+use Rattle.mgs_search.specs.Borders.{IsRead}
 use Rattle.mgs_search.proofs.Borders.{walked}
 use Rattle.mgs_search.proofs.heads.walk.Goals as goal
 
 pub returns-then-stands-borders-clause-value : goal.returns-then-stands-borders-clause-value
 returns-then-stands-borders-clause-value c = λ text a j read all.
-    walked c.args.head.now c.args.piece.now text a j c.loop-i.i c.loop-i.stands c.index-piece-i.result c.step-stands.result c.loop-i-test.true c.index-piece-i.is all (subst (λ (z : ℕ). IsStep c.args.head.now c.loop-i.stands z c.step-stands.result) c.to_ascii_lowercase.ensures.value c.step-stands.ensures.value) (c.loop-i.invariant.read text a j read all)
+    walked c.args.head.now c.args.piece.now text a j c.loop-i.i c.loop-i.stands c.index-piece-i.result c.step_folded-stands.result c.loop-i-test.true c.index-piece-i.is all c.step_folded-stands.ensures.value (c.loop-i.invariant.read text a j read all)
 
 pub loop-i-preserved : goal.loop-i-preserved
 loop-i-preserved c =
     record {
-      below = omega (arith, c.step-stands.ensures.within, c.loop-i.invariant.below);
+      below = omega (arith, c.step_folded-stands.ensures.within, c.loop-i.invariant.below);
       read = λ text a j read all.
-          walked c.args.head.now c.args.piece.now text a j c.loop-i.i c.loop-i.stands c.index-piece-i.result c.step-stands.result c.loop-i-test.true c.index-piece-i.is all (subst (λ (z : ℕ). IsStep c.args.head.now c.loop-i.stands z c.step-stands.result) c.to_ascii_lowercase.ensures.value c.step-stands.ensures.value) (c.loop-i.invariant.read text a j read all);
+          walked c.args.head.now c.args.piece.now text a j c.loop-i.i c.loop-i.stands c.index-piece-i.result c.step_folded-stands.result c.loop-i-test.true c.index-piece-i.is all c.step_folded-stands.ensures.value (c.loop-i.invariant.read text a j read all);
     }
 
 pub returns-clause-value : goal.returns-clause-value
