@@ -1,13 +1,13 @@
 -- Line feeds, the lines between them, and their numbers.
-use Rattle.std.proofs.Common.{◌≡◌, ℕ, zero, suc, ◌+◌, ◌-◌, ◌<◌, ◌≤◌, true, false, cond, not, min, leb, List, [], ◌∷◌, length, take, drop, get_or, refl, sym, ap, ◌∙◌, arith, ◌⊎◌, inl, inr, eq-eqb, zero-add, length-drop}
+use Rattle.std.proofs.Common.{◌≡◌, ℕ, zero, suc, ◌+◌, ◌-◌, ◌<◌, ◌≤◌, true, false, cond, not, leb, List, [], ◌∷◌, length, take, drop, get_or, refl, sym, ap, ◌∙◌, arith, ◌⊎◌, inl, inr, eq-eqb, zero-add, length-drop}
 use Rattle.std.proofs.lemmas.List.{get_or-drop, take_all, drop_more}
 use Rattle.std.specs.Prelude.{slice_range}
 use Rattle.std.specs.List.{count_by, position_or_len}
-use Rattle.std.proofs.lemmas.List.Sums.{sum_by-cons, count_by_more_yes, count_by_more_no, fails_before_first, passes_at_first}
+use Rattle.std.proofs.lemmas.List.Sums.{count_by-le-length, sum_by-cons, count_by_more_yes, count_by_more_no, fails_before_first, passes_at_first}
 use Rattle.std.proofs.lemmas.Bool.{ne_eqb, cases_eq, cases_lt, eqb-true, le-leb, lt-leb}
 use Rattle.mgs_model.specs.Lines.{is_feed, is_within, line_of, line_start, line_end, start_of}
 use Rattle.mgs_model.specs.Cells.{glyph}
-use Rattle.mgs_model.specs.Walks.{lines_down, lines_up, fitting}
+use Rattle.mgs_model.specs.Walks.{fitting}
 use Rattle.mgs_model.proofs.Firsts.{place_most}
 use Rattle.mgs_lines.proofs.Walks.{line_start_back, line_start_here, lines_within, line_of-start_of}
 
@@ -43,6 +43,30 @@ start_of_past (suc k) (c ∷ cs) past =
           let same : count_by is_feed (c ∷ cs) ≡ count_by is_feed cs = sum_by-cons (λ y. cond (is_feed y) 1 0) c cs ∙ rw (ne_eqb c 10 n) (zero-add _) in
           rw (ne_eqb c 10 n) (omega (arith, start_of_past (suc k) cs (omega arith)))
     ]
+
+-- from a place on over some line feeds
+pub start_of_from : (xs : List ℕ) (p n : ℕ) → p ≤ length xs → start_of (line_of xs p + suc n) xs ≡ p + start_of (suc n) (drop p xs)
+start_of_from xs zero n within = ap (λ k. start_of k xs) (zero-add (suc n)) ∙ sym (zero-add (start_of (suc n) xs))
+start_of_from [] (suc q) n within = absurd (omega arith)
+start_of_from (c ∷ cs) (suc q) n within =
+    let next : start_of (line_of cs q + suc n) cs ≡ q + start_of (suc n) (drop q cs) = start_of_from cs q n (omega arith) in
+    elim (cases_eq c 10) [
+      | inl e ↦
+          let one : line_of (c ∷ cs) (suc q) ≡ suc (line_of cs q) = line_of_cons c cs q ∙ rw (eq-eqb c 10 e) (omega arith) in
+          let more : line_of (c ∷ cs) (suc q) + suc n ≡ suc (line_of cs q + suc n) = omega (arith, one) in
+          ap (λ k. start_of k (c ∷ cs)) more ∙ rw (eq-eqb c 10 e) (omega (arith, next))
+      | inr other ↦
+          let none : line_of (c ∷ cs) (suc q) ≡ line_of cs q = line_of_cons c cs q ∙ rw (ne_eqb c 10 other) (omega arith) in
+          let more : line_of (c ∷ cs) (suc q) + suc n ≡ suc (line_of cs q + n) = omega (arith, none) in
+          let same : line_of cs q + suc n ≡ suc (line_of cs q + n) = omega arith in
+          ap (λ k. start_of k (c ∷ cs)) more ∙ rw (ne_eqb c 10 other) (omega (arith, next, ap (λ k. start_of k cs) same))
+    ]
+
+-- numbers past the last line are as good as each other
+pub start_of_capped : (j k : ℕ) (xs : List ℕ) → (j ≡ k) ⊎ ((length xs < j) × (length xs < k)) → start_of j xs ≡ start_of k xs
+start_of_capped j k xs (inl same) = ap (λ n. start_of n xs) same
+start_of_capped j k xs (inr past) =
+    start_of_past j xs (omega (arith, past.0, count_by-le-length is_feed xs)) ∙ sym (start_of_past k xs (omega (arith, past.1, count_by-le-length is_feed xs)))
 
 pub line_of_nil : (p : ℕ) → line_of [] p ≡ 0
 line_of_nil zero = refl
@@ -188,39 +212,6 @@ next_other xs p n within is other = elim (ends xs p (omega arith)) [
       absurd (other (ap (λ j. get_or xs j 0) same ∙ feed_at_end xs p e))
   | inr last ↦ is ∙ no_next xs p last ∙ sym last
 ]
-
--- LINES UP AND DOWN
-
-pub lines_down_next : (xs : List ℕ) (s n i : ℕ) → i < n → line_end xs s < length xs → lines_down xs s (n - i) ≡ lines_down xs (line_end xs s + 1) (n - (i + 1))
-lines_down_next xs s n i more within =
-    let same : min (line_of xs s + (n - i)) (line_of xs (length xs)) ≡ min (line_of xs (line_end xs s + 1) + (n - (i + 1))) (line_of xs (length xs)) = omega (arith, line_of_next xs s within) in
-    ap (λ k. start_of k xs) same
-
-pub lines_down_last : (xs : List ℕ) (s n : ℕ) → line_end xs s ≡ length xs → lines_down xs s n ≡ start_of (line_of xs s) xs
-lines_down_last xs s n last =
-    let end : line_of xs (length xs) ≡ line_of xs s = ap (line_of xs) (sym last) ∙ line_of_end xs s in
-    let same : min (line_of xs s + n) (line_of xs (length xs)) ≡ line_of xs s = omega (arith, end) in
-    ap (λ k. start_of k xs) same
-
-pub lines_down_from : (xs : List ℕ) (p n : ℕ) → p ≤ length xs → lines_down xs (line_start xs p) (n - 0) ≡ lines_down xs p n
-lines_down_from xs p n within =
-    let same : min (line_of xs (line_start xs p) + (n - 0)) (line_of xs (length xs)) ≡ min (line_of xs p + n) (line_of xs (length xs)) = omega (arith, line_of_start xs p within) in
-    ap (λ k. start_of k xs) same
-
-pub lines_up_next : (xs : List ℕ) (s n i : ℕ) → i < n → 0 < s → s ≤ length xs → line_start xs s ≡ s → lines_up xs s (n - i) ≡ lines_up xs (line_start xs (s - 1)) (n - (i + 1))
-lines_up_next xs s n i more some within start =
-    let same : line_of xs s - (n - i) ≡ line_of xs (line_start xs (s - 1)) - (n - (i + 1)) = omega (arith, line_of_above xs s some within start, line_of_start xs (s - 1) (omega arith)) in
-    ap (λ k. start_of k xs) same
-
-pub lines_up_from : (xs : List ℕ) (p n : ℕ) → p ≤ length xs → lines_up xs (line_start xs p) (n - 0) ≡ lines_up xs p n
-lines_up_from xs p n within =
-    let same : line_of xs (line_start xs p) - (n - 0) ≡ line_of xs p - n = omega (arith, line_of_start xs p within) in
-    ap (λ k. start_of k xs) same
-
-pub lines_up_none : (xs : List ℕ) (s n : ℕ) → n ≡ 0 → s ≤ length xs → line_start xs s ≡ s → lines_up xs s n ≡ s
-lines_up_none xs s n none within start =
-    let same : line_of xs s - n ≡ line_of xs s = omega arith in
-    ap (λ k. start_of k xs) same ∙ (start_of_line xs s within ∙ start)
 
 -- COLUMNS
 

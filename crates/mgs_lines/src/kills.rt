@@ -12,16 +12,11 @@ fn past_feeds<T: Text>(text: &T, p: usize, feeds: usize) -> usize
     ensures value { result ≡ p + start_of feeds (drop p (T.text text.now)) }
     ensures within { result ≤ length (T.text text.now) }
 {
-    let mut left = feeds;
-    for i in p..text.len() {
-        if left == 0 {
-            return i;
-        }
-        if text.at(i) == '\n' {
-            left -= 1;
-        }
+    let _len = text.len();
+    if feeds == 0 {
+        return p;
     }
-    text.len()
+    text.start_of(text.line_of(p).saturating_add(feeds))
 }
 
 /// The other end of what a kill of lines takes from a position on. Without an argument that is the line's end, or the place

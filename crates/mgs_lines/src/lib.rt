@@ -8,6 +8,7 @@ ghost use Rattle.std.specs.Int.Digits.{digits_of};
 ghost use Rattle.mgs_model.specs.Cells.{glyph};
 ghost use Rattle.mgs_model.specs.Lines.{line_of, line_start, line_end, column, settled_top};
 
+mod columns;
 mod filling;
 mod kills;
 mod paragraphs;
@@ -15,6 +16,7 @@ mod vertical;
 mod whites;
 mod words;
 
+pub use columns::column_from;
 pub use filling::{paragraph_end, paragraph_start};
 pub use kills::kill_line_end;
 use mgs_model::own_columns;
@@ -96,12 +98,7 @@ pub fn column<T: Text>(text: &T, p: usize) -> usize
     ensures value { result ≡ column (T.text text.now) p }
     ensures few { result ≤ 12 * p }
 {
-    let start = line_start(text, p);
-    let mut at = 0;
-    for i in start..p {
-        at += width(at, text.at(i));
-    }
-    at
+    column_from(text, line_start(text, p), 0, p)
 }
 
 #[tactic(auto, using(crate::proofs::Walks::back_within))]

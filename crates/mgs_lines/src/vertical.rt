@@ -28,15 +28,8 @@ pub fn lines_down<T: Text>(text: &T, p: usize, lines: usize) -> usize
     ensures value { result ≡ lines_down (T.text text.now) p lines }
     ensures within { result ≤ length (T.text text.now) }
 {
-    let mut start = line_start(text, p);
-    for i in 0..lines {
-        let end = line_end(text, start);
-        if end == text.len() {
-            break;
-        }
-        start = end + 1;
-    }
-    start
+    let last = text.line_of(text.len());
+    text.start_of(text.line_of(p).saturating_add(lines).min(last))
 }
 
 /// The start of the line that stands so many lines above that of a position, or of the first line where there are fewer.
@@ -45,14 +38,7 @@ pub fn lines_up<T: Text>(text: &T, p: usize, lines: usize) -> usize
     ensures value { result ≡ lines_up (T.text text.now) p lines }
     ensures within { result ≤ p }
 {
-    let mut start = line_start(text, p);
-    for i in 0..lines {
-        if start == 0 {
-            break;
-        }
-        start = line_start(text, start - 1);
-    }
-    start
+    text.start_of(text.line_of(p).saturating_sub(lines))
 }
 
 /// The last place whose column is at most `goal`, of the line that starts at `start`.
