@@ -115,7 +115,7 @@ got=$(install "$work/f")
 expect "a folder in a file's place is refused" "$got" "1 install.sh: $work/f/share/doc/mgd/version is a folder, where a file has to be"
 expect "and nothing is installed" "$(find "$work/f" -type f -printf '%f ') $(cat "$work/f/bin/mgd")" "mgd  old"
 mv "$work/tree/contrib/mgd.rc" "$work/kept"
-expect "so it is where a source is gone" "$(install "$work/g" | cut -c 1) $(find "$work/g" -type f)" "1 "
+expect "so it is where a source is gone" "$(install "$work/g" | cut -c 1) $(find "$work/g" -type f)" "2 "
 mv "$work/kept" "$work/tree/contrib/mgd.rc"
 
 expect "DESTDIR" "$(DESTDIR=$work/h install /usr | cut -d ' ' -f 1) $(find "$work/h/usr/bin" -type f | wc -l) $(grep -c 'ExecStart=/usr/bin/mgd serve' "$work/h/usr/share/doc/mgd/mgd.service")" "0 4 1"
