@@ -7,5 +7,6 @@ pub mod Found
 pub mod Judging
 pub mod Permitting
 pub mod Placing
+pub mod Rules
 pub mod Saving
 pub mod Told

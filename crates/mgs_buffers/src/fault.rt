@@ -1,4 +1,4 @@
-// Why a buffer was not added, why one was not edited, and why one was not saved.
+// Why a buffer was not added, not edited, its rules not changed, and why it was not saved.
 use mgs_model::Decision;
 use thiserror::Error;
 
@@ -24,12 +24,42 @@ pub enum AddFault {
 }
 
 /// Why a user did not edit a buffer. The rights are judged before memory is taken.
-#[derive(Clone, Copy, PartialEq, Eq)]
+#[derive(Clone, Copy, Debug, PartialEq, Eq, Error)]
 pub enum EditFault {
     /// The buffer's access list does not grant the rights: what it decides, which is not `Granted`.
+    #[error("denied")]
     Denied(Decision),
     /// Memory was refused.
+    #[error("no memory")]
     Short,
+}
+
+/// Why a user did not change an entry of a buffer's access list, in the order in which the faults are checked.
+#[derive(Clone, Copy, Debug, PartialEq, Eq, Error)]
+pub enum EntriesFault {
+    /// The list does not grant WRITE_ACL: what it decides, which is not `Granted`.
+    #[error("denied")]
+    Denied(Decision),
+    /// The index is past the last entry.
+    #[error("there is no such entry")]
+    NoSuchEntry,
+    /// The list has 64 entries.
+    #[error("the list is full")]
+    Full,
+}
+
+/// Why a user did not change a buffer's owner or owning group, in the order in which the faults are checked.
+#[derive(Clone, Copy, Debug, PartialEq, Eq, Error)]
+pub enum OwnersFault {
+    /// The list does not grant WRITE_OWNER: what it decides, which is not `Granted`.
+    #[error("denied")]
+    Denied(Decision),
+    /// The directory has no such user.
+    #[error("there is no such user")]
+    NoSuchUser,
+    /// The directory has no such group.
+    #[error("there is no such group")]
+    NoSuchGroup,
 }
 
 /// Why a user did not save a buffer, in the order in which the faults are checked.

@@ -9,11 +9,12 @@ mod fault;
 mod found;
 mod judging;
 mod naming;
+mod rules;
 mod saving;
 mod telling;
 
 pub use buffers::Buffers;
-pub use fault::{AddFault, EditFault, SaveFault};
+pub use fault::{AddFault, EditFault, EntriesFault, OwnersFault, SaveFault};
 pub use found::Found;
 pub use judging::OUTRIGHT_LIMIT;
 pub use mgs_store::{Store, StoreFault};

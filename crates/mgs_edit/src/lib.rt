@@ -5,6 +5,7 @@
 mod alterations;
 mod around;
 mod cases;
+mod families;
 mod fills;
 mod insertions;
 mod motions;
@@ -17,6 +18,7 @@ mod whites;
 mod written;
 
 pub use alterations::alteration;
+pub use families::{Failure, Plan, plan_command};
 pub use fills::refill;
 pub use insertions::{insertion, reading_insertion};
 pub use motions::motion;

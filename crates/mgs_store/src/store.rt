@@ -1,7 +1,9 @@
 // What a save asks of a store.
+use thiserror::Error;
 
 /// A text could not be stored.
-#[derive(Clone, Copy, Debug, PartialEq, Eq)]
+#[derive(Clone, Copy, Debug, PartialEq, Eq, Error)]
+#[error("the text could not be stored")]
 pub struct StoreFault;
 
 /// Where texts are saved, each under the name of its buffer.

@@ -1,0 +1,185 @@
+// Changes of a buffer's access list entry by entry, and of its owner and owning group by name: each by a user, whose rights are
+// judged first, and each with its own faults.
+ghost use Rattle.std.specs.Prelude.{◌≡◌, OnOk, OnErr, insert, length, remove, slice_set};
+ghost use Rattle.mgs_model.specs.Access.{is_among};
+ghost use Rattle.mgs_model.specs.Apply.{change_first};
+ghost use Rattle.mgs_model.specs.declared.owners.NewOwner.TheVariants.{ToUser, ToGroup};
+ghost use Rattle.mgs_buffers.specs.MarkedBuffer.{HasBuffer, marked_at, marked_named, marked_list_set, marked_owners_set};
+ghost use Rattle.mgs_buffers.specs.Permitting.{mask_decision};
+ghost use Rattle.mgs_buffers.specs.Rules.{ChangeAnswers, InsertAnswers, OwnerAnswers, GroupAnswers, fault_of, is_group_known};
+
+use crate::buffers::Buffers;
+use crate::fault::{EntriesFault, OwnersFault};
+use mgs_acl::{Entry, ListFault};
+use mgs_marks::Marked;
+use mgs_model::{Mask, Name, Right};
+use mgs_policy::Directory;
+
+// The fault of a list, as one of a user who changes it.
+fn fault_of(fault: ListFault) -> EntriesFault
+    ensures { result ≡ fault_of fault }
+{
+    match fault {
+        ListFault::Full => EntriesFault::Full,
+        ListFault::NoSuchEntry => EntriesFault::NoSuchEntry,
+    }
+}
+
+// Whether there is no group, or one of the directory.
+fn is_group_known(directory: &Directory, group: &Option<Name>) -> bool
+    ensures { result ≡ is_group_known directory.now group.now }
+{
+    match group {
+        None => true,
+        Some(group) => directory.has_group(group),
+    }
+}
+
+impl<T: Marked + Drop> Buffers<T> {
+    /// Puts an entry into the buffer's access list before the one at index `n`, counted from 0, or last where there are `n`, where
+    /// WRITE_ACL is granted to the user.
+    ///
+    /// The faults, in this order: `Denied` with what the list decides, which is not `Granted`; `NoSuchEntry` where there are fewer than
+    /// `n` entries; `Full` where there are 64. They change nothing. It takes no memory.
+    pub fn insert_entry_as(
+        &mut self,
+        directory: &Directory,
+        user: &Name,
+        name: &Name,
+        n: usize,
+        entry: Entry,
+    ) -> Result<(), EntriesFault>
+        requires { HasBuffer name.now self.old }
+        ensures answer { let b = (marked_at name.now self.old).buffer in InsertAnswers result (mask_decision directory.now b user.now 262144) n (length b.entries) }
+        ensures ok { OnOk result (self.new ≡ change_first (marked_named name.now) (marked_list_set (insert (marked_at name.now self.old).buffer.entries n entry)) self.old) }
+        ensures err { OnErr result (self.new ≡ self.old) }
+    {
+        if let Err(decision) = self.permit(directory, user, name, Mask::of(Right::WriteAcl)) {
+            return Err(EntriesFault::Denied(decision));
+        }
+        let mut list = self.copy_list(name);
+        if let Err(fault) = list.insert(n, entry) {
+            return Err(fault_of(fault));
+        }
+        match self.set_list_as(directory, user, name, list) {
+            Ok(()) => Ok(()),
+            Err(decision) => Err(EntriesFault::Denied(decision)),
+        }
+    }
+
+    /// Takes the entry at index `n`, counted from 0, out of the buffer's access list, where WRITE_ACL is granted to the user.
+    ///
+    /// The faults, in this order: `Denied` with what the list decides, which is not `Granted`; `NoSuchEntry` where there are `n` entries
+    /// or fewer. They change nothing. It takes no memory.
+    pub fn delete_entry_as(
+        &mut self,
+        directory: &Directory,
+        user: &Name,
+        name: &Name,
+        n: usize,
+    ) -> Result<(), EntriesFault>
+        requires { HasBuffer name.now self.old }
+        ensures answer { let b = (marked_at name.now self.old).buffer in ChangeAnswers result (mask_decision directory.now b user.now 262144) n (length b.entries) }
+        ensures ok { OnOk result (self.new ≡ change_first (marked_named name.now) (marked_list_set (remove (marked_at name.now self.old).buffer.entries n)) self.old) }
+        ensures err { OnErr result (self.new ≡ self.old) }
+    {
+        if let Err(decision) = self.permit(directory, user, name, Mask::of(Right::WriteAcl)) {
+            return Err(EntriesFault::Denied(decision));
+        }
+        let mut list = self.copy_list(name);
+        if let Err(fault) = list.delete(n) {
+            return Err(fault_of(fault));
+        }
+        match self.set_list_as(directory, user, name, list) {
+            Ok(()) => Ok(()),
+            Err(decision) => Err(EntriesFault::Denied(decision)),
+        }
+    }
+
+    /// Puts an entry in the place of the one at index `n` of the buffer's access list, counted from 0, where WRITE_ACL is granted to the
+    /// user.
+    ///
+    /// The faults, in this order: `Denied` with what the list decides, which is not `Granted`; `NoSuchEntry` where there are `n` entries
+    /// or fewer. They change nothing. It takes no memory.
+    pub fn replace_entry_as(
+        &mut self,
+        directory: &Directory,
+        user: &Name,
+        name: &Name,
+        n: usize,
+        entry: Entry,
+    ) -> Result<(), EntriesFault>
+        requires { HasBuffer name.now self.old }
+        ensures answer { let b = (marked_at name.now self.old).buffer in ChangeAnswers result (mask_decision directory.now b user.now 262144) n (length b.entries) }
+        ensures ok { OnOk result (self.new ≡ change_first (marked_named name.now) (marked_list_set (slice_set (marked_at name.now self.old).buffer.entries n entry)) self.old) }
+        ensures err { OnErr result (self.new ≡ self.old) }
+    {
+        if let Err(decision) = self.permit(directory, user, name, Mask::of(Right::WriteAcl)) {
+            return Err(EntriesFault::Denied(decision));
+        }
+        let mut list = self.copy_list(name);
+        if let Err(fault) = list.replace(n, entry) {
+            return Err(fault_of(fault));
+        }
+        match self.set_list_as(directory, user, name, list) {
+            Ok(()) => Ok(()),
+            Err(decision) => Err(EntriesFault::Denied(decision)),
+        }
+    }
+
+    /// A user of the directory owns the buffer from now on, where WRITE_OWNER is granted to the user who acts.
+    ///
+    /// The faults, in this order: `Denied` with what the list decides, which is not `Granted`; `NoSuchUser` where the directory has no
+    /// such user. They change nothing. It takes no memory.
+    pub fn give_to_user_as(
+        &mut self,
+        directory: &Directory,
+        user: &Name,
+        name: &Name,
+        owner: Name,
+    ) -> Result<(), OwnersFault>
+        requires { HasBuffer name.now self.old }
+        ensures answer { OwnerAnswers result (mask_decision directory.now (marked_at name.now self.old).buffer user.now 524288) (is_among owner directory.now.users) }
+        ensures ok { OnOk result (self.new ≡ change_first (marked_named name.now) (marked_owners_set (ToUser owner)) self.old) }
+        ensures err { OnErr result (self.new ≡ self.old) }
+    {
+        if let Err(decision) = self.permit(directory, user, name, Mask::of(Right::WriteOwner)) {
+            return Err(OwnersFault::Denied(decision));
+        }
+        if !directory.has_user(&owner) {
+            return Err(OwnersFault::NoSuchUser);
+        }
+        match self.set_owner_as(directory, user, name, owner) {
+            Ok(()) => Ok(()),
+            Err(decision) => Err(OwnersFault::Denied(decision)),
+        }
+    }
+
+    /// A group of the directory owns the buffer from now on, or none does, where WRITE_OWNER is granted to the user who acts.
+    ///
+    /// The faults, in this order: `Denied` with what the list decides, which is not `Granted`; `NoSuchGroup` where the directory has no
+    /// such group. They change nothing. It takes no memory.
+    pub fn give_to_group_as(
+        &mut self,
+        directory: &Directory,
+        user: &Name,
+        name: &Name,
+        group: Option<Name>,
+    ) -> Result<(), OwnersFault>
+        requires { HasBuffer name.now self.old }
+        ensures answer { GroupAnswers result (mask_decision directory.now (marked_at name.now self.old).buffer user.now 524288) (is_group_known directory.now group) }
+        ensures ok { OnOk result (self.new ≡ change_first (marked_named name.now) (marked_owners_set (ToGroup group)) self.old) }
+        ensures err { OnErr result (self.new ≡ self.old) }
+    {
+        if let Err(decision) = self.permit(directory, user, name, Mask::of(Right::WriteOwner)) {
+            return Err(OwnersFault::Denied(decision));
+        }
+        if !is_group_known(directory, &group) {
+            return Err(OwnersFault::NoSuchGroup);
+        }
+        match self.set_group_as(directory, user, name, group) {
+            Ok(()) => Ok(()),
+            Err(decision) => Err(OwnersFault::Denied(decision)),
+        }
+    }
+}
