@@ -5,7 +5,8 @@ ghost use Rattle.mgs_buffers.specs.MarkedBuffer.{HasBuffer, marked_named, marked
 ghost use Rattle.mgs_plan.specs.Deciding.{CanList, IsGranted};
 ghost use Rattle.mgs_plan.specs.declared.outcome.Outcome.TheVariants.{Kills, SetsList, SetsOwners, Saves};
 ghost use Rattle.mgs_plan.specs.Rows.{scrolled_to};
-ghost use Rattle.mgs_act.specs.Doing.{IsDoneIn, IsListSet, IsQuietlyDone, IsReady, TakesMemory};
+ghost use Rattle.mgs_store.specs.Stores.{store_told};
+ghost use Rattle.mgs_act.specs.Doing.{IsDone, IsDoneIn, IsListSet, IsQuietlyDone, IsReady, TakesMemory};
 ghost use Rattle.mgs_world.specs.Acted.{IsUnchanged};
 ghost use Rattle.mgs_world.specs.Sound.{IsSound};
 
@@ -126,8 +127,8 @@ fn scroll(session: &mut Session, rows: RowPane)
     set_kind(session, Kind::Other);
 }
 
-/// The text of the buffer of a name is handed to the store, by an act of the session at `at`, and what the store answers is told.
-/// `Short`: memory was refused, the world is as it was, and the store was not asked.
+/// The text of the buffer of a name is handed to the store, by an act of the session at `at`, and what the store answers is told, and
+/// what that touched. No memory is taken.
 fn save<T: Marked + Drop, S: Store>(
     buffers: &mut Buffers<T>,
     directory: &Directory,
@@ -135,23 +136,21 @@ fn save<T: Marked + Drop, S: Store>(
     at: usize,
     name: &Name,
     store: &mut S,
-) -> Result<Touched, Short>
+) -> Touched
     requires { IsReady directory.now at buffers.old sessions.old (Saves name.now) }
     ensures sound { IsSound buffers.new sessions.new }
-    ensures done { IsDoneIn S.failed S.accepted directory.now at (Saves name.now)
-        buffers.old sessions.old store.old buffers.new sessions.new store.new result }
-    ensures err { OnErr result (IsUnchanged buffers.old sessions.old buffers.new sessions.new) }
-    ensures unasked { OnErr result (store.new ≡ store.old) }
+    ensures done { IsDone directory.now at (Saves name.now) buffers.old sessions.old (store_told S.failed S.accepted store.old)
+        buffers.new sessions.new (store_told S.failed S.accepted store.new) result }
 {
     match buffers.save_as(directory, &sessions[at].user, name, store) {
         Ok(()) => {
             finish(&mut sessions[at], Kind::Other, Message::Wrote(*name));
-            Ok(Touched::In(*name))
+            Touched::In(*name)
         }
         Err(fault) => match fault {
             SaveFault::Store => {
                 fail(&mut sessions[at], Message::SaveFailed);
-                Ok(Touched::Nowhere)
+                Touched::Nowhere
             }
             // The rights were granted when it was planned, and the file was there.
             SaveFault::Denied(_) => unreachable!(),
@@ -161,7 +160,7 @@ fn save<T: Marked + Drop, S: Store>(
 }
 
 /// Does what was decided for the session at `at`, which is at rest, and tells what that touched. `Short`: memory was refused, the
-/// world is as it was, the store was not asked, and it takes memory.
+/// world is as it was, the store was not asked, and it takes memory, as no save does.
 pub fn do_decided<T: Marked + Drop, S: Store>(
     alloc: Global,
     buffers: &mut Buffers<T>,
@@ -200,7 +199,7 @@ pub fn do_decided<T: Marked + Drop, S: Store>(
         Outcome::Copies(marks, source, place) => {
             insert_copy(buffers, directory, sessions, at, marks, source, *place)
         }
-        Outcome::Saves(name) => save(buffers, directory, sessions, at, name, store),
+        Outcome::Saves(name) => Ok(save(buffers, directory, sessions, at, name, store)),
         Outcome::Scrolls(rows) => {
             scroll(&mut sessions[at], *rows);
             Ok(Touched::Nowhere)

@@ -3,13 +3,13 @@ use Rattle.std.specs.Prelude.{ℕ, Bool, true, false, ◌&&◌, ◌||◌, find, 
 use Rattle.std.specs.List.{list_any}
 use Rattle.std.specs.Option.{option_and_then}
 use Rattle.mgs_model.specs.World.{World, Buffer_of}
-use Rattle.mgs_model.specs.Outcome.{Outcome, MarkPlan, Keep_mark, Mark_at, SearchPlan, Begin, KillPlan, Keep_kill, Kill_is, Source, Old, Come, Slot, is_old, Arrange, Stay, Adjust, Slots, Effect, Edit, Create, Save}
+use Rattle.mgs_model.specs.Outcome.{Outcome, MarkPlan, Keep_mark, Mark_at, SearchPlan, Begin, KillPlan, Keep_kill, Kill_is, Source, Old, Come, Slot, is_old, Arrange, Stay, Adjust, Slots, Effect, Edit, Create}
 use Rattle.mgs_model.specs.Apply.{outcome_in}
 use Rattle.mgs_model.specs.Turns.{Turn, Do}
 use Rattle.mgs_model.specs.Events.{Doing, turn_in, path, is_used_up, with_state, most_turns, begun}
 
--- REFUSABLE ACTS: memory may be refused to an act only where it edits, creates, saves, kills, copies, sets a mark,
--- begins a search, shows a buffer in a window, or splits a window
+-- REFUSABLE ACTS: memory may be refused to an act only where it edits, creates, kills, copies, sets a mark, begins a
+-- search, shows a buffer in a window, or splits a window. A save is none: the text is handed on as it lies.
 
 abbrev pub sets_mark : MarkPlan → Bool
 sets_mark Keep_mark = false
@@ -40,7 +40,6 @@ arrange_takes_memory (Slots slots selected sought) = slots_take_memory slots || 
 abbrev pub effect_takes_memory : Effect → Bool
 effect_takes_memory (Edit name a b put) = true
 effect_takes_memory (Create name owner) = true
-effect_takes_memory (Save name text) = true
 effect_takes_memory _ = false
 
 abbrev pub kill_takes_memory : KillPlan → Bool
