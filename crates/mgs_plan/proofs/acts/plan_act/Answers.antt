@@ -1,5 +1,6 @@
 use Rattle.std.proofs.Common.{[], ap, subst, sym, ◌∙◌}
 use Rattle.mgs_model.specs.Outcome.{Run}
+use Rattle.mgs_model.specs.declared.session.Command.TheVariants.{Entries}
 use Rattle.mgs_plan.specs.Actions.{act_of}
 use Rattle.mgs_plan.specs.Deciding.{IsPlanned}
 use Rattle.mgs_plan.specs.declared.outcome.Outcome.TheVariants.{Fails}
@@ -14,7 +15,8 @@ returns-in_default-clause-value g c =
 
 pub returns-in-Entries-clause-value : goal.returns-in-Entries-clause-value
 returns-in-Entries-clause-value g c =
-    subst (λ a. IsPlanned c.args.directory.now c.args.buffers.now c.args.session.now a c.plan_rule.result) (sym (ap act_of c.in-Run.is ∙ ap (λ k. Run k c.in-Run.argument []) c.in-Entries.is)) c.plan_rule.ensures.value
+    subst (λ a. IsPlanned c.args.directory.now c.args.buffers.now c.args.session.now a c.plan_rule.result) (sym (ap act_of c.in-Run.is ∙ ap (λ k. Run k c.in-Run.argument []) c.in-Entries.is))
+    (subst (λ n. IsPlanned c.args.directory.now c.args.buffers.now c.args.session.now (Run (Entries c.in-Entries.change) n []) c.plan_rule.result) c.counted-count.ensures c.plan_rule.ensures.value)
 
 pub returns-in-ListEntries-clause-value : goal.returns-in-ListEntries-clause-value
 returns-in-ListEntries-clause-value g c =
@@ -26,6 +28,6 @@ returns-in-SaveBuffer-clause-value g c =
 
 pub returns-in_default-command : goal.returns-in_default-command
 returns-in_default-command g c = record {
-  value = subst (λ a. IsPlanned c.args.directory.now c.args.buffers.now c.args.session.now a c.plan_text.result) (sym (ap act_of c.in-Run.is)) c.plan_text.ensures.value;
+  value = subst (λ a. IsPlanned c.args.directory.now c.args.buffers.now c.args.session.now a c.plan_text.result) (sym (ap act_of c.in-Run.is)) (subst (λ n. IsPlanned c.args.directory.now c.args.buffers.now c.args.session.now (Run c.in-Run.command n []) c.plan_text.result) c.counted-count.ensures c.plan_text.ensures.value);
   can = c.plan_text.ensures.can;
 }
