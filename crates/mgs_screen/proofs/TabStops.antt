@@ -1,12 +1,13 @@
 -- Cells that are counted from a tab stop on.
-use Rattle.std.proofs.Common.{◌≡◌, ℕ, ◌+◌, ◌-◌, ◌<◌, ◌≤◌, List, ◌++◌, length, take, drop, get_or, refl, sym, ap, subst, ◌∙◌, arith, append_assoc, length-append, length-take}
+use Rattle.std.proofs.Common.{◌≡◌, ℕ, ◌+◌, ◌-◌, ◌<◌, ◌≤◌, List, ◌++◌, length, take, drop, get_or, refl, sym, ap, subst, ◌∙◌, arith, append_assoc, length-append, length-take, zero-add, drop-drop}
 use Rattle.std.specs.Prelude.{slice_range}
 use Rattle.std.specs.List.{suffix_len}
 use Rattle.std.proofs.lemmas.List.{drop-take, length-take-le, take-append-le, take-take}
 use Rattle.mgs_laws.specs.Apart.{IsEditedOnce}
-use Rattle.mgs_model.specs.Cells.{cells, glyph}
+use Rattle.mgs_model.specs.Cells.{cells, cells_from, glyph}
 use Rattle.mgs_model.specs.Lines.{is_within, line_of, line_start, start_of}
 use Rattle.mgs_model.specs.World.{Buffer}
+use Rattle.mgs_lines.proofs.Counted.{behind_begin, taken_split}
 use Rattle.mgs_lines.proofs.Feeds.{start_of_line, line_of_start}
 use Rattle.mgs_lines.proofs.Walks.{cells_more}
 use Rattle.mgs_screen.specs.TabStops.{IsOn, IsStopBefore, IsTabStop}
@@ -64,6 +65,24 @@ cells_next xs start i at w from within is more =
     let old : List ℕ = cells (slice_range xs start i) in
     let one : w ≡ length (glyph (length old) (get_or xs i 0)) = more ∙ ap (λ n. length (glyph n (get_or xs i 0))) is in
     omega (arith, is, one, ap length (cells_more xs start i from within), length-append old (glyph (length old) (get_or xs i 0)))
+
+-- MORE CHARACTERS
+
+range_join : (xs : List ℕ) (a b c : ℕ) → a ≤ b → b ≤ c → slice_range xs a c ≡ slice_range xs a b ++ slice_range xs b c
+range_join xs a b c low high =
+    let sum : c - a ≡ (b - a) + (c - b) = omega (arith, low, high) in
+    let place : a + (b - a) ≡ b = omega (arith, low) in
+    ap (λ n. take n (drop a xs)) sum
+    ∙ taken_split (c - b) (b - a) (drop a xs)
+    ∙ ap (λ (l : List ℕ). slice_range xs a b ++ take (c - b) l) (drop-drop (b - a) a xs ∙ ap (λ n. drop n xs) place)
+
+pub cells_behind : (xs : List ℕ) (start place p at : ℕ) → start ≤ place → place ≤ p → at ≡ length (cells (slice_range xs start place)) → at + length (cells_from at (slice_range xs place p)) ≡ length (cells (slice_range xs start p))
+cells_behind xs start place p at from order is =
+    let front : List ℕ = slice_range xs start place in
+    let back : List ℕ = slice_range xs place p in
+    behind_begin 0 at front back (is ∙ sym (zero-add (length (cells front))))
+    ∙ zero-add (length (cells (front ++ back)))
+    ∙ ap (λ (l : List ℕ). length (cells l)) (sym (range_join xs start place p from order))
 
 -- AN EDIT AT OR BEHIND A TAB STOP
 

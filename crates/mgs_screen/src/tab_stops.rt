@@ -4,7 +4,7 @@ ghost use Rattle.mgs_model.specs.Cells.{cells};
 ghost use Rattle.mgs_model.specs.Lines.{line_start, start_of};
 ghost use Rattle.mgs_screen.specs.TabStops.{AreShownAlike, IsKnown, IsStopBefore, IsTabStop};
 
-use mgs_lines::width;
+use mgs_lines::{column_from, width};
 use mgs_text::Text;
 
 /// A place of a line, and its column, a multiple of eight.
@@ -85,11 +85,7 @@ pub(crate) fn cells_to<T: Text>(text: &T, start: usize, stop: TabStop, p: usize)
     ensures value { result ≡ length (cells (slice_range (T.text text.now) start p)) }
     ensures few { result ≤ 12 * p }
 {
-    let mut at = stop.column;
-    for i in stop.place..p {
-        at += width(at, text.at(i));
-    }
-    at
+    column_from(text, stop.place, stop.column, p)
 }
 
 /// The first tab stop from a place on, before another one; where there is none, the one that is known.
