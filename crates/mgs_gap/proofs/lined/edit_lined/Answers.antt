@@ -14,7 +14,18 @@ returns-clause-feeds c =
 pub returns-clause-room : goal.returns-clause-room
 returns-clause-room c = λ _.
     let cut = c.cut_at.new.self in let deleted = c.delete_after.new.self in let put = feeds_from c.args.a c.args.put.now in
-    omega (arith, c.in_ok-make_room.ensures.room_before, c.count.ensures, c.cut_at.ensures.number, c.cut_at.ensures.capacity,
-        ap length c.delete_after.ensures.before, c.delete_after.ensures.fewer, c.delete_after.ensures.capacity,
-        ap length c.insert_before.ensures.before, length-append deleted.before.items put, length-feeds_from c.args.a c.args.put.now,
-        ap length c.insert_before.ensures.after, c.insert_before.ensures.capacity)
+    omega (
+      arith,
+      c.in_ok-make_room.ensures.room_before,
+      c.count.ensures,
+      c.cut_at.ensures.number,
+      c.cut_at.ensures.capacity,
+      ap length c.delete_after.ensures.before,
+      c.delete_after.ensures.fewer,
+      c.delete_after.ensures.capacity,
+      ap length c.insert_before.ensures.before,
+      length-append deleted.before.items put,
+      length-feeds_from c.args.a c.args.put.now,
+      ap length c.insert_before.ensures.after,
+      c.insert_before.ensures.capacity,
+    )
