@@ -1,5 +1,5 @@
 -- Borders of a pattern: which places may be passed over when a character differs.
-use Rattle.std.proofs.Common.{◌≡◌, ◌≢◌, ℕ, suc, zero, true, false, ◌+◌, ◌-◌, ◌<◌, ◌≤◌, min, eqb, leb, ◌⊎◌, inl, inr, List, [], ◌∷◌, ◌++◌, length, drop, get_or, sym, ap, ◌∙◌, arith, length-drop, length-append}
+use Rattle.std.proofs.Common.{◌≡◌, ◌≢◌, ℕ, suc, zero, true, false, ◌+◌, ◌-◌, ◌<◌, ◌≤◌, min, eqb, leb, ◌⊎◌, inl, inr, List, [], ◌∷◌, ◌++◌, length, drop, get_or, refl, sym, ap, ◌∙◌, arith, length-drop, length-append}
 use Rattle.std.proofs.lemmas.Bool.Decides.{eqb_tells, leb_tells, nat_tests}
 use Rattle.std.proofs.lemmas.Bool.{true≢false, false_from_ne_true}
 use Rattle.std.proofs.lemmas.Grind.{get_or_default_zero}
@@ -9,7 +9,7 @@ use Rattle.std.proofs.Math.Seq.{get_or-append_seam}
 use Rattle.std.specs.Char.{to_ascii_lowercase, to_ascii_uppercase}
 use Rattle.mgs_model.specs.Searching.{begins, matches_at, first_match, last_match_before}
 use Rattle.mgs_search.proofs.Matching.{first_next, before, begins_cons, begins_not}
-use Rattle.mgs_search.specs.Borders.{char_at, lower_at, Agrees, IsRead, IsBorders, IsFirst, IsStep, IsHead, IsTail}
+use Rattle.mgs_search.specs.Borders.{char_at, lower_at, Agrees, IsRead, IsBorders, IsFirst, IsOther, IsReadOn, IsReadBack, IsStep, IsHead, IsTail}
 use Rattle.mgs_search.specs.declared.heads.First.{First}
 
 -- ONE CHARACTER
@@ -87,10 +87,51 @@ other_there ps text i k x c inside is here other = λ same. other (is ∙ get_or
 other_case : (f c : ℕ) → c ≢ f → c ≢ to_ascii_uppercase f → f ≢ to_ascii_lowercase c
 other_case f c small large = λ same. grind (arith, nat_tests)
 
-pub none_there : (ps : List ℕ) (first : First) (q c : ℕ) → IsFirst ps first → q ≡ 0 → 0 < length ps → c ≢ first.small → c ≢ first.large → IsStep ps q (to_ascii_lowercase c) 0
-none_there ps first q c is none some small large = λ text a i read here.
-    near_none ps text a i q none some (near_read ps text a i q read)
-    (λ same. other_case (char_at ps 0) c (λ e. small (e ∙ sym is.small)) (λ e. large (e ∙ sym is.large)) (ap (char_at ps) (sym none) ∙ same ∙ here))
+other_there_too : (ps : List ℕ) (first : First) (c : ℕ) → IsFirst ps first → IsOther first c → char_at ps 0 ≢ to_ascii_lowercase c
+other_there_too ps first c is other = other_case (char_at ps 0) c (λ e. other.0 (e ∙ sym is.small)) (λ e. other.1 (e ∙ sym is.large))
+
+-- so many characters came, none of which is the head's first one
+skipped : (ps : List ℕ) (text : ℕ → ℕ) (a i n : ℕ) → 0 < length ps → ((t : ℕ) → t < n → char_at ps 0 ≢ text (i + t)) → IsRead ps text a i 0 → IsRead ps text a (i + n) 0
+skipped ps text a i zero some none read = let same : i ≡ i + 0 = omega arith in subst (λ k. IsRead ps text a k 0) same read
+skipped ps text a i (suc n) some none read =
+    let before : IsRead ps text a (i + n) 0 = skipped ps text a i n some (λ t below. none t (omega arith)) read in
+    let same : i + n + 1 ≡ i + suc n = omega arith in
+    subst (λ k. IsRead ps text a k 0) same (near_none ps text a (i + n) 0 refl some (near_read ps text a (i + n) 0 before) (none n (omega arith)))
+
+-- one more such character
+pub others_more : (first : First) (xs : List ℕ) (i c : ℕ) → i < length xs → c ≡ get_or xs i c → IsOther first c → ((t : ℕ) → t < i → IsOther first (get_or xs t 0)) → (t : ℕ) → t < i + 1 → IsOther first (get_or xs t 0)
+others_more first xs i c within is here before t below = by (eqb_tells t i)
+  where
+    by : ((eqb t i ≡ true) × (t ≡ i)) ⊎ ((eqb t i ≡ false) × (t ≢ i)) → IsOther first (get_or xs t 0)
+    by (inl (_, same)) = subst (IsOther first) (is ∙ get_or_default_zero xs i c within ∙ ap (λ k. get_or xs k 0) (sym same)) here
+    by (inr (_, other)) = before t (omega arith)
+
+pub others_back : (first : First) (xs : List ℕ) (end i c : ℕ) → c ≡ get_or xs (end - 1 - i) 0 → IsOther first c → ((t : ℕ) → t < i → IsOther first (get_or xs (end - 1 - t) 0)) → (t : ℕ) → t < i + 1 → IsOther first (get_or xs (end - 1 - t) 0)
+others_back first xs end i c is here before t below = by (eqb_tells t i)
+  where
+    by : ((eqb t i ≡ true) × (t ≡ i)) ⊎ ((eqb t i ≡ false) × (t ≢ i)) → IsOther first (get_or xs (end - 1 - t) 0)
+    by (inl (_, same)) = subst (IsOther first) (is ∙ ap (λ k. get_or xs (end - 1 - k) 0) (sym same)) here
+    by (inr (_, other)) = before t (omega arith)
+
+pub read_on : (ps piece : List ℕ) (first : First) (i n k : ℕ) → IsFirst ps first → 0 < length ps → k ≡ 0 → i + n ≤ length piece → ((t : ℕ) → t < n → IsOther first (get_or (drop i piece) t 0)) → IsReadOn ps piece i (i + n) k
+read_on ps piece first i n k is some none within others = λ text a j read all.
+    let same : j + i + n ≡ j + (i + n) = omega arith in
+    subst (λ q. IsRead ps text a (j + (i + n)) q) (sym none)
+    (subst (λ m. IsRead ps text a m 0) same
+    (skipped ps text a (j + i) n some
+    (λ t below e.
+    (let place : j + i + t ≡ j + (i + t) = omega arith in
+    other_there_too ps first (get_or piece (i + t) 0) is (subst (IsOther first) (get_or-drop i piece t 0) (others t below)) (e ∙ ap text place ∙ all (i + t) (omega (arith, within, below)))))
+    (subst (λ q. IsRead ps text a (j + i) q) none read)))
+
+pub read_on_back : (ps xs : List ℕ) (first : First) (top i n k : ℕ) → IsFirst ps first → 0 < length ps → k ≡ 0 → ((t : ℕ) → t < n → IsOther first (get_or xs (top - i - 1 - t) 0)) → IsReadBack ps xs top i k → IsReadBack ps xs top (i + n) k
+read_on_back ps xs first top i n k is some none others read =
+    subst (λ q. IsReadBack ps xs top (i + n) q) (sym none)
+    (skipped ps (λ t. lower_at xs (top - 1 - t)) 0 i n some
+    (λ t below e.
+    (let place : top - 1 - (i + t) ≡ top - i - 1 - t = omega arith in
+    other_there_too ps first (get_or xs (top - i - 1 - t) 0) is (others t below) (e ∙ ap (lower_at xs) place)))
+    (subst (λ q. IsReadBack ps xs top i q) none read))
 
 -- the borders of one more number of characters
 pub borders_pushed : (ps bs : List ℕ) (n kept : ℕ) → length bs ≡ n → IsBorders ps bs → IsRead ps (char_at ps) 1 n kept → IsBorders ps (bs ++ kept ∷ [])

@@ -3,12 +3,15 @@
 --   char_at, lower_at   a character, and in its small case
 --   IsHead, IsTail      a pattern's first characters in small case; its last ones, read back
 --   IsFirst             the two cases of a head's first character
+--   IsOther             neither of the two
 --   Agrees              a head stands at a place, as far as is read
 --   IsRead              the last characters that were read are the first of the head, and it stands at no place before
 --   IsBorders           how many characters are left where the next one differs
 --   IsStep              one character is read
 --   IsWalk              some characters are read
-use Rattle.std.specs.Prelude.{◌≡◌, ℕ, ◌+◌, ◌-◌, ◌<◌, ◌≤◌, List, length, get_or}
+--   IsReadOn            some are passed
+--   IsReadBack          a text is read back from a position
+use Rattle.std.specs.Prelude.{◌≡◌, ◌≢◌, ℕ, ◌+◌, ◌-◌, ◌<◌, ◌≤◌, List, length, get_or}
 use Rattle.std.specs.Char.{to_ascii_lowercase, to_ascii_uppercase}
 use Rattle.mgs_search.specs.declared.heads.First.{First}
 
@@ -29,6 +32,9 @@ pub record IsTail (pattern tail : List ℕ) : Type 0 where
 pub record IsFirst (head : List ℕ) (first : First) : Type 0 where
   pub small : first.small ≡ char_at head 0
   pub large : first.large ≡ to_ascii_uppercase (char_at head 0)
+
+abbrev pub IsOther : First → ℕ → Type 0
+IsOther first c = (c ≢ first.small) × (c ≢ first.large)
 
 -- of the characters before the i-th
 abbrev pub Agrees : List ℕ → (ℕ → ℕ) → ℕ → ℕ → Type 0
@@ -52,3 +58,11 @@ IsStep head q c k = (text : ℕ → ℕ) (a i : ℕ) → IsRead head text a i q 
 -- then n characters of a piece came, in whatever case
 abbrev pub IsWalk : List ℕ → ℕ → List ℕ → ℕ → ℕ → Type 0
 IsWalk head q piece n k = (text : ℕ → ℕ) (a i : ℕ) → IsRead head text a i q → ((t : ℕ) → t < length piece → text (i + t) ≡ lower_at piece t) → IsRead head text a (i + n) k
+
+-- the characters of a piece from the i-th up to the n-th came, and change nothing
+abbrev pub IsReadOn : List ℕ → List ℕ → ℕ → ℕ → ℕ → Type 0
+IsReadOn head piece i n k = (text : ℕ → ℕ) (a j : ℕ) → IsRead head text a (j + i) k → ((t : ℕ) → t < length piece → text (j + t) ≡ lower_at piece t) → IsRead head text a (j + n) k
+
+-- i characters before `top` were read back
+abbrev pub IsReadBack : List ℕ → List ℕ → ℕ → ℕ → ℕ → Type 0
+IsReadBack tail xs top i k = IsRead tail (λ t. lower_at xs (top - 1 - t)) 0 i k

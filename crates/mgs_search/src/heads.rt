@@ -1,8 +1,7 @@
 // Reading a text once for a pattern: no character of it is looked at again.
-ghost use Rattle.std.specs.Prelude.{◌≡◌, ℕ, ◌+◌, ◌-◌, ◌<◌, ◌≤◌, List, min, length};
+ghost use Rattle.std.specs.Prelude.{◌≡◌, ℕ, ◌+◌, ◌-◌, ◌<◌, ◌≤◌, List, min, length, get_or, true};
 ghost use Rattle.mgs_model.specs.Searching.{first_match, last_match_before};
-ghost use Rattle.std.specs.Char.{to_ascii_lowercase};
-ghost use Rattle.mgs_search.specs.Borders.{IsBorders, IsFirst, IsHead, IsStep, IsTail, IsWalk};
+ghost use Rattle.mgs_search.specs.Borders.{IsBorders, IsFirst, IsHead, IsOther, IsReadBack, IsReadOn, IsStep, IsTail, IsWalk};
 
 use arrayvec::ArrayVec;
 use mgs_text::Text;
@@ -69,20 +68,38 @@ fn first_of(head: &[char]) -> First
     }
 }
 
-// As `step`, for a character in whatever case. Where none of the head stands, mostly, two comparisons tell that none of it
-// does behind the character, and cost less than to fold it.
-fn step_folded(head: &[char], borders: &[usize], first: First, q: usize, c: char) -> usize
-    requires borders { IsBorders head.now borders.now }
-    requires head { length borders.now ≤ length head.now }
-    requires first { IsFirst head.now first }
-    requires within { q < length borders.now }
-    ensures value { IsStep head.now q (to_ascii_lowercase c) result }
-    ensures within { result ≤ q + 1 }
+fn is_other(c: char, first: First) -> bool
+    ensures { result ≡ true → IsOther first c }
 {
-    if q == 0 && c != first.small && c != first.large {
-        return 0;
+    c != first.small && c != first.large
+}
+
+// How many characters stand before the first one that is a head's first character, in whatever case. Two comparisons with
+// it cost less than to fold each.
+fn passed(piece: &[char], first: First) -> usize
+    ensures none { (t : ℕ) → t < result → IsOther first (get_or piece.now t 0) }
+    ensures within { result ≤ length piece.now }
+{
+    for i in 0..piece.len() {
+        if !is_other(piece[i], first) {
+            return i;
+        }
     }
-    step(head, borders, q, c.to_ascii_lowercase())
+    piece.len()
+}
+
+// The same, back from a position of a text.
+fn passed_back<T: Text>(text: &T, end: usize, first: First) -> usize
+    requires { end ≤ length (T.text text.now) }
+    ensures none { (t : ℕ) → t < result → IsOther first (get_or (T.text text.now) (end - 1 - t) 0) }
+    ensures within { result ≤ end }
+{
+    for i in 0..end {
+        if !is_other(text.at(end - 1 - i), first) {
+            return i;
+        }
+    }
+    end
 }
 
 /// The borders of a head.
@@ -109,6 +126,20 @@ struct Walked {
     stands: usize,
 }
 
+// Where a piece is read on from its i-th character: where none of a head stands, at the next one that it may begin with.
+fn next_read(piece: &[char], head: &[char], i: usize, stands: usize) -> usize
+    requires some { 0 < length head.now }
+    requires within { i ≤ length piece.now }
+    ensures order { i ≤ result }
+    ensures within { result ≤ length piece.now }
+    ensures read { IsReadOn head.now piece.now i result stands }
+{
+    if stands > 0 {
+        return i;
+    }
+    i + passed(&piece[i..], first_of(head))
+}
+
 // Reads a piece until the head stands, or to its end.
 fn walk(piece: &[char], head: &[char], borders: &[usize], q: usize) -> Walked
     requires borders { IsBorders head.now borders.now }
@@ -119,21 +150,20 @@ fn walk(piece: &[char], head: &[char], borders: &[usize], q: usize) -> Walked
     ensures stands { result.stands ≤ length borders.now }
     ensures end { result.stands < length borders.now → result.read ≡ length piece.now }
 {
-    let first = first_of(head);
     let mut stands = q;
-    for i in 0..piece.len() {
-        stands = step_folded(head, borders, first, stands, piece[i]);
+    let mut i = 0;
+    while i < piece.len() {
+        let next = next_read(piece, head, i, stands);
+        if next == piece.len() {
+            return Walked { read: next, stands };
+        }
+        stands = step(head, borders, stands, piece[next].to_ascii_lowercase());
+        i = next + 1;
         if stands == borders.len() {
-            return Walked {
-                read: i + 1,
-                stands,
-            };
+            return Walked { read: i, stands };
         }
     }
-    Walked {
-        read: piece.len(),
-        stands,
-    }
+    Walked { read: i, stands }
 }
 
 /// The first place from `from` on where a head stands, or the end. No pattern that begins so stands at a place before.
@@ -160,6 +190,21 @@ pub(crate) fn next_headed<T: Text>(text: &T, from: usize, head: &[char], borders
     text.len()
 }
 
+// Where the characters before `top` are read on, of which i were read back.
+fn next_read_back<T: Text>(text: &T, tail: &[char], top: usize, i: usize, stands: usize) -> usize
+    requires some { 0 < length tail.now }
+    requires top { top ≤ length (T.text text.now) }
+    requires within { i ≤ top }
+    ensures order { i ≤ result }
+    ensures within { result ≤ top }
+    ensures read { IsReadBack tail.now (T.text text.now) top i stands → IsReadBack tail.now (T.text text.now) top result stands }
+{
+    if stands > 0 {
+        return i;
+    }
+    i + passed_back(text, top - i, first_of(tail))
+}
+
 /// The place behind the last one before `end` where a pattern may stand, since its tail does, or 0. The pattern stands at no
 /// place between.
 pub(crate) fn last_tailed<T: Text>(
@@ -181,12 +226,22 @@ pub(crate) fn last_tailed<T: Text>(
         return 0;
     }
     let top = text.len().min(end - 1 + pattern.len());
-    let first = first_of(tail);
     let mut stands = 0;
-    for i in 0..top {
-        stands = step_folded(tail, borders, first, stands, text.at(top - 1 - i));
+    let mut i = 0;
+    while i < top {
+        let next = next_read_back(text, tail, top, i, stands);
+        if next == top {
+            return 0;
+        }
+        stands = step(
+            tail,
+            borders,
+            stands,
+            text.at(top - 1 - next).to_ascii_lowercase(),
+        );
+        i = next + 1;
         if stands == borders.len() {
-            let behind = top - (i + 1 - stands);
+            let behind = top - (i - stands);
             return end.min((behind + 1).saturating_sub(pattern.len()));
         }
     }
