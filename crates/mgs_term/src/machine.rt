@@ -16,9 +16,11 @@ use crate::place::{Next, Place, next_of};
 use mgs_model::{RIGHT_HALF, Short, own_columns};
 use std::alloc::Global;
 use std::marker::Model;
+use thiserror::Error;
 
 /// A byte that no accepted sequence has where it came. The terminal takes no byte any more.
-#[derive(Clone, Copy, Debug, PartialEq, Eq)]
+#[derive(Clone, Copy, Debug, PartialEq, Eq, Error)]
+#[error("a byte that no accepted sequence has there")]
 pub struct OutOfProfile;
 
 /// A terminal, with the place in a sequence at which it is.
