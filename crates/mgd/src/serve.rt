@@ -17,12 +17,12 @@ use std::time::Clock;
 // Serves without end. It returns where the system does not tell who is ready.
 fn serve<R: Clock + Print + Eprint + Wait, S: Store + Drop>(
     rt: &R,
-    mut server: Server<S>,
+    mut server: Server<S, &R>,
 ) -> ExitCode {
     let port = server.port();
     let _ = println!(rt; "listening 127.0.0.1:{port}");
     for _ in rt.forever() {
-        if let Err(fault) = server.turn(rt) {
+        if let Err(fault) = server.turn() {
             tell(rt, fault);
             return ExitCode::from(NO_SOCKETS);
         }
@@ -49,7 +49,7 @@ pub fn run_serve<
         );
         return ExitCode::from(FAILED);
     };
-    match Server::listen(rt, rt.alloc(), port, config, store) {
+    match Server::listen(rt, port, config, store, rt) {
         Ok(server) => serve(rt, server),
         Err(fault) => {
             tell(rt, fault);

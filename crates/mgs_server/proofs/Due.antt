@@ -1,15 +1,14 @@
 -- What is written where it is due.
-use Rattle.std.proofs.Common.{◌≡◌, ℕ, zero, suc, ◌+◌, ◌-◌, ◌<◌, ◌≤◌, Bool, true, false, List, [], ◌∷◌, map, length, Option, Some, None, Result, refl, sym, ap, subst, ◌∙◌, inl, inr, arith}
-use Rattle.std.specs.Prelude.{option_map, slice_index_or}
+use Rattle.std.proofs.Common.{◌≡◌, ℕ, zero, suc, ◌+◌, ◌<◌, ◌≤◌, Bool, true, false, List, [], ◌∷◌, map, length, Option, Some, None, Result, refl, sym, ap, subst, ◌∙◌, inl, inr, arith}
+use Rattle.std.specs.Prelude.{option_map}
 use Rattle.std.specs.declared.io.Error.{Error}
 use Rattle.std.proofs.lemmas.Bool.{cases_lt}
 use Rattle.mio.specs.declared.event.event.Event.{Event}
-use Rattle.slab.specs.Slab.{Slab, get}
+use Rattle.slab.specs.Slab.{Slab}
 use Rattle.mgs_wire.specs.Calls.{Call, PassesNone, PassesNoEnd}
 use Rattle.mgs_wire.specs.Connections.{Connection, is_over}
 use Rattle.mgs_server.specs.declared.peer.Peer.{Peer}
-use Rattle.mgs_server.specs.Peers.{ServerState, server_state, peers_of, under, FindsKey, IsChanged, WritesConn, WritesOpen, WritesSlot, WritesAt, WritesDue, WritesNext, Closes, HandlesAll, is_conn_of, keys_in}
-use Rattle.mgs_server.proofs.Moving.{under_slots}
+use Rattle.mgs_server.specs.Peers.{ServerState, server_state, peers_of, under, FindsKey, IsChanged, WritesConn, WritesOpen, WritesSlot, WritesAt, AreWritten, Due, Closes, HandlesAll, is_conn_of, keys_in}
 
 -- no key past the last has a connection
 past_last : {S : Type 0} (slots : List (Option (Peer S))) (k : ℕ) → length slots ≤ k → under (map (option_map (λ p. p.conn)) slots) k ≡ None
@@ -56,16 +55,13 @@ module _ {E S : Type 0} (does : E → Call → E → Type 0) (live : ℕ → E �
   closed_at (Some conn) key over old mid now w c = (w.0, mid.peers, w.1, w.2, subst (λ b. Closes does live pending answers b key mid.peers now) (sym w.3) c)
 
   -- one more is written
-  pub due_next : (is_ended : ℕ → E → Bool) (n m id next key : ℕ) (old mid new : ServerState E) → n ≡ suc m → PassesNone pending id (Some next) old.served → PassesNoEnd is_ended id (Some next) old.served → id < next → FindsKey old.peers next key → WritesAt does live pending answers key old mid → WritesDue does live pending answers is_ended m next mid new
-      → WritesDue does live pending answers is_ended n id old new
-  due_next is_ended n m id next key old mid new e p q l f w d = subst (λ k. WritesDue does live pending answers is_ended k id old new) (sym e) (Some next, p, q, (l, key, f, mid, w, d))
+  pub due_next : (is_ended : ℕ → E → Bool) (id next key : ℕ) (old mid new : ServerState E) (ds : List Due) → PassesNone pending id (Some next) old.served → PassesNoEnd is_ended id (Some next) old.served → id < next → FindsKey old.peers next key → WritesAt does live pending answers key old mid
+      → AreWritten does live pending answers is_ended next ds mid new → AreWritten does live pending answers is_ended id (record { id = next; key = key } ∷ ds) old new
+  due_next is_ended id next key old mid new ds p q l f w d = (l, p, q, f, mid, w, d)
 
   -- none is left
-  pub due_none : (is_ended : ℕ → E → Bool) (n m id : ℕ) (s : ServerState E) → n ≡ suc m → PassesNone pending id None s.served → PassesNoEnd is_ended id None s.served → WritesDue does live pending answers is_ended n id s s
-  due_none is_ended n m id s e p q = subst (λ k. WritesDue does live pending answers is_ended k id s s) (sym e) (None, p, q, refl)
-
-  pub due_all : (is_ended : ℕ → E → Bool) (n id : ℕ) (s : ServerState E) → n ≡ 0 → WritesDue does live pending answers is_ended n id s s
-  due_all is_ended n id s e = subst (λ k. WritesDue does live pending answers is_ended k id s s) (sym e) refl
+  pub due_none : (is_ended : ℕ → E → Bool) (id : ℕ) (s : ServerState E) → PassesNone pending id None s.served → PassesNoEnd is_ended id None s.served → AreWritten does live pending answers is_ended id [] s s
+  due_none is_ended id s p q = (p, q, refl)
 
 -- nothing more was reported
 pub none_handled : {E S : Type 0} (does : E → Call → E → Type 0) (live : ℕ → E → Bool) (pending : ℕ → E → List ℕ) (answers : S → List ℕ → Result ℕ Error → S → Type 0) (is_ended : ℕ → E → Bool) (tickets : List (List ℕ × List ℕ)) (events : List Event) (s : ServerState E) → length events ≡ 0 → HandlesAll does live pending answers is_ended tickets (keys_in events) s s

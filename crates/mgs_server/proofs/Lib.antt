@@ -1,5 +1,7 @@
 mod Calling
 mod Due
+mod Logins
 mod First
 mod Moving
+mod Reading
 mod Turning

@@ -1,6 +1,7 @@
 -- What the calls of a turn do to the world.
-use Rattle.std.proofs.Common.{◌≡◌, ℕ, ◌<◌, List, [], ◌∷◌, ◌++◌, drop, length, map, Some, None, Result, Ok, Err, refl, sym, ap, subst, ◌∙◌, arith}
+use Rattle.std.proofs.Common.{◌≡◌, ℕ, ◌<◌, List, [], ◌∷◌, ◌++◌, drop, length, map, Option, Some, None, Result, Ok, Err, refl, sym, ap, subst, ◌∙◌, arith}
 use Rattle.std.specs.Prelude.{slice_get}
+use Rattle.std.specs.declared.io.Error.{Error}
 use Rattle.slab.specs.Slab.{Slab}
 use Rattle.mgs_model.specs.Events.{Event, Saved, run, run_saves}
 use Rattle.mgs_model.specs.Events as model
@@ -10,17 +11,18 @@ use Rattle.mgs_laws.proofs.Saves.{saves_behind}
 use Rattle.mgs_store.specs.Stores.{StoreTold, told_more}
 use Rattle.mgs_store.proofs.Told.{told_none, told_twice}
 use Rattle.mgs_wire.specs.Calls.{Call, Open, Byte, Close, Took}
+use Rattle.mgs_wire.specs.Connections.{Connection}
 use Rattle.mgs_engine.specs.declared.ending.Cause.TheVariants.{Slow}
 use Rattle.mgs_engine.specs.Does.{Does}
 use Rattle.mgs_engine.specs.Driven.{HasEvents}
 use Rattle.mgs_engine.specs.Handled.{Handles}
-use Rattle.mgs_engine.specs.Serving.{Serving, pending_of}
+use Rattle.mgs_engine.specs.Serving.{Serving, is_to_tell, pending_of}
 use Rattle.mgs_engine.specs.Slow.{slow_ids}
 use Rattle.mgs_engine.proofs.RunLemmas.{run-append, saves_first, store_left}
 use Rattle.mgs_server.specs.declared.peer.Peer.{Peer}
 use Rattle.mgs_server.specs.Calls.{AreMade, Calls}
 use Rattle.mgs_server.specs.Listening.{Listening}
-use Rattle.mgs_server.specs.Peers.{Moved, server_state, server_with, slots_of, under}
+use Rattle.mgs_server.specs.Peers.{ClosesLogins, Moved, ServesReady, peers_of, server_state, server_with, slots_of, under}
 use Rattle.mgs_server.specs.Turns.{Ran, Turns, answer_of, asked_by, live_in}
 use Rattle.mgs_server.proofs.Moving.{moved_calls, moved_then}
 
@@ -100,37 +102,52 @@ ran old new (c ∷ cs) h =
     }
 
 -- what the sockets did, and then each that ended was told
-pub turned : (old new : Listening) (served : Serving) → Moved Does live_in pending_of old.tickets (server_state old.serving (under old.peers)) (server_state served (under new.peers)) → new.serving ≡ record served { ended = [] } → new.tickets ≡ old.tickets → new.port ≡ old.port → Turns old new
-turned old new served moved told tickets port =
-    let c : Calls Does old.serving served = moved_calls Does live_in pending_of old.tickets (server_state old.serving (under old.peers)) (server_state served (under new.peers)) moved in
-    let r : Ran old.serving c.calls served served = ran old.serving served c.calls c.made in
-    record {
-      served = served;
-      moved = moved;
-      told = told;
-      calls = c.calls;
-      made = c.made;
-      ran = record {
-        events = r.events;
-        each = r.each;
-        world = ap (λ (s : Serving). s.world) told ∙ r.world;
-        saves = ap (λ (s : Serving). s.store.accepted) told ∙ r.saves;
-      };
-      tickets = tickets;
-      port = port;
-    }
+module _ {X : Type 0} (answers : X → List ℕ → Result ℕ Error → X → Type 0) where
+  turned : (old new : Listening) (served : Serving) (peers : ℕ → Option Connection)
+      → ServesReady Does live_in pending_of answers is_to_tell old.tickets new.reported (server_state old.serving (under old.peers)) (server_state served peers) → ClosesLogins peers (under new.peers)
+      → Moved Does live_in pending_of old.tickets (server_state old.serving (under old.peers)) (server_state served (under new.peers)) → new.serving ≡ record served { ended = [] } → new.tickets ≡ old.tickets → new.port ≡ old.port → Turns answers old new
+  turned old new served peers ready closes moved told tickets port =
+      let c : Calls Does old.serving served = moved_calls Does live_in pending_of old.tickets (server_state old.serving (under old.peers)) (server_state served (under new.peers)) moved in
+      let r : Ran old.serving c.calls served served = ran old.serving served c.calls c.made in
+      record {
+        served = served;
+        peers = peers;
+        ready = ready;
+        closes = closes;
+        moved = moved;
+        told = told;
+        calls = c.calls;
+        made = c.made;
+        ran = record {
+          events = r.events;
+          each = r.each;
+          world = ap (λ (s : Serving). s.world) told ∙ r.world;
+          saves = ap (λ (s : Serving). s.store.accepted) told ∙ r.saves;
+        };
+        tickets = tickets;
+        port = port;
+      }
 
--- the same of a slab of connections, and of the view of a server: those that are ready were served, and those that came too late closed
-pub turned_in : {S : Type 0} (serving between served told : Serving) (peers before mid now : Slab (Peer S)) (tickets : List (List ℕ × List ℕ)) (port : ℕ) (old : Listening) → before ≡ peers
-    → Moved Does live_in pending_of tickets (server_with serving before) (server_with between mid) → Moved Does live_in pending_of tickets (server_with between mid) (server_with served now)
-    → told ≡ record served { ended = [] } → record { serving = serving; peers = slots_of peers; tickets = tickets; port = port } ≡ old → Turns old (record { serving = told; peers = slots_of now; tickets = tickets; port = port })
-turned_in {S} serving between served told peers before mid now tickets port old waited ready late heard seen =
-    let first : Listening = record { serving = serving; peers = slots_of peers; tickets = tickets; port = port } in
-    let last : Listening = record { serving = told; peers = slots_of now; tickets = tickets; port = port } in
-    let moved : Moved Does live_in pending_of tickets (server_with serving before) (server_with served now) =
-    moved_then Does live_in pending_of tickets (server_with serving before) (server_with between mid) (server_with served now) ready late in
-    subst (λ (l : Listening). Turns l last) seen
-    (turned first last served (subst (λ (slab : Slab (Peer S)). Moved Does live_in pending_of tickets (server_with serving slab) (server_with served now)) waited moved) heard refl refl)
+  -- the same of a slab of connections, and of the view of a server: those that are ready were served, and those that came too late closed
+  pub turned_in : {S : Type 0} (serving between served told : Serving) (peers before mid now : Slab (Peer S)) (first reported last : List ℕ) (tickets : List (List ℕ × List ℕ)) (port : ℕ) (old : Listening) → before ≡ peers
+      → ServesReady Does live_in pending_of answers is_to_tell tickets reported (server_with serving before) (server_with between mid) → last ≡ reported
+      → Moved Does live_in pending_of tickets (server_with serving before) (server_with between mid) → Moved Does live_in pending_of tickets (server_with between mid) (server_with served now)
+      → served ≡ between → ClosesLogins (peers_of mid) (peers_of now)
+      → told ≡ record served { ended = [] } → record { serving = serving; peers = slots_of peers; tickets = tickets; port = port; reported = first } ≡ old
+      → Turns answers old (record { serving = told; peers = slots_of now; tickets = tickets; port = port; reported = last })
+  turned_in {S} serving between served told peers before mid now first reported last tickets port old waited ready kept moved late same closes heard seen =
+      let start : Listening = record { serving = serving; peers = slots_of peers; tickets = tickets; port = port; reported = first } in
+      let end : Listening = record { serving = told; peers = slots_of now; tickets = tickets; port = port; reported = last } in
+      let all : Moved Does live_in pending_of tickets (server_with serving before) (server_with served now) =
+      moved_then Does live_in pending_of tickets (server_with serving before) (server_with between mid) (server_with served now) moved late in
+      let served_so : ServesReady Does live_in pending_of answers is_to_tell tickets reported (server_with serving before) (server_with served mid) =
+      subst (λ (s : Serving). ServesReady Does live_in pending_of answers is_to_tell tickets reported (server_with serving before) (server_with s mid)) (sym same) ready in
+      let reported_so : ServesReady Does live_in pending_of answers is_to_tell tickets last (server_with serving before) (server_with served mid) =
+      subst (λ (keys : List ℕ). ServesReady Does live_in pending_of answers is_to_tell tickets keys (server_with serving before) (server_with served mid)) (sym kept) served_so in
+      subst (λ (l : Listening). Turns answers l end) seen
+      (turned start end served (peers_of mid)
+      (subst (λ (slab : Slab (Peer S)). ServesReady Does live_in pending_of answers is_to_tell tickets last (server_with serving slab) (server_with served mid)) waited reported_so) closes
+      (subst (λ (slab : Slab (Peer S)). Moved Does live_in pending_of tickets (server_with serving slab) (server_with served now)) waited all) heard refl refl)
 
 -- TELLING: there is one less to be told, until none is left
 

@@ -8,12 +8,13 @@ use Rattle.mgs_world.specs.Worlds.{buffers_of}
 use Rattle.mgs_wire.specs.Connections.{Connection}
 use Rattle.mgs_engine.specs.Serving.{Serving}
 
--- what is served, the connections under their keys, the tickets of the users, and the port
+-- what is served, the connections under their keys, the tickets of the users, the port, and the keys that the last wait reported, in order
 pub record Listening : Type 0 where
   pub serving : Serving
   pub peers : List (Option Connection)
   pub tickets : List (List ℕ × List ℕ)
   pub port : ℕ
+  pub reported : List ℕ
 
 -- a directory and buffers, before any session
 abbrev pub first_world : Directory → List MarkedBuffer → World

@@ -1,5 +1,5 @@
 -- CONNECTIONS UNDER THEIR KEYS, beside the server that they ask, and what is done to them.
-use Rattle.std.specs.Prelude.{◌≡◌, ◌≢◌, ℕ, zero, suc, ◌<◌, Bool, true, false, List, [], ◌∷◌, Option, Some, None, option_map, map, slice_index_or, nat_eq, Result}
+use Rattle.std.specs.Prelude.{◌≡◌, ◌≢◌, ℕ, ◌<◌, Bool, true, false, MatchBool, List, [], ◌∷◌, Option, Some, None, is_some, option_map, map, slice_index_or, nat_eq, Result}
 use Rattle.std.specs.declared.io.Error.{Error}
 use Rattle.slab.specs.Slab.{Slab}
 use Rattle.mgs_wire.specs.declared.pump.PumpedIn.{PumpedIn}
@@ -10,7 +10,6 @@ use Rattle.mgs_wire.specs.Connections.{Connection, Logging_in, Serving, Refused,
 use Rattle.mgs_wire.specs.Pumps.{PumpsIn, PumpsOut, PutsOut, Finishes}
 use Rattle.mio.specs.declared.event.event.Event.{Event}
 use Rattle.mio.specs.Event.{event_token}
-use Rattle.mgs_model.specs.declared.limits.TheConstants.{SESSION_LIMIT}
 use Rattle.mgs_server.specs.declared.peer.Peer.{Peer}
 
 -- what is served, and the connection under each key, where there is one
@@ -150,6 +149,11 @@ is_conn_of id (Some conn) = is_session id (session_of conn)
 abbrev pub FindsKey : (ℕ → Option Connection) → ℕ → ℕ → Type 0
 FindsKey peers id key = (k : ℕ) → is_conn_of id (peers k) ≡ true → is_conn_of id (peers key) ≡ true
 
+-- a session that is written, and the key of its connection
+pub record Due : Type 0 where
+  pub id : ℕ
+  pub key : ℕ
+
 module _ {E S : Type 0} (does : E → Call → E → Type 0) (live : ℕ → E → Bool) (pending : ℕ → E → List ℕ) (answers : S → List ℕ → Result ℕ Error → S → Type 0) where
   -- what waits for a connection is written, as far as its stream takes it; where its session is not open nothing waits
   pub record WritesConn (conn : Connection) (old : E) (next : Connection) (new : E) : Type 0 where
@@ -180,30 +184,74 @@ module _ {E S : Type 0} (does : E → Call → E → Type 0) (live : ℕ → E �
   abbrev pub WritesAt : ℕ → ServerState E → ServerState E → Type 0
   WritesAt key old new = WritesSlot (old.peers key) key old new
 
-  -- a session's, where there is one, and then the rest
-  abbrev pub WritesNext : (ℕ → ServerState E → Type 0) → ℕ → Option ℕ → ServerState E → ServerState E → Type 0
-  WritesNext rest id None old new = new ≡ old
-  WritesNext rest id (Some next) old new = (id < next) × (key : ℕ) × FindsKey old.peers next key × (mid : ServerState E) × WritesAt key old mid × rest next mid
+  -- each session's in turn, above one, for which bytes wait, or which ended: at the end there is no more
+  abbrev pub AreWritten : (ℕ → E → Bool) → ℕ → List Due → ServerState E → ServerState E → Type 0
+  AreWritten is_ended id [] old new = PassesNone pending id None old.served × PassesNoEnd is_ended id None old.served × (new ≡ old)
+  AreWritten is_ended id (d ∷ ds) old new =
+      (id < d.id) × PassesNone pending id (Some d.id) old.served × PassesNoEnd is_ended id (Some d.id) old.served × FindsKey old.peers d.id d.key × (mid : ServerState E) × WritesAt d.key old mid × AreWritten is_ended d.id ds mid new
 
-  -- each session's in turn, above one, for which bytes wait, or which ended: at most so many
-  abbrev pub WritesDue : (ℕ → E → Bool) → ℕ → ℕ → ServerState E → ServerState E → Type 0
-  WritesDue is_ended zero id old new = new ≡ old
-  WritesDue is_ended (suc n) id old new =
-      (next : Option ℕ) × PassesNone pending id next old.served × PassesNoEnd is_ended id next old.served × WritesNext (λ x mid. WritesDue is_ended n x mid new) id next old new
+  pub record WritesDue (is_ended : ℕ → E → Bool) (old new : ServerState E) : Type 0 where
+    pub dues : List Due
+    pub written : AreWritten is_ended 0 dues old new
+
+-- WHAT IS READ WHERE THAT IS REPORTED
+module _ {E : Type 0} (does : E → Call → E → Type 0) (live : ℕ → E → Bool) (tickets : List (List ℕ × List ℕ)) where
+  -- one of which something was read goes on, or is given up where the system cannot be asked to report it again
+  abbrev pub GoesOn : PumpedIn → Connection → E → Connection → E → Type 0
+  GoesOn (Took n) conn old next new = (is_given_up : Bool) × MatchBool is_given_up (Breaks does conn old next new) ((next ≡ conn) × (new ≡ old))
+  GoesOn Idle conn old next new = (next ≡ conn) × (new ≡ old)
+  GoesOn Finished conn old next new = (next ≡ conn) × (new ≡ old)
+  GoesOn Failed conn old next new = (next ≡ conn) × (new ≡ old)
+
+  -- it is read once
+  pub record ReadsConn (conn : Connection) (old : E) (next : Connection) (new : E) : Type 0 where
+    pub answer : PumpedIn
+    pub left : Option (List ℕ)
+    pub rest : Option (List ℕ)
+    pub mid : Connection
+    pub between : E
+    pub read : PumpsIn does live tickets answer left rest conn old mid between
+    pub finished : Finishes live answer conn old mid between
+    pub goes_on : GoesOn answer mid between next new
+
+  abbrev pub ReadsSlot : Option Connection → ℕ → ServerState E → ServerState E → Type 0
+  ReadsSlot None key old new = new ≡ old
+  ReadsSlot (Some conn) key old new = (next : Connection) × ReadsConn conn old.served next new.served × IsChanged key (Some next) old.peers new.peers
+
+  -- so the connection under a key, if there is one
+  abbrev pub ReadsAt : ℕ → ServerState E → ServerState E → Type 0
+  ReadsAt key old new = ReadsSlot (old.peers key) key old new
 
 -- WHAT IS REPORTED, each in its turn: what was reported of is read, it is written, and then each other where that is due
 module _ {E S : Type 0} (does : E → Call → E → Type 0) (live : ℕ → E → Bool) (pending : ℕ → E → List ℕ) (answers : S → List ℕ → Result ℕ Error → S → Type 0) (is_ended : ℕ → E → Bool) (tickets : List (List ℕ × List ℕ)) where
   pub record Handles (key : ℕ) (old new : ServerState E) : Type 0 where
     pub read : ServerState E
-    pub reads : Moved does live pending tickets old read
+    pub reads : ReadsAt does live tickets key old read
     pub written : ServerState E
     pub writes : WritesAt does live pending answers key read written
-    pub due : WritesDue does live pending answers is_ended SESSION_LIMIT 0 written new
+    pub due : WritesDue does live pending answers is_ended written new
 
   abbrev pub HandlesAll : List ℕ → ServerState E → ServerState E → Type 0
   HandlesAll [] old new = new ≡ old
   HandlesAll (key ∷ keys) old new = (mid : ServerState E) × Handles key old mid × HandlesAll keys mid new
 
+  -- some came, and then each that was reported was handled
+  pub record ServesReady (reported : List ℕ) (old new : ServerState E) : Type 0 where
+    pub peers : ℕ → Option Connection
+    pub taken : Taken old.peers peers
+    pub handled : HandlesAll reported (server_state old.served peers) new
+
 -- the keys that were reported
 abbrev pub keys_in : List Event → List ℕ
 keys_in events = map (λ e. (event_token e).0) events
+
+-- WHOSE LOGIN LINES DO NOT END
+
+abbrev pub is_login : Option Connection → Bool
+is_login None = false
+is_login (Some conn) = is_logging_in conn
+
+-- some of those whose login line has not ended were closed, and no other
+pub record ClosesLogins (old new : ℕ → Option Connection) : Type 0 where
+  pub gone : (key : ℕ) → is_some (new key) ≡ false → is_some (old key) ≡ true → is_login (old key) ≡ true
+  pub kept : (key : ℕ) → is_some (new key) ≡ true → new key ≡ old key

@@ -1,17 +1,19 @@
 -- TURNS: what a turn does to a server.
-use Rattle.std.specs.Prelude.{◌≡◌, ℕ, Bool, List, [], map}
+use Rattle.std.specs.Prelude.{◌≡◌, ℕ, Bool, List, [], map, Option, Result}
+use Rattle.std.specs.declared.io.Error.{Error}
 use Rattle.mgs_model.specs.Events.{Event, is_open, run, run_saves}
 use Rattle.mgs_wire.specs.Calls.{Call, Open, Byte, Close, Took}
+use Rattle.mgs_wire.specs.Connections.{Connection}
 use Rattle.mgs_store.specs.Stores.{told_more}
 use Rattle.mgs_engine.specs.declared.tape.Answer.{Answer}
 use Rattle.mgs_engine.specs.declared.tape.Answer.TheVariants as answers
 use Rattle.mgs_engine.specs.Drives.{Asked, Opens, Types, Closes, Takes}
 use Rattle.mgs_engine.specs.Driven.{HaveEvents}
 use Rattle.mgs_engine.specs.Does.{Does}
-use Rattle.mgs_engine.specs.Serving.{Serving, pending_of}
+use Rattle.mgs_engine.specs.Serving.{Serving, is_to_tell, pending_of}
 use Rattle.mgs_server.specs.Calls.{AreMade}
 use Rattle.mgs_server.specs.Listening.{Listening}
-use Rattle.mgs_server.specs.Peers.{Moved, server_state, under}
+use Rattle.mgs_server.specs.Peers.{ClosesLogins, Moved, ServesReady, server_state, under}
 
 -- what was asked by a call, and what its answer was
 abbrev pub asked_by : Call → Asked
@@ -37,10 +39,14 @@ pub record Ran (old : Serving) (calls : List Call) (served new : Serving) : Type
   pub world : new.world ≡ run old.world events
   pub saves : new.store.accepted ≡ told_more (run_saves old.world events) old.store.accepted
 
--- connections came, were read and written, and went; by that they made calls of the engine, and nothing else was asked of it;
--- then each session that ended was told
-pub record Turns (old new : Listening) : Type 0 where
+-- Some connections came; then each that the wait reported was handled, in order: it was read once, what waits for it was written, and then
+-- what waits for each other session, as far as its stream took that; and some whose login line had not ended were closed. By that they made
+-- calls of the engine, and nothing else was asked of it. Then each session that ended was told.
+pub record Turns {S : Type 0} (answers : S → List ℕ → Result ℕ Error → S → Type 0) (old new : Listening) : Type 0 where
   pub served : Serving
+  pub peers : ℕ → Option Connection
+  pub ready : ServesReady Does live_in pending_of answers is_to_tell old.tickets new.reported (server_state old.serving (under old.peers)) (server_state served peers)
+  pub closes : ClosesLogins peers (under new.peers)
   pub moved : Moved Does live_in pending_of old.tickets (server_state old.serving (under old.peers)) (server_state served (under new.peers))
   pub told : new.serving ≡ record served { ended = [] }
   pub calls : List Call

@@ -1,5 +1,6 @@
 // Takes connections.
-ghost use Rattle.std.specs.Prelude.{◌≡◌, ◌+◌, ◌≤◌, OnOk, OnErr};
+ghost use Rattle.std.specs.Prelude.{◌≡◌, ◌+◌, ◌≤◌, true, OnOk, OnErr};
+ghost use Rattle.mio.specs.Interest.{is_readable, is_writable};
 ghost use Rattle.slab.specs.Slab.{slab_len};
 ghost use Rattle.mgs_model.specs.declared.limits.TheConstants.{SESSION_LIMIT};
 ghost use Rattle.mgs_server.specs.Peers.{Taken, peers_of};
@@ -17,7 +18,10 @@ use std::io::{ErrorKind, Write};
 const ACCEPTED_AT_ONCE: usize = 64;
 
 /// What a stream is reported for.
-pub(crate) fn both_ways() -> Interest {
+pub(crate) fn both_ways() -> Interest
+    ensures reads { is_readable result ≡ true }
+    ensures writes { is_writable result ≡ true }
+{
     Interest::READABLE | Interest::WRITABLE
 }
 

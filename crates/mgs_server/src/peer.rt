@@ -1,6 +1,6 @@
 // Connections with their streams.
 ghost use Rattle.std.specs.Prelude.{◌≡◌, ◌<◌, ℕ, [], true, false, List, Some, IfOk, IfSome};
-ghost use Rattle.mgs_wire.specs.Connections.{Breaks, Logging_in, is_over, is_reading};
+ghost use Rattle.mgs_wire.specs.Connections.{Breaks, Logging_in, is_logging_in, is_over, is_reading};
 ghost use Rattle.mgs_wire.specs.Pumps.{Finishes};
 ghost use Rattle.mgs_server.specs.declared.peer.TheConstants.{BYTES_AT_ONCE};
 ghost use Rattle.mgs_server.specs.Peers.{IsUnread, ReadsPeer, Stepped, WritesConn, is_closing, is_conn_of, is_taking};
@@ -84,7 +84,9 @@ impl<S: Drop> Peer<S> {
     }
 
     /// Whether its login line has not ended.
-    pub(crate) fn is_logging_in(&self) -> bool {
+    pub(crate) fn is_logging_in(&self) -> bool
+        ensures { result ≡ is_logging_in self.now.conn }
+    {
         self.conn.is_logging_in()
     }
 
@@ -114,6 +116,9 @@ impl<S: Drop> Peer<S> {
     pub(crate) fn expire<E: Sessions>(&mut self, engine: &mut E, now: Instant) -> bool
         ensures steps { (tickets : List (List ℕ × List ℕ)) → Stepped E.does E.live E.pending tickets self.old.conn engine.old self.new.conn engine.new }
         ensures over { result ≡ true → is_over self.new.conn ≡ true }
+        ensures engine { engine.new ≡ engine.old }
+        ensures late { result ≡ true → is_logging_in self.old.conn ≡ true }
+        ensures kept { result ≡ false → self.new.conn ≡ self.old.conn }
     {
         let came = self.came(now);
         let is_late = now.duration_since(came) >= Duration::from_secs(LOGIN_SECS);

@@ -15,27 +15,32 @@ use mgs_gap::GapText;
 use mgs_model::{Short, Tickets};
 use mgs_policy::Directory;
 use mgs_store::Store;
+use mgs_wire::Stream;
+use mio::net::TcpStream;
 use std::alloc::Global;
 use std::marker::Model;
 use std::net::Net;
 use std::time::Clock;
 
-/// A server of terminals: its world with the store where buffers are saved, and its connections on the loopback address.
+/// A server of terminals: its world with the store where buffers are saved, its connections on the loopback address, and the clock by
+/// which logins are timed.
 #[derive(Drop)]
-pub struct Server<S: Store + Drop> {
+pub struct Server<S: Store + Drop, C: Clock + Drop> {
     engine: Engine<GapText, S>,
     tickets: Tickets,
     port: u16,
     sockets: Sockets,
+    clock: C,
 }
 
-impl<S: Store + Drop> Model for Server<S> {
+impl<S: Store + Drop, C: Clock + Drop> Model for Server<S, C> {
     ghost use Rattle.mgs_server.specs.Listening.{Listening};
-    ghost use Rattle.mgs_server.specs.Peers.{slots_of};
+    ghost use Rattle.mio.specs.Events.{items};
+    ghost use Rattle.mgs_server.specs.Peers.{keys_in, slots_of};
 
     ghost Value = { Listening };
 
-    ghost view = { λ s. record { serving = s.engine; peers = slots_of s.sockets.peers; tickets = s.tickets; port = s.port } };
+    ghost view = { λ s. record { serving = s.engine; peers = slots_of s.sockets.peers; tickets = s.tickets; port = s.port; reported = keys_in (items s.sockets.events) } };
 }
 
 // The engine of a configuration's world.
@@ -59,34 +64,37 @@ fn hear_ended<S: Store + Drop>(engine: &mut Engine<GapText, S>)
     while let Some(_) = engine.ended() {}
 }
 
-impl<S: Store + Drop> Server<S> {
+impl<S: Store + Drop, C: Clock + Drop> Server<S, C> {
     /// Listens on a port of the loopback address, on one that the system chooses where it is 0, and serves the world of a
-    /// configuration, none of whose buffers has a mark in use, as of one that was read. Its buffers are saved in the store. No session
-    /// is open, and nothing is served before the first `turn`.
+    /// configuration, none of whose buffers has a mark in use, as of one that was read. Its buffers are saved in the store, and its
+    /// logins are timed by the clock. No session is open, and nothing is served before the first `turn`.
     ///
     /// # Errors
     ///
-    /// `Port`: the port cannot be had. `Short`: memory was refused. Configuration and store are dropped then.
-    pub fn listen<N: Net>(
-        net: &N,
-        alloc: Global,
+    /// `Port`: the port cannot be had. `Short`: memory was refused. Configuration, store and clock are dropped then.
+    pub fn listen<R: AllocGlobal + Net>(
+        rt: &R,
         port: u16,
         config: Config,
         store: S,
-    ) -> Result<Server<S>, ListenFault>
+        clock: C,
+    ) -> Result<Server<S, C>, ListenFault>
         requires { AreUnmarked config.buffers }
         ensures serving { IfOk result (λ s. s.serving ≡ at_first (first_world config.directory config.buffers) (store_told S.failed S.accepted store)) }
         ensures tickets { IfOk result (λ s. s.tickets ≡ config.tickets) }
         ensures peers { IfOk result (λ s. s.peers ≡ []) }
         ensures port { IfOk result (λ s. port ≢ 0 → s.port ≡ port) }
+        ensures reported { IfOk result (λ s. s.reported ≡ []) }
     {
-        let (sockets, port) = Sockets::listen(net, alloc, port)?;
+        let alloc = rt.alloc();
+        let (sockets, port) = Sockets::listen(rt, alloc, port)?;
         match engine_of(alloc, config.directory, config.buffers, store) {
             Ok(engine) => Ok(Server {
                 engine,
                 tickets: config.tickets,
                 port,
                 sockets,
+                clock,
             }),
             Err(Short) => Err(ListenFault::Short),
         }
@@ -99,19 +107,20 @@ impl<S: Store + Drop> Server<S> {
         self.port
     }
 
-    /// Waits at most 50 ms until something is ready, and does it: takes the connections that wait, reads each ready one once,
-    /// and writes what waits for each as far as it is taken. A connection past the 64th is answered `refused 5 Full` and closed;
-    /// one whose login was refused is closed when that was written, and one whose session is over at once. One whose login line has
-    /// not ended 60 seconds after it came, by the clock, is closed as well. It then hears of the sessions that ended.
+    /// Waits at most 50 ms until something is ready, and does it: takes the connections that wait, then reads each ready one once, in the
+    /// order in which they were reported, and after each writes what waits for it, and for every session, as far as its stream takes
+    /// that. A connection past the 64th is answered `refused 5 Full` and closed; one whose login was refused is closed when that was
+    /// written, and one whose session is over at once. One whose login line has not ended 60 seconds after it came, by the clock, is
+    /// closed as well. It then hears of the sessions that ended.
     ///
     /// A clock that cannot be read closes nobody. `PollFailed`: the wait failed, and nothing was done.
-    pub fn turn<C: Clock>(&mut self, clock: &C) -> Result<(), PollFailed>
-        ensures ok { OnOk result (Turns self.old self.new) }
-        ensures err { OnErr result (self.new ≡ self.old) }
+    pub fn turn(&mut self) -> Result<(), PollFailed>
+        ensures ok { OnOk result (Turns ⟦<TcpStream as Stream>⟧.answers self.old self.new) }
+        ensures err { OnErr result (self.new ≡ record self.old { reported = [] }) }
     {
         self.sockets.wait()?;
         self.sockets.serve(&mut self.engine, &self.tickets);
-        self.sockets.expire(&mut self.engine, clock);
+        self.sockets.expire(&mut self.engine, &self.clock);
         hear_ended(&mut self.engine);
         Ok(())
     }

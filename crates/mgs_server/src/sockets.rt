@@ -1,9 +1,9 @@
 // The sockets of a server.
-ghost use Rattle.std.specs.Prelude.{◌≡◌, ◌≢◌, [], true, IfOk, IsNone};
+ghost use Rattle.std.specs.Prelude.{◌≡◌, ◌≢◌, ℕ, [], true, false, IfOk, IsNone, OnErr};
 ghost use Rattle.mio.specs.Event.{event_token};
 ghost use Rattle.mio.specs.Events.{items};
 ghost use Rattle.mgs_model.specs.declared.limits.TheConstants.{SESSION_LIMIT};
-ghost use Rattle.mgs_server.specs.Peers.{FindsKey, IsOverAt, IsUnread, WritesAt, WritesDue, WritesOpen, Handles, HandlesAll, keys_in, is_conn_of, Moved, MovedByAny, Stepped, Taken, server_with, peers_of, slots_of};
+ghost use Rattle.mgs_server.specs.Peers.{FindsKey, IsOverAt, IsUnread, WritesAt, WritesDue, WritesOpen, ReadsConn, ReadsAt, Handles, HandlesAll, ServesReady, ClosesLogins, is_login, keys_in, is_conn_of, Moved, MovedByAny, Stepped, Taken, server_with, peers_of, slots_of};
 
 use crate::accept::accept_all;
 use crate::fault::{ListenFault, PollFailed};
@@ -113,6 +113,7 @@ fn read_peer<E: Sessions, S: Read + Stream + Source + Drop>(
     event: &Event,
 ) -> Option<Reported>
     ensures steps { Stepped E.does E.live E.pending tickets.now peer.old.conn engine.old peer.new.conn engine.new }
+    ensures reads { ReadsConn E.does E.live tickets.now peer.old.conn engine.old peer.new.conn engine.new }
     ensures unread { IsNone result → IsUnread peer.old.conn engine.old peer.new.conn engine.new }
 {
     match peer.read(engine, tickets) {
@@ -187,23 +188,17 @@ fn key_of<S: Drop>(peers: &Slab<Peer<S>>, id: SessionId, from: usize) -> usize
     peers.capacity()
 }
 
-// Writes what waits for the connections of sessions, and closes those that are done with. No more than 64 sessions are open, or ended and
-// not told.
+// Writes what waits for the connections of sessions, and closes those that are done with, until none is due.
 fn write_due<E: Sessions, S: Read + Stream + Drop>(engine: &mut E, peers: &mut Slab<Peer<S>>)
-    ensures due { WritesDue E.does E.live E.pending S.answers E.is_ended SESSION_LIMIT 0 (server_with engine.old peers.old) (server_with engine.new peers.new) }
+    ensures due { WritesDue E.does E.live E.pending S.answers E.is_ended (server_with engine.old peers.old) (server_with engine.new peers.new) }
     ensures moved { MovedByAny E.does E.live E.pending (server_with engine.old peers.old) (server_with engine.new peers.new) }
 {
     let mut id = 0;
     let mut key = 0;
-    for _turn in 0..SESSION_LIMIT {
-        match engine.next_due(id) {
-            Some(next) => {
-                id = next;
-                key = key_of(peers, id, key);
-                write_one(engine, peers, key);
-            }
-            None => return,
-        }
+    while let Some(next) = engine.next_due(id) {
+        id = next;
+        key = key_of(peers, id, key);
+        write_one(engine, peers, key);
     }
 }
 
@@ -215,10 +210,14 @@ fn read_one<E: Sessions, S: Read + Stream + Source + Drop>(
     peers: &mut Slab<Peer<S>>,
     event: &Event,
 )
-    ensures { Moved E.does E.live E.pending tickets.now (server_with engine.old peers.old) (server_with engine.new peers.new) }
+    ensures reads { ReadsAt E.does E.live tickets.now (event_token event.now).0 (server_with engine.old peers.old) (server_with engine.new peers.new) }
+    ensures moved { Moved E.does E.live E.pending tickets.now (server_with engine.old peers.old) (server_with engine.new peers.new) }
 {
-    if let Some(peer) = peers.get_mut(event.token().0) {
-        let _reported = read_peer(registry, engine, tickets, peer, event);
+    match peers.get_mut(event.token().0) {
+        Some(peer) => {
+            let _reported = read_peer(registry, engine, tickets, peer, event);
+        }
+        None => {}
     }
 }
 
@@ -263,6 +262,10 @@ fn is_expired<E: Sessions>(
 ) -> bool
     ensures moved { MovedByAny E.does E.live E.pending (server_with engine.old peers.old) (server_with engine.new peers.new) }
     ensures over { result ≡ true → IsOverAt key (peers_of peers.new) }
+    ensures engine { engine.new ≡ engine.old }
+    ensures others { (k : ℕ) → k ≢ key → peers_of peers.new k ≡ peers_of peers.old k }
+    ensures late { result ≡ true → is_login (peers_of peers.old key) ≡ true }
+    ensures kept { result ≡ false → peers_of peers.new key ≡ peers_of peers.old key }
 {
     match peers.get_mut(key) {
         Some(peer) => peer.expire(engine, now),
@@ -277,7 +280,9 @@ fn expire_one<E: Sessions>(
     key: usize,
     now: Instant,
 )
-    ensures { MovedByAny E.does E.live E.pending (server_with engine.old peers.old) (server_with engine.new peers.new) }
+    ensures moved { MovedByAny E.does E.live E.pending (server_with engine.old peers.old) (server_with engine.new peers.new) }
+    ensures engine { engine.new ≡ engine.old }
+    ensures closes { ClosesLogins (peers_of peers.old) (peers_of peers.new) }
 {
     if is_expired(engine, peers, key, now) {
         let _ = peers.try_remove(key);
@@ -294,7 +299,9 @@ fn is_logging_in(peers: &Slab<Peer<TcpStream>>, key: usize) -> bool {
 
 // Closes each connection whose login line has not ended in time. True: there are others whose line has not ended yet.
 fn expire_all<E: Sessions>(engine: &mut E, peers: &mut Slab<Peer<TcpStream>>, now: Instant) -> bool
-    ensures { MovedByAny E.does E.live E.pending (server_with engine.old peers.old) (server_with engine.new peers.new) }
+    ensures moved { MovedByAny E.does E.live E.pending (server_with engine.old peers.old) (server_with engine.new peers.new) }
+    ensures engine { engine.new ≡ engine.old }
+    ensures closes { ClosesLogins (peers_of peers.old) (peers_of peers.new) }
 {
     let mut are_left = false;
     for key in 0..peers.capacity() {
@@ -314,6 +321,7 @@ impl Sockets {
     ) -> Result<(Sockets, u16), ListenFault>
         ensures peers { IfOk result (λ s. slots_of s.0.peers ≡ []) }
         ensures port { IfOk result (λ s. port ≢ 0 → s.1 ≡ port) }
+        ensures events { IfOk result (λ s. items s.0.events ≡ []) }
     {
         let (mut listener, port) = bind(net, port).map_err(listen_fault)?;
         let poll = watch(net, &mut listener).map_err(listen_fault)?;
@@ -337,7 +345,8 @@ impl Sockets {
 
     /// Waits at most 50 ms until something is ready. `PollFailed`: the wait failed.
     pub(crate) fn wait(&mut self) -> Result<(), PollFailed>
-        ensures { self.new.peers ≡ self.old.peers }
+        ensures peers { self.new.peers ≡ self.old.peers }
+        ensures err { OnErr result (items self.new.events ≡ []) }
     {
         let wait = Duration::from_millis(WAIT_MILLIS);
         match self.poll.poll(&mut self.events, Some(wait)) {
@@ -348,7 +357,9 @@ impl Sockets {
 
     /// Takes the connections that wait, reads each that was reported once, and writes what waits for each.
     pub(crate) fn serve<E: Sessions>(&mut self, engine: &mut E, tickets: &Tickets)
-        ensures { Moved E.does E.live E.pending tickets.now (server_with engine.old self.old.peers) (server_with engine.new self.new.peers) }
+        ensures served { ServesReady E.does E.live E.pending ⟦<TcpStream as Stream>⟧.answers E.is_ended tickets.now (keys_in (items self.old.events)) (server_with engine.old self.old.peers) (server_with engine.new self.new.peers) }
+        ensures events { self.new.events ≡ self.old.events }
+        ensures moved { Moved E.does E.live E.pending tickets.now (server_with engine.old self.old.peers) (server_with engine.new self.new.peers) }
     {
         let registry = self.poll.registry();
         let before = self.peers.len();
@@ -367,7 +378,10 @@ impl Sockets {
     /// Closes each connection whose login line has not ended 60 seconds after it came, by the clock. One that cannot be read closes
     /// none, and none is read where each login line has ended.
     pub(crate) fn expire<E: Sessions, C: Clock>(&mut self, engine: &mut E, clock: &C)
-        ensures { MovedByAny E.does E.live E.pending (server_with engine.old self.old.peers) (server_with engine.new self.new.peers) }
+        ensures engine { engine.new ≡ engine.old }
+        ensures closes { ClosesLogins (peers_of self.old.peers) (peers_of self.new.peers) }
+        ensures events { self.new.events ≡ self.old.events }
+        ensures moved { MovedByAny E.does E.live E.pending (server_with engine.old self.old.peers) (server_with engine.new self.new.peers) }
     {
         if !self.are_new {
             return;

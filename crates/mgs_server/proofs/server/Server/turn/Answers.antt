@@ -1,7 +1,12 @@
+use Rattle.std.proofs.Common.{ap, ◌∙◌}
+use Rattle.mio.specs.Events.{items}
+use Rattle.mgs_server.specs.Peers.{keys_in}
 use Rattle.mgs_server.proofs.Turning.{turned_in}
 use Rattle.mgs_server.proofs.server.Server.turn.Goals as goal
 
 pub returns-clause-ok : goal.returns-clause-ok
 returns-clause-ok g c =
-    turned_in c.self.inside.engine c.serve.new.engine c.expire.new.engine c.hear_ended.new.engine c.self.inside.sockets.peers c.wait.new.self.peers c.serve.new.self.peers c.expire.new.self.peers c.self.inside.tickets c.self.inside.port c.args.self.now
-    c.wait.ensures c.serve.ensures (c.expire.ensures c.self.inside.tickets) c.hear_ended.ensures c.self.view_is
+    turned_in _ c.self.inside.engine c.serve.new.engine c.expire.new.engine c.hear_ended.new.engine c.self.inside.sockets.peers c.wait.new.self.peers c.serve.new.self.peers c.expire.new.self.peers
+    (keys_in (items c.self.inside.sockets.events)) (keys_in (items c.wait.new.self.events)) (keys_in (items c.expire.new.self.events)) c.self.inside.tickets c.self.inside.port c.args.self.now
+    c.wait.ensures.peers c.serve.ensures.served (ap (λ events. keys_in (items events)) (c.expire.ensures.events ∙ c.serve.ensures.events)) c.serve.ensures.moved (c.expire.ensures.moved c.self.inside.tickets)
+    c.expire.ensures.engine c.expire.ensures.closes c.hear_ended.ensures c.self.view_is
