@@ -6,13 +6,8 @@ ghost use Rattle.mgs_model.specs.Whites.{blanks_end, blanks_start, is_blank_at, 
 
 use crate::paragraphs::is_blank_line;
 use crate::{line_end, line_start};
+use mgs_model::is_white;
 use mgs_text::Text;
-
-fn is_white(c: char) -> bool
-    ensures { result ≡ is_white c }
-{
-    c == ' ' || c == '\t'
-}
 
 /// Where the white around a position begins: spaces and tabs.
 pub fn white_start<T: Text>(text: &T, p: usize) -> usize

@@ -6,7 +6,6 @@
 
 mod conn;
 mod law;
-mod limits;
 mod line;
 mod login;
 mod pump;
@@ -16,7 +15,6 @@ mod stream;
 
 pub use conn::Conn;
 pub use law::reads_in_pieces;
-pub use limits::{LOGIN_LIMIT, READ_LIMIT};
 pub use pump::{PumpedIn, PumpedOut, pump_in, pump_in_by, pump_out};
 pub use refusal::Refusal;
 pub use sessions::Sessions;

@@ -1,6 +1,6 @@
 // Reads and writes connections.
 ghost use Rattle.std.specs.Prelude.{◌≡◌, ◌<◌, ◌≤◌, length, take, false};
-ghost use Rattle.mgs_wire.specs.declared.limits.TheConstants.{READ_LIMIT};
+ghost use Rattle.mgs_model.specs.declared.limits.TheConstants.{READ_LIMIT};
 ghost use Rattle.std.specs.Io.{ReadsAtMost};
 ghost use Rattle.std.specs.Io.KnownBytes.{Appends};
 ghost use Rattle.std.specs.IoError.{error_kind};
@@ -8,10 +8,9 @@ ghost use Rattle.mgs_wire.specs.Connections.{is_reading};
 ghost use Rattle.mgs_wire.specs.Pumps.{PumpsIn, Finishes, Hears, IsCount, PumpsOut, Put, PutsOut, StopsBy};
 
 use crate::conn::Conn;
-use crate::limits::READ_LIMIT;
 use crate::sessions::Sessions;
 use crate::stream::Stream;
-use mgs_model::Tickets;
+use mgs_model::{READ_LIMIT, Tickets};
 use std::io::{self, Error, ErrorKind, Read};
 
 /// What a call of `pump_in` did.
