@@ -107,6 +107,7 @@ def try_faults(folder):
         ("an owning group", changed('owner = "ann"', 'owner = "ann"\ngroup = "staff"'), 'buffer 1: Unknown: the owning group "staff" is no group; there is no group', "staff"),
         ("no group's name", changed('owner = "ann"', 'owner = "ann"\ngroup = "group:staff"'), "here the name stands alone, without group:", "staff"),
         ("a member", BASE + '[[group]]\nname = "staff"\nmembers = ["ann",\n "eve"]\n', 'group 1: Unknown: the member "eve" is no user', "eve"),
+        ("a member's name", BASE + '[[group]]\nname = "staff"\nmembers = ["ann",\n "Eve"]\n', 'group 1: Unknown: the member "Eve" is no user, and no name of one: it has the character "E"', "Eve"),
         ("an entry's type", entry("Allow bob rw"), 'buffer 1: Entry: entry 2, "Allow bob rw": "Allow" has to be ALLOW or DENY', "Allow"),
         ("an entry's who", entry("ALLOW owner@ rw"), '"owner@" has to be OWNER@, GROUP@, EVERYONE@, a user\'s name, or group: and', "owner@"),
         ("an entry without letters", entry("DENY bob"), "the letters are missing; they are one or more of r w a t d c C o", "DENY bob"),
