@@ -1,5 +1,5 @@
 -- Line feeds, the lines between them, and their numbers.
-use Rattle.std.proofs.Common.{◌≡◌, ℕ, zero, suc, ◌+◌, ◌-◌, ◌<◌, ◌≤◌, true, false, cond, not, leb, List, [], ◌∷◌, length, take, drop, get_or, refl, sym, ap, ◌∙◌, arith, ◌⊎◌, inl, inr, eq-eqb, zero-add, length-drop}
+use Rattle.std.proofs.Common.{◌≡◌, ℕ, zero, suc, ◌+◌, ◌-◌, ◌<◌, ◌≤◌, true, false, cond, not, leb, List, [], ◌∷◌, length, take, drop, get_or, refl, sym, ap, ◌∙◌, arith, ◌⊎◌, inl, inr, eq-eqb, zero-add, length-drop, length-take}
 use Rattle.std.proofs.lemmas.List.{get_or-drop, take_all, drop_more}
 use Rattle.std.specs.Prelude.{slice_range}
 use Rattle.std.specs.List.{count_by, position_or_len}
@@ -43,6 +43,10 @@ start_of_past (suc k) (c ∷ cs) past =
           let same : count_by is_feed (c ∷ cs) ≡ count_by is_feed cs = sum_by-cons (λ y. cond (is_feed y) 1 0) c cs ∙ rw (ne_eqb c 10 n) (zero-add _) in
           rw (ne_eqb c 10 n) (omega (arith, start_of_past (suc k) cs (omega arith)))
     ]
+
+-- no more line feeds than characters stand before a place
+pub line_of_le : (xs : List ℕ) (p : ℕ) → line_of xs p ≤ p
+line_of_le xs p = omega (arith, count_by-le-length is_feed (take p xs), length-take p xs)
 
 -- from a place on over some line feeds
 pub start_of_from : (xs : List ℕ) (p n : ℕ) → p ≤ length xs → start_of (line_of xs p + suc n) xs ≡ p + start_of (suc n) (drop p xs)

@@ -3,7 +3,7 @@
 //! Positions, lines and columns count from 0. A line ends before its line feed or where the text ends.
 #![tactic(auto)]
 
-ghost use Rattle.std.specs.Prelude.{◌≡◌, ◌+◌, ◌*◌, ◌<◌, ◌≤◌, ◌^◌, length};
+ghost use Rattle.std.specs.Prelude.{◌≡◌, ◌+◌, ◌-◌, ◌*◌, ◌<◌, ◌≤◌, ◌^◌, length};
 ghost use Rattle.std.specs.Int.Digits.{digits_of};
 ghost use Rattle.mgs_model.specs.Cells.{glyph};
 ghost use Rattle.mgs_model.specs.Lines.{line_of, line_start, line_end, column, settled_top};
@@ -47,15 +47,39 @@ pub fn line_end<T: Text>(text: &T, p: usize) -> usize
     ensures from { p ≤ result }
     ensures within { result ≤ length (T.text text.now) }
 {
+    end_of(text, p, text.line_of(p))
+}
+
+// Where the line of a position ends, of which the number is known.
+pub(crate) fn end_of<T: Text>(text: &T, p: usize, line: usize) -> usize
+    requires within { p ≤ length (T.text text.now) }
+    requires number { line ≡ line_of (T.text text.now) p }
+    ensures value { result ≡ line_end (T.text text.now) p }
+    ensures from { p ≤ result }
+    ensures within { result ≤ length (T.text text.now) }
+{
     if p == text.len() {
         return p;
     }
-    let next = text.start_of(text.line_of(p) + 1);
+    let next = text.start_of(line + 1);
     if text.at(next - 1) == '\n' {
         next - 1
     } else {
         next
     }
+}
+
+// Where the line above one starts, of which the number is known.
+pub(crate) fn start_above<T: Text>(text: &T, start: usize, line: usize) -> usize
+    requires some { 0 < start }
+    requires within { start ≤ length (T.text text.now) }
+    requires start { line_start (T.text text.now) start ≡ start }
+    requires number { line ≡ line_of (T.text text.now) start }
+    ensures value { result ≡ line_start (T.text text.now) (start - 1) }
+    ensures within { result ≤ start - 1 }
+    ensures some { 0 < line }
+{
+    text.start_of(line - 1)
 }
 
 fn hex_len(n: u32) -> usize

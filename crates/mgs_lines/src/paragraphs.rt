@@ -3,7 +3,7 @@ ghost use Rattle.std.specs.Prelude.{◌≡◌, ◌+◌, ◌-◌, ◌≤◌, leng
 ghost use Rattle.mgs_model.specs.Lines.{line_of, line_start, line_end, start_of};
 ghost use Rattle.mgs_model.specs.Walks.{over, back, lines, is_blank, is_written, forward_paragraph, backward_paragraph, forward_paragraphs, backward_paragraphs};
 
-use crate::{line_end, line_start};
+use crate::{end_of, line_start, start_above};
 use mgs_text::Text;
 
 // Whether the line that starts at a position has only white.
@@ -32,12 +32,14 @@ fn below_blank_lines<T: Text>(text: &T, start: usize) -> usize
     ensures within { result ≤ length (T.text text.now) }
 {
     let mut at = start;
+    let mut line = text.line_of(start);
     while is_blank_line(text, at) {
-        let end = line_end(text, at);
+        let end = end_of(text, at, line);
         if end == text.len() {
             return end;
         }
         at = end + 1;
+        line += 1;
     }
     at
 }
@@ -51,12 +53,14 @@ fn below_written_lines<T: Text>(text: &T, start: usize) -> usize
     ensures within { result ≤ length (T.text text.now) }
 {
     let mut at = start;
+    let mut line = text.line_of(start);
     while !is_blank_line(text, at) {
-        let end = line_end(text, at);
+        let end = end_of(text, at, line);
         if end == text.len() {
             return end;
         }
         at = end + 1;
+        line += 1;
     }
     at
 }
@@ -69,11 +73,13 @@ fn above_blank_lines<T: Text>(text: &T, start: usize) -> usize
     ensures within { result ≤ start }
 {
     let mut at = start;
+    let mut line = text.line_of(start);
     while is_blank_line(text, at) {
         if at == 0 {
             break;
         }
-        at = line_start(text, at - 1);
+        at = start_above(text, at, line);
+        line -= 1;
     }
     at
 }
@@ -86,12 +92,14 @@ fn above_written_lines<T: Text>(text: &T, start: usize) -> usize
     ensures within { result ≤ start }
 {
     let mut at = start;
+    let mut line = text.line_of(start);
     while at > 0 {
-        let above = line_start(text, at - 1);
+        let above = start_above(text, at, line);
         if is_blank_line(text, above) {
             break;
         }
         at = above;
+        line -= 1;
     }
     at
 }

@@ -94,12 +94,14 @@ fn passed_back<T: Text>(text: &T, end: usize, first: First) -> usize
     ensures none { (t : ℕ) → t < result → IsOther first (get_or (T.text text.now) (end - 1 - t) 0) }
     ensures within { result ≤ end }
 {
-    for i in 0..end {
-        if !is_other(text.at(end - 1 - i), first) {
-            return i;
+    let mut left = end;
+    while left > 0 {
+        if !is_other(text.at(left - 1), first) {
+            break;
         }
+        left -= 1;
     }
-    end
+    end - left
 }
 
 /// The borders of a head.

@@ -12,8 +12,9 @@ loop-at-preserved g c =
     let within : c.loop-at.at ≤ length xs = omega arith in
     let passes : is_blank (slice_range xs c.loop-at.at (line_end xs c.loop-at.at)) ≡ true = sym c.is_blank_line.ensures ∙ c.loop-at-test.true in
     let up = ap (back is_blank (lines xs)) (above_of xs c.loop-at.at (omega arith) within c.loop-at.invariant.start) in
-    rw c.line_start-at.ensures.value (record {
+    rw c.start_above-at.ensures.value (record {
       within = omega arith;
+      number = omega (arith, c.loop-at.invariant.number, above_of xs c.loop-at.at (omega arith) within c.loop-at.invariant.start);
       start = line_start_again xs (c.loop-at.at - 1) (omega arith);
       same = up ∙ (sym (above_next is_blank xs c.loop-at.at within c.loop-at.invariant.start passes) ∙ c.loop-at.invariant.same);
     })

@@ -7,6 +7,7 @@ abbrev pub invariant-loop-at : goal.invariant-loop-at
 invariant-loop-at g l =
     record {
       within : l.at ≤ l.fn.start;
+      number : l.line ≡ line_of (g.T.Text.text l.text) l.at;
       start : line_start (g.T.Text.text l.text) l.at ≡ l.at;
       same : back is_written (lines (g.T.Text.text l.text)) (line_of (g.T.Text.text l.text) l.at) ≡ back is_written (lines (g.T.Text.text l.text)) (line_of (g.T.Text.text l.text) l.fn.start);
     }

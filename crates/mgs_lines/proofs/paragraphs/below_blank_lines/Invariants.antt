@@ -8,6 +8,8 @@ invariant-loop-end g l =
     record {
       from : l.fn.start ≤ l.at;
       within : l.at ≤ length (g.T.Text.text l.text);
+      number : l.line ≡ line_of (g.T.Text.text l.text) l.at;
+      few : l.line ≤ l.at;
       start : line_start (g.T.Text.text l.text) l.at ≡ l.at;
       same : over is_blank (lines (g.T.Text.text l.text)) (line_of (g.T.Text.text l.text) l.at) ≡ over is_blank (lines (g.T.Text.text l.text)) (line_of (g.T.Text.text l.text) l.fn.start);
     }

@@ -1,6 +1,6 @@
 use Rattle.std.proofs.Common.{◌≡◌, ◌+◌, ◌-◌, ℕ, List, min, length, arith, ap, sym, ◌∙◌}
 use Rattle.std.specs.Char.{to_ascii_lowercase}
-use Rattle.mgs_search.specs.Borders.{IsRead, IsReadBack, lower_at}
+use Rattle.mgs_search.specs.Borders.{IsReadBack, lower_at}
 use Rattle.mgs_search.proofs.Borders.{back_passed}
 use Rattle.mgs_search.proofs.heads.last_tailed.Goals as goal
 

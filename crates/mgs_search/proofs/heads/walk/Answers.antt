@@ -1,6 +1,6 @@
-use Rattle.std.proofs.Common.{◌≡◌, ℕ, ◌+◌, length, arith}
+use Rattle.std.proofs.Common.{ℕ, arith}
 use Rattle.std.proofs.Math.Path.{subst}
-use Rattle.mgs_search.specs.Borders.{IsRead, IsStep}
+use Rattle.mgs_search.specs.Borders.{IsStep}
 use Rattle.mgs_search.proofs.Borders.{walked}
 use Rattle.mgs_search.proofs.heads.walk.Goals as goal
 
