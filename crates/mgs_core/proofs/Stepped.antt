@@ -47,7 +47,7 @@ use Rattle.mgs_core.specs.KeyActs.{command_act}
 use Rattle.mgs_core.specs.ByteActs.{refused, search_before, CanDo, IsReady, before_turn, model_act, deciding_state, may_want_memory, starts_replacing}
 use Rattle.mgs_core.specs.ByteSteps.{IsAlone, IsByteStep, IsCommandStep, IsLeft, IsStep, MacroPlayed, SearchStays, SeesNames, StepActs, StepEnds, StepFailed, StepKept, call_fault, fault_of, is_call, is_exit}
 use Rattle.mgs_core.specs.Turns.{IsFit, IsWithin, has_all, is_played, is_quiet, weight}
-use Rattle.mgs_core.proofs.Keyed.{command_done, command_here, turn_command, turn_kept, turn_unbound}
+use Rattle.mgs_core.proofs.Commanded.{command_done, command_here, turn_command, turn_kept, turn_unbound}
 use Rattle.mgs_world.proofs.Marks.{not_both}
 
 -- WHAT IS LEFT

@@ -70,7 +70,7 @@ use Rattle.mgs_core.specs.AtPlace.{IsActRefused}
 use Rattle.mgs_core.specs.ByteSteps.{IsTurnStep, SearchStays, SeesNames, TurnLeft, keyed_without_act}
 use Rattle.mgs_core.specs.Turns.{IsLess, IsWithin, TurnDone, TurnRefused, TurnedBy, IsFit, has_all, is_played, is_quiet, weight}
 use Rattle.mgs_core.proofs.Begun.{closed_state, search_still}
-use Rattle.mgs_core.proofs.Keyed.{acted_single}
+use Rattle.mgs_core.proofs.Commanded.{acted_single}
 use Rattle.mgs_core.proofs.Prompted.{answered_single}
 use Rattle.mgs_core.proofs.Sizes.{place_same}
 use Rattle.mgs_core.proofs.Started.{begun_act}
