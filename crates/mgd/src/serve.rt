@@ -2,10 +2,11 @@
 ghost use Rattle.mgs_buffers.specs.MarkedBuffer.{AreUnmarked};
 
 use mgs_command::{FAILED, NO_SOCKETS, tell};
-use mgs_config::{Config, ConfigFault, ConfigTable, TableFault};
-use mgs_disk::FileStore;
+use mgs_config::{BufferFile, Config, ConfigFault, ConfigTable, TableFault};
+use mgs_disk::{DiskFiles, FileStore};
 use mgs_server::Server;
 use mgs_store::Store;
+use std::alloc::AllocError;
 use std::fs::{self, File};
 use std::mem;
 use std::net::Net;
@@ -30,6 +31,14 @@ fn serve<R: Clock + Print + Eprint + Wait, S: Store + Drop>(
     unreachable!()
 }
 
+// The store of these files of the disk.
+fn open_store<'a, R: AllocGlobal + fs::Files<File = File> + RandomSource>(
+    rt: &'a R,
+    files: Vec<BufferFile>,
+) -> Result<FileStore<DiskFiles<'a, R>>, AllocError> {
+    FileStore::new(rt.alloc(), DiskFiles::new(rt)?, files)
+}
+
 /// Serves a configuration on a port of the loopback address. It returns where that cannot be begun, or not gone on with, and tells why on
 /// standard error.
 pub fn run_serve<
@@ -38,7 +47,7 @@ pub fn run_serve<
     requires { AreUnmarked config.buffers }
 {
     let files = mem::replace(&mut config.files, Vec::new(rt.alloc()));
-    let Ok(store) = FileStore::new(rt, files) else {
+    let Ok(store) = open_store(rt, files) else {
         tell(
             rt,
             ConfigFault {

@@ -6,5 +6,5 @@ mod preparing;
 mod streams;
 mod telling;
 
-pub use preparing::{FAILED, NO_MEMORY, NO_SOCKETS, WRONG_ARGUMENTS, Work, prepare};
+pub use preparing::{DONE, FAILED, NO_MEMORY, NO_SOCKETS, WRONG_ARGUMENTS, Work, prepare};
 pub use telling::tell;

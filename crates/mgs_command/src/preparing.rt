@@ -3,13 +3,16 @@ ghost use Rattle.std.specs.Prelude.{◌≡◌, ◌≢◌, IfOk, IfErr};
 ghost use Rattle.mgs_command.specs.Works.{IsReady};
 
 use crate::arguments::{Task, read_task};
-use crate::streams::open_closed_streams;
+use crate::streams::{SystemNull, open_closed_streams};
 use crate::telling::tell;
 use mgs_config::Config;
 use mgs_disk::load_config;
 use std::env::Env;
 use std::fs::{self, File};
 use std::io::ErrorKind;
+
+/// The program's status where its work is done.
+pub const DONE: u8 = 0;
 
 /// The program's status where its work failed, or a configuration is refused.
 pub const FAILED: u8 = 1;
@@ -51,7 +54,7 @@ fn prepare_serving<R: fs::Files<File = File> + AllocGlobal + Eprint>(
     ensures ok { IfOk result IsReady }
     ensures err { IfErr result (λ status. status ≢ 0) }
 {
-    if open_closed_streams(rt).is_err() {
+    if open_closed_streams(&mut SystemNull { rt }).is_err() {
         return refuse(rt, "listening failed", NO_SOCKETS);
     }
     match load_config(rt, path) {

@@ -1,13 +1,16 @@
 // The files that a configuration names.
-ghost use Rattle.std.specs.Prelude.{◌≡◌, ◌<◌, ◌≤◌, ◌+◌, ◌*◌, length, false, IsSome, IfSome, IfOk, IsErrOf};
+ghost use Rattle.std.specs.Prelude.{◌≡◌, ◌≢◌, ◌<◌, ◌≤◌, ◌+◌, ◌*◌, length, take, false, IsSome, IfSome, IfOk, IfErr, IsErrOf, OnOk};
 ghost use Rattle.std.specs.Str.{chars, IsUtf8};
+ghost use Rattle.mgs_config.specs.Files.{HasRisen};
 ghost use Rattle.mgs_config.specs.declared.files.FilesFault.TheVariants.{Unreadable};
+ghost use Rattle.mgs_disk.specs.Reading.{IsTextIn};
 
-use crate::reading::read_bytes;
 use mgs_config::{Files, FilesFault};
 use mgs_model::TEXT_LIMIT;
+use mgs_written::{Opens, read_start_at};
 use std::alloc::Global;
-use std::{fs, str};
+use std::io::{self, ErrorKind};
+use std::str;
 
 // How much of a file is read: more than four bytes, the most that a character takes, for each character of the longest text. Where the
 // last one is cut, more than a text may have stand before it.
@@ -52,31 +55,46 @@ fn text_of(alloc: Global, bytes: &[u8]) -> Result<Vec<char>, FilesFault>
     }
 }
 
-fn read_text<R: fs::Files + AllocGlobal>(rt: &R, path: &str) -> Result<Vec<char>, FilesFault> {
-    match read_bytes(rt, path, READ_LIMIT as u64) {
-        Ok(bytes) => text_of(rt.alloc(), &bytes),
-        Err(fault) => Err(fault),
+// Why nothing was read.
+pub(crate) fn fault_of(error: io::Error) -> FilesFault {
+    match error.kind() {
+        ErrorKind::OutOfMemory => FilesFault::Short,
+        _ => FilesFault::Unreadable,
     }
 }
 
-/// Files that are read from the disk: regular files alone, each up to what shows that it is too long for a text. What they hold is not
-/// known to proofs.
+// The characters of the file at a path: all of them, or more than a text may have.
+fn read_text<O: Opens>(opens: &O, alloc: Global, path: &str) -> Result<Vec<char>, FilesFault>
+    ensures { IfOk result (λ text. IfSome (O.holds opens.now path.now) (λ bytes. IsTextIn bytes text.items)) }
+{
+    match read_start_at(opens, alloc, path, READ_LIMIT as u64) {
+        Ok(bytes) => text_of(alloc, &bytes),
+        Err(error) => Err(fault_of(error)),
+    }
+}
+
+/// The files of a configuration, each read up to what shows that it is too long for a text.
 #[derive(Drop)]
-pub struct Disk<'a, R> {
-    rt: &'a R,
+pub struct Disk<'a, O> {
+    opens: &'a O,
+    alloc: Global,
     faults: u64,
 }
 
-impl<'a, R: fs::Files + AllocGlobal> Disk<'a, R> {
-    /// The disk, without a fault so far.
-    pub fn new(rt: &'a R) -> Disk<'a, R>
-        ensures { ⟦<Disk<'a, R> as Files>⟧.count result ≡ 0 }
+impl<'a, O: Opens> Disk<'a, O> {
+    /// These files, without a fault so far.
+    pub fn new(alloc: Global, opens: &'a O) -> Disk<'a, O>
+        ensures { ⟦<Disk<'a, O> as Files>⟧.count result ≡ 0 }
     {
-        Disk { rt, faults: 0 }
+        Disk {
+            opens,
+            alloc,
+            faults: 0,
+        }
     }
 }
 
-impl<'a, R: fs::Files + AllocGlobal> Files for Disk<'a, R> {
+impl<'a, O: Opens> Files for Disk<'a, O> {
     ghost use Rattle.std.specs.Prelude.{None};
 
     ghost tells = { λ disk path. None };
@@ -84,7 +102,7 @@ impl<'a, R: fs::Files + AllocGlobal> Files for Disk<'a, R> {
     ghost count = { λ disk. disk.faults };
 
     fn read(&mut self, path: &str) -> Result<Vec<char>, FilesFault> {
-        match read_text(self.rt, path) {
+        match read_text(self.opens, self.alloc, path) {
             Ok(text) => Ok(text),
             Err(FilesFault::Unreadable) => {
                 self.faults = self.faults.saturating_add(1);

@@ -9,19 +9,16 @@ use std::random::RandomSource;
 // How many names are tried for a new file. That one of so many is taken means that something is wrong.
 const TRIES: usize = 16;
 
-/// A new file, and its path.
-#[derive(Drop)]
-pub(crate) struct NewFile<'a> {
-    /// Where it lies.
-    pub path: Path<'a>,
-    /// The file, open for writing.
-    pub file: File,
-}
-
 // Puts more behind a text that has room for it.
 fn put(text: &mut String, more: &str) -> io::Result<()> {
     text.push_str(more)
         .map_err(|_| io::Error::from(ErrorKind::OutOfMemory))
+}
+
+// A digit of a number below 16.
+fn digit(number: u8) -> &'static str {
+    let at = (number & 15) as usize;
+    &"0123456789abcdef"[at..at + 1]
 }
 
 // Spells a path beside a file, with a number that nobody foresees.
@@ -34,30 +31,25 @@ fn spell_beside<R: RandomSource>(rt: &R, path: Path<'_>, beside: &mut String) ->
     }
     put(beside, "/.mgd-")?;
     for byte in bytes {
-        put(beside, &"0123456789abcdef"[(byte >> 4) as usize..(byte >> 4) as usize + 1])?;
-        put(beside, &"0123456789abcdef"[(byte & 15) as usize..(byte & 15) as usize + 1])?;
+        put(beside, digit(byte >> 4))?;
+        put(beside, digit(byte))?;
     }
     Ok(())
 }
 
 /// Makes an empty file beside another, which this process alone may open: it is made where nothing has its name, no link either. Its
 /// path is spelled in the room that is lent.
-pub(crate) fn create_beside<'a, R: fs::Files<File = File> + RandomSource>(
+pub(crate) fn create_beside<R: fs::Files<File = File> + RandomSource>(
     rt: &R,
     path: Path<'_>,
-    beside: &'a mut String,
-) -> io::Result<NewFile<'a>> {
+    beside: &mut String,
+) -> io::Result<File> {
     let mut how = OpenOptions::new();
     how.write(true).create_new(true).mode(PRIVATE);
     for _ in 0..TRIES {
         spell_beside(rt, path, beside)?;
         match how.open(rt, beside.as_str()) {
-            Ok(file) => {
-                return Ok(NewFile {
-                    path: Path::new(beside.as_str()),
-                    file,
-                });
-            }
+            Ok(file) => return Ok(file),
             Err(error) if error.kind() == ErrorKind::AlreadyExists => {}
             Err(error) => return Err(error),
         }
@@ -65,12 +57,10 @@ pub(crate) fn create_beside<'a, R: fs::Files<File = File> + RandomSource>(
     Err(io::Error::from(ErrorKind::AlreadyExists))
 }
 
-/// Waits until the disk has the names in a file's folder. Some file systems know no such call, and a folder may be closed to readers: then
+/// Waits until the disk has the names in a folder. Some file systems know no such call, and a folder may be closed to readers: then
 /// nothing is done.
-pub(crate) fn sync_folder<R: fs::Files<File = File>>(rt: &R, path: Path<'_>) {
-    if let Some(folder) = path.parent() {
-        if let Ok(folder) = File::open(rt, folder) {
-            let _ = folder.sync_all();
-        }
+pub(crate) fn sync_names<R: fs::Files<File = File>>(rt: &R, folder: Path<'_>) {
+    if let Ok(folder) = File::open(rt, folder) {
+        let _ = folder.sync_all();
     }
 }

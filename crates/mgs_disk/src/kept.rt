@@ -34,8 +34,8 @@ fn mode_after(old: Option<&Metadata>) -> u32
 }
 
 /// Gives a new file the group of the one in whose place it comes, as far as this process may.
-pub(crate) fn give_group(new: &File, old: Option<&Metadata>) {
-    if let Some(old) = old {
+pub(crate) fn give_group(new: Option<&File>, old: Option<&Metadata>) {
+    if let (Some(new), Some(old)) = (new, old) {
         let _ = fchown(new, None, Some(old.gid()));
     }
 }
@@ -46,8 +46,8 @@ pub(crate) fn give_mode(new: &File, old: Option<&Metadata>) -> io::Result<()> {
 }
 
 /// Gives it its owner, as far as this process may.
-pub(crate) fn give_owner(new: &File, old: Option<&Metadata>) {
-    if let Some(old) = old {
+pub(crate) fn give_owner(new: Option<&File>, old: Option<&Metadata>) {
+    if let (Some(new), Some(old)) = (new, old) {
         let _ = fchown(new, Some(old.uid()), None);
     }
 }

@@ -3,13 +3,18 @@
 #![tactic(auto)]
 
 mod disk;
+mod files;
 mod folder;
 mod kept;
 mod load;
-mod reading;
+mod opening;
+mod places;
 mod replacing;
 mod store;
 
 pub use disk::Disk;
-pub use load::load_config;
-pub use store::FileStore;
+pub use files::FileStore;
+pub use load::{load_config, load_config_from};
+pub use opening::RegularFiles;
+pub use places::Finds;
+pub use replacing::DiskFiles;

@@ -1,64 +1,22 @@
-// How a text comes in the place of a file.
-ghost use Rattle.std.specs.Prelude.{◌≤◌, ◌<◌, ◌↔◌, IsTrue, string_capacity};
+// How the disk finds files, and puts new ones in their places.
+ghost use Rattle.std.specs.Prelude.{◌<◌, ◌↔◌, IsTrue};
 
-use crate::folder::{NewFile, create_beside, sync_folder};
+use crate::folder::{create_beside, sync_names};
 use crate::kept::{give_group, give_mode, give_owner, may_be_replaced};
+use crate::places::Finds;
 use libc::types::rlimit;
-use mgs_written::{Draft, encoded_len, replace, write_text};
+use mgs_written::{Replaces, write_text};
+use std::alloc::AllocError;
 use std::fs::{self, File, Metadata};
 use std::io::{self, ErrorKind};
-use std::path::Path;
+use std::path::{Path, PathBuf};
 use std::random::RandomSource;
 
 // The number of the limit on the size of files, which libc does not name.
 const RLIMIT_FSIZE: i32 = 1;
 
-// A new file of the disk, which comes in the place of the file at a path.
-#[derive(Drop)]
-struct DiskDraft<'a, 'b, 'c, R> {
-    rt: &'a R,
-    new: NewFile<'b>,
-    path: Path<'c>,
-    old: Option<Metadata>,
-}
-
-impl<'a, 'b, 'c, R: fs::Files<File = File>> Draft for DiskDraft<'a, 'b, 'c, R> {
-    ghost use Rattle.std.specs.Prelude.{None};
-
-    ghost done = { λ draft. None };
-
-    fn write(&mut self, room: &mut String, text: &[char]) -> io::Result<()> {
-        write_text(&mut self.new.file, room, text)
-    }
-
-    fn give_group(&mut self) {
-        give_group(&self.new.file, self.old.as_ref());
-    }
-
-    fn give_mode(&mut self) -> io::Result<()> {
-        give_mode(&self.new.file, self.old.as_ref())
-    }
-
-    fn give_owner(&mut self) {
-        give_owner(&self.new.file, self.old.as_ref());
-    }
-
-    fn sync(&mut self) -> io::Result<()> {
-        self.new.file.sync_all()
-    }
-
-    fn rename(&mut self) -> io::Result<()> {
-        fs::rename(self.rt, self.new.path, self.path)
-    }
-
-    fn sync_folder(&mut self) {
-        sync_folder(self.rt, self.path);
-    }
-
-    fn discard(&mut self) {
-        let _ = fs::remove_file(self.rt, self.new.path);
-    }
-}
+// How many bytes the path of a new file may have.
+const PATH_ROOM: usize = 8192;
 
 // The file that is to be replaced. None: there is none. It is an error where something else stands there, or a file that its owner may
 // not write.
@@ -87,23 +45,102 @@ fn is_past_limit(len: u64) -> bool {
     libc::getrlimit(RLIMIT_FSIZE, &mut limit) == 0 && is_above(&limit, len)
 }
 
-/// Puts a text in the place of the file at a path that has no links on its way, with room that is lent for what is written and for the
-/// new file's path. A crash, a full disk or an error leaves the old text or the new one, and an error leaves no new file.
-pub(crate) fn replace_file<R: fs::Files<File = File> + RandomSource>(
-    rt: &R,
-    path: Path<'_>,
-    room: &mut String,
-    beside: &mut String,
-    text: &[char],
-) -> io::Result<()>
-    requires { 4 ≤ string_capacity room.old }
-    ensures { string_capacity room.old ≤ string_capacity room.new }
-{
-    let old = file_at(rt, path)?;
-    if is_past_limit(encoded_len(text) as u64) {
-        return Err(io::Error::from(ErrorKind::FileTooLarge));
+/// The files of the disk that buffers are saved in. No save takes memory: the room for a new file's path is made at the start. What
+/// files hold is not known to proofs.
+#[derive(Drop)]
+pub struct DiskFiles<'a, R> {
+    rt: &'a R,
+    beside: String,
+    new: Option<File>,
+    old: Option<Metadata>,
+}
+
+impl<'a, R: AllocGlobal> DiskFiles<'a, R> {
+    /// The files of the disk, of which none is replaced yet.
+    pub fn new(rt: &'a R) -> Result<DiskFiles<'a, R>, AllocError> {
+        Ok(DiskFiles {
+            rt,
+            beside: String::with_capacity(rt.alloc(), PATH_ROOM)?,
+            new: None,
+            old: None,
+        })
     }
-    let new = create_beside(rt, path, beside)?;
-    let mut draft = DiskDraft { rt, new, path, old };
-    replace(&mut draft, room, text)
+}
+
+impl<'a, R: fs::Files + AllocGlobal> Finds for DiskFiles<'a, R> {
+    ghost use Rattle.std.specs.Prelude.{None};
+
+    ghost leads = { λ files path. None };
+
+    fn find(&self, path: &str) -> Result<Option<PathBuf>, AllocError> {
+        match fs::canonicalize(self.rt, path) {
+            Ok(path) => Ok(Some(path)),
+            Err(error) if error.kind() == ErrorKind::OutOfMemory => Err(AllocError),
+            Err(_) => Ok(None),
+        }
+    }
+}
+
+// What is told where no new file was made.
+fn none_made() -> io::Error {
+    io::Error::from(ErrorKind::NotFound)
+}
+
+impl<'a, R: fs::Files<File = File> + RandomSource> Replaces for DiskFiles<'a, R> {
+    ghost use Rattle.std.specs.Prelude.{None};
+
+    ghost done = { λ files. None };
+
+    fn create(&mut self, path: Path<'_>, len: usize) -> io::Result<()> {
+        self.old = file_at(self.rt, path)?;
+        if is_past_limit(len as u64) {
+            return Err(io::Error::from(ErrorKind::FileTooLarge));
+        }
+        self.new = Some(create_beside(self.rt, path, &mut self.beside)?);
+        Ok(())
+    }
+
+    fn write(&mut self, room: &mut String, text: &[char]) -> io::Result<()> {
+        match &mut self.new {
+            Some(new) => write_text(new, room, text),
+            None => Err(none_made()),
+        }
+    }
+
+    fn give_group(&mut self) {
+        give_group(self.new.as_ref(), self.old.as_ref());
+    }
+
+    fn give_mode(&mut self) -> io::Result<()> {
+        match &self.new {
+            Some(new) => give_mode(new, self.old.as_ref()),
+            None => Err(none_made()),
+        }
+    }
+
+    fn give_owner(&mut self) {
+        give_owner(self.new.as_ref(), self.old.as_ref());
+    }
+
+    fn sync(&mut self) -> io::Result<()> {
+        match &self.new {
+            Some(new) => new.sync_all(),
+            None => Err(none_made()),
+        }
+    }
+
+    fn rename(&mut self, path: Path<'_>) -> io::Result<()> {
+        fs::rename(self.rt, self.beside.as_str(), path)?;
+        self.new = None;
+        Ok(())
+    }
+
+    fn sync_folder(&mut self, folder: Path<'_>) {
+        sync_names(self.rt, folder);
+    }
+
+    fn discard(&mut self) {
+        self.new = None;
+        let _ = fs::remove_file(self.rt, self.beside.as_str());
+    }
 }

@@ -1,131 +1,85 @@
 // Where the buffers of a served configuration are saved: each in its own file.
-ghost use Rattle.std.specs.Prelude.{◌≡◌, ◌≤◌, IfOk, string_bytes, string_capacity};
-ghost use Rattle.std.specs.List.{find};
-ghost use Rattle.std.specs.Path.{path_bytes};
-ghost use Rattle.std.specs.Option.{option_map};
-ghost use Rattle.mgs_model.specs.Names.{same_name};
-ghost use Rattle.mgs_disk.specs.Places.{saved_at};
+ghost use Rattle.std.specs.Prelude.{◌≡◌, ◌≤◌, IfOk, OnOk, OnErr, string_capacity};
+ghost use Rattle.std.specs.Str.{encode_utf8_all};
+ghost use Rattle.mgs_config.specs.World.{paths_of};
+ghost use Rattle.mgs_store.specs.Stores.{IsCounted};
+ghost use Rattle.mgs_disk.specs.Places.{AreFound, IsKeptAt, IsSavedAt, saved_at};
+ghost use Rattle.mgs_disk.specs.Saving.{places_in, rows_in, steps_of, file_of};
 
-use crate::replacing::replace_file;
+use crate::files::FileStore;
+use crate::places::{Finds, Place, path_of, places_of};
 use mgs_config::BufferFile;
 use mgs_store::{Store, StoreFault};
-use std::alloc::AllocError;
-use std::fs::{self, File};
-use std::io::ErrorKind;
-use std::path::{Path, PathBuf};
-use std::random::RandomSource;
+use mgs_written::{Replaces, replace};
+use std::alloc::{AllocError, Global};
 
-// A buffer, and the file that it is saved in, where that was found.
-#[derive(Drop)]
-struct Place {
-    name: String,
-    path: Option<PathBuf>,
-}
-
-// Where a buffer is saved. Links are followed here, once: one that comes to stand there later leads to no other file.
-fn place_of<R: fs::Files + AllocGlobal>(rt: &R, file: BufferFile) -> Result<Place, AllocError> {
-    let BufferFile { name, path } = file;
-    match fs::canonicalize(rt, path.as_str()) {
-        Ok(path) => Ok(Place {
-            name,
-            path: Some(path),
-        }),
-        Err(error) if error.kind() == ErrorKind::OutOfMemory => Err(AllocError),
-        Err(_) => Ok(Place { name, path: None }),
-    }
-}
-
-fn place_named<'a>(places: &'a [Place], name: &str) -> Option<&'a Place>
-    ensures { option_map (λ place. place.now) result ≡ find (λ place. same_name (string_bytes place.name) name.now) places.now }
-{
-    places.iter().find(|place| place.name.as_str() == name)
-}
-
-// The file of the buffer of this name.
-fn path_of<'a>(places: &'a [Place], name: &str) -> Option<Path<'a>>
-    ensures { option_map path_bytes result ≡ saved_at name.now places.now }
-{
-    match place_named(places, name) {
-        Some(place) => match &place.path {
-            Some(path) => Some(path.as_path()),
-            None => None,
-        },
-        None => None,
-    }
-}
-
-// How many bytes are gathered before they are written, and how many a path may have.
+// How many bytes are gathered before they are written.
 const ROOM: usize = 8192;
 
 // Saves the text of the buffer of this name in its file.
-fn save_in_file<R: fs::Files<File = File> + RandomSource>(
-    rt: &R,
+fn save_in_file<D: Replaces>(
+    disk: &mut D,
     places: &[Place],
     room: &mut String,
-    beside: &mut String,
     name: &str,
     text: &[char],
 ) -> Result<(), StoreFault>
     requires { 4 ≤ string_capacity room.old }
-    ensures { string_capacity room.old ≤ string_capacity room.new }
+    ensures room { string_capacity room.old ≤ string_capacity room.new }
+    ensures ok { OnOk result (IsSavedAt (saved_at name.now places.now) (encode_utf8_all text.now) (D.done disk.old) (D.done disk.new)) }
+    ensures err { OnErr result (IsKeptAt (saved_at name.now places.now) (encode_utf8_all text.now) (D.done disk.old) (D.done disk.new)) }
 {
     let Some(path) = path_of(places, name) else {
         return Err(StoreFault);
     };
-    match replace_file(rt, path, room, beside, text) {
+    match replace(disk, path, room, text) {
         Ok(()) => Ok(()),
         Err(_) => Err(StoreFault),
     }
 }
 
-/// The files of buffers. What they hold is not known to proofs.
-#[derive(Drop)]
-pub struct FileStore<'a, R> {
-    rt: &'a R,
-    places: Vec<Place>,
-    room: String,
-    beside: String,
-    faults: u64,
-    ghost wide: { 4 ≤ string_capacity room },
-}
-
-impl<'a, R: fs::Files<File = File> + RandomSource + AllocGlobal> FileStore<'a, R> {
-    /// A store that saved nothing yet. Each path is followed to its file now: where a link leads to another one later, nothing is saved
-    /// through it. A file that is not there now is never saved.
-    pub fn new(rt: &'a R, files: Vec<BufferFile>) -> Result<FileStore<'a, R>, AllocError>
-        ensures { IfOk result (λ store. ⟦<FileStore<'a, R> as Store>⟧.failed store ≡ 0) }
+impl<D: Finds + Replaces + Drop> FileStore<D> {
+    /// A store that saved nothing yet: each buffer has its file. Each path is followed to its file now: where a link leads to another one
+    /// later, nothing is saved through it. A file that is not there now is never saved.
+    pub fn new(alloc: Global, disk: D, files: Vec<BufferFile>) -> Result<FileStore<D>, AllocError>
+        ensures failed { IfOk result (λ store. ⟦<FileStore<D> as Store>⟧.failed store ≡ 0) }
+        ensures named { IfOk result (λ store. rows_in store ≡ paths_of files.items) }
+        ensures found { IfOk result (λ store. AreFound (D.leads disk) (places_in store)) }
+        ensures none { IfOk result (λ store. steps_of D.done store ≡ D.done disk) }
     {
-        let mut places = Vec::new(rt.alloc());
-        for file in files {
-            places.push(place_of(rt, file)?)?;
-        }
+        let places = places_of(&disk, alloc, files)?;
+        let room = String::with_capacity(alloc, ROOM)?;
         Ok(FileStore {
-            rt,
+            disk,
             places,
-            room: String::with_capacity(rt.alloc(), ROOM)?,
-            beside: String::with_capacity(rt.alloc(), ROOM)?,
+            room,
             faults: 0,
         })
     }
-
 }
 
-impl<'a, R: fs::Files<File = File> + RandomSource + AllocGlobal> Store for FileStore<'a, R> {
-    ghost use Rattle.std.specs.Prelude.{None};
+impl<D: Finds + Replaces + Drop> Store for FileStore<D> {
+    ghost use Rattle.std.specs.Prelude.{◌≡◌, [], None, OnOk, OnErr};
+    ghost use Rattle.std.specs.Str.{encode_utf8_all};
+    ghost use Rattle.mgs_store.specs.Stores.{IsCounted, saved_of, told_more};
+    ghost use Rattle.mgs_disk.specs.Places.{IsKeptAt, IsSavedAt};
+    ghost use Rattle.mgs_disk.specs.Saving.{places_in, steps_of, file_of};
 
     ghost failed = { λ store. store.faults };
 
     ghost accepted = { λ store. None };
 
-    fn save(&mut self, name: &str, text: &[char]) -> Result<(), StoreFault> {
-        let saved = save_in_file(
-            self.rt,
-            &self.places,
-            &mut self.room,
-            &mut self.beside,
-            name,
-            text,
-        );
+    /// Saves the text of a buffer in its file. `StoreFault`: it has none, or a step failed; then the old text stands there, no new file
+    /// is left, and the fault is counted.
+    fn save(&mut self, name: &str, text: &[char]) -> Result<(), StoreFault>
+        ensures ok { OnOk result (None ≡ told_more (saved_of name.now text.now) None) }
+        ensures err { OnErr result (None ≡ told_more [] None) }
+        ensures counted { OnErr result (IsCounted self.old.faults self.new.faults) }
+        ensures saved { OnOk result (IsSavedAt (file_of name.now self.old) (encode_utf8_all text.now) (steps_of D.done self.old) (steps_of D.done self.new)) }
+        ensures kept { OnErr result (IsKeptAt (file_of name.now self.old) (encode_utf8_all text.now) (steps_of D.done self.old) (steps_of D.done self.new)) }
+        ensures same { places_in self.new ≡ places_in self.old }
+    {
+        let saved = save_in_file(&mut self.disk, &self.places, &mut self.room, name, text);
         if saved.is_err() {
             self.faults = self.faults.saturating_add(1);
         }

@@ -9,6 +9,10 @@ mod files;
 #[cfg(test)]
 mod room;
 #[cfg(test)]
+mod saving;
+#[cfg(test)]
+mod standing;
+#[cfg(test)]
 mod steps;
 #[cfg(test)]
 mod tests;

@@ -2,7 +2,7 @@
 use crate::faulty::Faulty;
 use mgs_command::{Work, prepare};
 use mgs_config::{BufferFile, Config, Files, FilesFault};
-use mgs_disk::{Disk, FileStore, load_config};
+use mgs_disk::{Disk, DiskFiles, FileStore, RegularFiles, load_config};
 use mgs_marks::Marked;
 use mgs_model::{Name, TEXT_LIMIT};
 use mgs_store::Store;
@@ -21,7 +21,7 @@ pub(crate) struct Room<'a> {
     /// The folder.
     pub folder: PathBuf,
     /// The store, which works by `faulty`.
-    pub store: FileStore<'a, Faulty<'a, HostRuntime>>,
+    pub store: FileStore<DiskFiles<'a, Faulty<'a, HostRuntime>>>,
 }
 
 // Makes an empty folder of this name among the temporary files.
@@ -40,7 +40,7 @@ pub(crate) fn enter<'a>(
     name: &str,
 ) -> io::Result<Room<'a>> {
     let folder = make_folder(rt, name)?;
-    let store = FileStore::new(faulty, Vec::new(rt.alloc()))?;
+    let store = FileStore::new(rt.alloc(), DiskFiles::new(faulty)?, Vec::new(rt.alloc()))?;
     Ok(Room {
         rt,
         faulty,
@@ -65,18 +65,31 @@ pub(crate) fn text_in(room: &Room<'_>, written: &str) -> Result<String, AllocErr
     Ok(text)
 }
 
-// The buffer `notes` with the file at a path.
-fn notes_at(alloc: Global, path: &str) -> Result<Vec<BufferFile>, AllocError> {
-    let name = String::from_str(alloc, "notes")?;
-    let path = String::from_str(alloc, path)?;
+/// The buffers `notes` and `other`, each with the file at a path; none where the path is empty.
+pub(crate) fn files_at(
+    alloc: Global,
+    notes: &str,
+    other: &str,
+) -> Result<Vec<BufferFile>, AllocError> {
     let mut files = Vec::new(alloc);
-    files.push(BufferFile { name, path })?;
+    for (name, path) in [("notes", notes), ("other", other)] {
+        if !path.is_empty() {
+            let name = String::from_str(alloc, name)?;
+            let path = String::from_str(alloc, path)?;
+            files.push(BufferFile { name, path })?;
+        }
+    }
     Ok(files)
 }
 
-/// From now on the store has the file at a path.
-pub(crate) fn open_store(room: &mut Room<'_>, path: &str) -> Result<(), AllocError> {
-    room.store = FileStore::new(room.faulty, notes_at(room.rt.alloc(), path)?)?;
+/// From now on the store has the file at a path for `notes`, and the one at another for `other`, where that is not empty.
+pub(crate) fn open_store(room: &mut Room<'_>, notes: &str, other: &str) -> Result<(), AllocError> {
+    let alloc = room.rt.alloc();
+    room.store = FileStore::new(
+        alloc,
+        DiskFiles::new(room.faulty)?,
+        files_at(alloc, notes, other)?,
+    )?;
     Ok(())
 }
 
@@ -93,7 +106,8 @@ pub(crate) fn saves(room: &mut Room<'_>, buffer: &str, text: &str) -> Result<boo
 /// Whether a file is read as this text, without a fault.
 pub(crate) fn reads(rt: &HostRuntime, path: &str, text: &str) -> Result<bool, AllocError> {
     let wanted = characters(rt.alloc(), text)?;
-    let mut disk = Disk::new(rt);
+    let files = RegularFiles::new(rt);
+    let mut disk = Disk::new(rt.alloc(), &files);
     match disk.read(path) {
         Ok(read) => Ok(read.as_slice() == wanted.as_slice() && disk.faults() == 0),
         Err(_) => Ok(false),
@@ -102,7 +116,8 @@ pub(crate) fn reads(rt: &HostRuntime, path: &str, text: &str) -> Result<bool, Al
 
 /// Whether a file is read as a text, or as more characters than one may have.
 pub(crate) fn has_size(rt: &HostRuntime, path: &str, is_text: bool) -> bool {
-    let mut disk = Disk::new(rt);
+    let files = RegularFiles::new(rt);
+    let mut disk = Disk::new(rt.alloc(), &files);
     match disk.read(path) {
         Ok(read) => (read.len() <= TEXT_LIMIT) == is_text && disk.faults() == 0,
         Err(_) => false,
@@ -111,7 +126,8 @@ pub(crate) fn has_size(rt: &HostRuntime, path: &str, is_text: bool) -> bool {
 
 /// Whether a file cannot be read, which is one fault.
 pub(crate) fn is_unreadable(rt: &HostRuntime, path: &str) -> bool {
-    let mut disk = Disk::new(rt);
+    let files = RegularFiles::new(rt);
+    let mut disk = Disk::new(rt.alloc(), &files);
     matches!(disk.read(path), Err(FilesFault::Unreadable)) && disk.faults() == 1
 }
 

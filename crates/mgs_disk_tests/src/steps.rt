@@ -28,6 +28,28 @@ fn write_times(rt: &HostRuntime, path: Path<'_>, times: &str, piece: &str) -> io
     fs::write(rt, path, text.as_str())
 }
 
+// Writes a text behind so many blanks.
+fn write_padded(rt: &HostRuntime, path: Path<'_>, blanks: &str, text: &str) -> io::Result<()> {
+    let mut padded = " ".repeat(rt.alloc(), blanks.parse::<usize>().unwrap_or(0))?;
+    padded.push('\n')?;
+    padded.push_str(text)?;
+    fs::write(rt, path, padded.as_str())
+}
+
+// Whether a save of `notes` of so many pieces is done.
+fn saves_times(room: &mut Room<'_>, rest: &str) -> Result<bool, Fail> {
+    let (times, piece) = cut(rest);
+    let text = piece.repeat(room.rt.alloc(), times.parse::<usize>().unwrap_or(0))?;
+    Ok(saves(room, "notes", text.as_str())?)
+}
+
+// Whether a file has so many pieces and nothing else.
+fn holds_times(rt: &HostRuntime, path: Path<'_>, rest: &str) -> Result<bool, Fail> {
+    let (times, piece) = cut(rest);
+    let text = piece.repeat(rt.alloc(), times.parse::<usize>().unwrap_or(0))?;
+    Ok(holds(rt, path, text.as_str())?)
+}
+
 // Does something to a file, or None where the word is of no such step.
 fn change(
     room: &mut Room<'_>,
@@ -39,11 +61,13 @@ fn change(
     match word {
         "file" => write(room.rt, path, mode, text_in(room, text)?.as_str())?,
         "long" => write_times(room.rt, path, mode, text)?,
+        "padded" => write_padded(room.rt, path, mode, text_in(room, text)?.as_str())?,
         "bytes" => fs::write(room.rt, path, &bytes_of(room.rt.alloc(), rest)?)?,
         "link" => symlink(room.rt, rest, path)?,
         "folder" => fs::create_dir(room.rt, path)?,
         "remove" => fs::remove_file(room.rt, path)?,
-        "store" => open_store(room, path.as_str())?,
+        "store" => open_store(room, path.as_str(), "")?,
+        "stores" => open_store(room, path.as_str(), text_in(room, rest)?.as_str())?,
         _ => return Ok(None),
     }
     Ok(Some(true))
@@ -54,6 +78,7 @@ fn is_so(room: &Room<'_>, word: &str, path: Path<'_>, rest: &str) -> Result<bool
     let text = text_in(room, rest)?;
     let is_so = match word {
         "holds" => holds(room.rt, path, text.as_str())?,
+        "times" => holds_times(room.rt, path, rest)?,
         "mode" => has_mode(room.rt, path, rest)?,
         "linked" => is_link(room.rt, path)?,
         "count" => has_count(room.rt, path, rest)?,
@@ -103,7 +128,9 @@ fn step(room: &mut Room<'_>, line: &str) -> Result<bool, Fail> {
         }
         "saves" => saves(room, "notes", text_in(room, rest)?.as_str())?,
         "fails" => !saves(room, "notes", rest)?,
-        "other" => !saves(room, "other", rest)?,
+        "other" => saves(room, "other", rest)?,
+        "unkept" => !saves(room, "other", rest)?,
+        "pieces" => saves_times(room, rest)?,
         "faults" => is_number(rest, room.store.faults()),
         "asked" => step_of_program(room, rest)?,
         _ => step_of_file(room, word, rest)?,
@@ -135,12 +162,12 @@ fn go_in_folder(
 }
 
 /// Each list of steps, behind a line of two `=` and what it is about, comes out so in a folder of its own:
-///     file NAME MODE TEXT, long NAME COUNT PIECE, bytes NAME HEX .., link NAME TARGET, folder NAME, remove NAME: does this
-///     store NAME: the buffer `notes` is saved in this file from now on
-///     saves TEXT, fails TEXT, other TEXT: a save of `notes` is done, or refused; one of the buffer `other` is refused
+///     file NAME MODE TEXT, long NAME COUNT PIECE, padded NAME COUNT TEXT, bytes NAME HEX .., link NAME TARGET, folder NAME, remove NAME: does this
+///     store NAME, stores NAME PATH: the buffer `notes` is saved in this file from now on, and `other` in none, or in that at a path
+///     saves TEXT, pieces COUNT PIECE, fails TEXT, other TEXT, unkept TEXT: a save of `notes` is done, or refused; one of `other` as well
 ///     faults COUNT: so many saves were refused
 ///     zeros COUNT, keep: the next random bytes are 0; nothing is renamed
-///     holds NAME TEXT, mode NAME MODE, linked NAME, count NAME COUNT: this is so
+///     holds NAME TEXT, times NAME COUNT PIECE, mode NAME MODE, linked NAME, count NAME COUNT: this is so
 ///     reads NAME TEXT, odd NAME: the file of a buffer is read so, or refused
 ///     fits NAME, past NAME: it is read as no more characters than a text may have, or as more
 ///     loads NAME TEXT, fault NAME FAULT: a configuration is read, and gives `notes` this text, or is refused

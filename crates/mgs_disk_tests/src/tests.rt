@@ -58,6 +58,26 @@ fn a_save_keeps_what_was_there(rt: HostRuntime) -> Result<(), Fail> {
         holds inner/a.txt new
         mode inner/a.txt 640
         count inner 2
+        == 100,000 characters without a line feed at their end come into the file as they are, and so do 1,048,576
+        file a.txt 644 old
+        store a.txt
+        pieces 10000 \u{e9}123456789
+        times a.txt 10000 \u{e9}123456789
+        pieces 1048576 x
+        times a.txt 1048576 x
+        faults 0
+        count . 1
+        == each of two buffers comes into its own file
+        file a.txt 644 old
+        file b.txt 644 other
+        stores a.txt $b.txt
+        saves new
+        holds a.txt new
+        holds b.txt other
+        other newer
+        holds a.txt new
+        holds b.txt newer
+        count . 2
     ";
     all_hold(&rt, &rt, "mgs_disk_kept", lists)
 }
@@ -92,7 +112,7 @@ fn a_save_is_refused(rt: HostRuntime) -> Result<(), Fail> {
         file a.txt 644 old
         fails new
         store a.txt
-        other new
+        unkept new
         holds a.txt old
         == the new file cannot take the old one's place
         file a.txt 644 old
@@ -178,6 +198,11 @@ fn a_configuration_is_read_or_refused(rt: HostRuntime) -> Result<(), Fail> {
         bytes a.toml 23 20 ff
         fault a.toml top 0: Toml
         file a.toml 644 [[user]]/name = 1
+        fault a.toml user 1: Key
+        == a configuration of 100,000 bytes is read to its end
+        padded a.toml 100000 [[user]]/name = \"ann\"/ticket = \"t1\"/[[buffer]]/name = \"notes\"/owner = \"ann\"/list = []/text = \"hi\"
+        loads a.toml hi
+        padded a.toml 100000 [[user]]/name = 1
         fault a.toml user 1: Key
     ";
     all_hold(&rt, &rt, "mgs_disk_loaded", lists)

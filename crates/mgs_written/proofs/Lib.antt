@@ -1,4 +1,3 @@
 mod Appending
 mod Lengths
-mod Placing
 mod Telling

@@ -3,13 +3,11 @@
 #![tactic(auto)]
 
 mod opening;
-mod places;
 mod reading;
 mod steps;
 mod writing;
 
-pub use opening::{Opens, read_at};
-pub use places::{BufferFile, Finds, Place, places_of};
+pub use opening::{Opens, read_at, read_start_at};
 pub use reading::{read_start, read_whole};
-pub use steps::{Draft, replace};
+pub use steps::{Replaces, replace};
 pub use writing::{encoded_len, write_text};

@@ -1,7 +1,7 @@
 // Files that are found by their paths.
-ghost use Rattle.std.specs.Prelude.{◌≡◌, IfOk, IfSome, Some};
+ghost use Rattle.std.specs.Prelude.{◌≡◌, IfOk, IfSome, take};
 
-use crate::reading::read_whole;
+use crate::reading::{read_start, read_whole};
 use std::alloc::Global;
 use std::io::{self, Read};
 
@@ -26,4 +26,17 @@ pub fn read_at<O: Opens>(opens: &O, alloc: Global, path: &str) -> io::Result<Vec
 {
     let mut file = opens.open(path)?;
     read_whole(alloc, &mut file)
+}
+
+/// The first bytes of the file at a path, up to a limit or its end.
+pub fn read_start_at<O: Opens>(
+    opens: &O,
+    alloc: Global,
+    path: &str,
+    limit: u64,
+) -> io::Result<Vec<u8>>
+    ensures { IfOk result (λ bytes. IfSome (O.holds opens.now path.now) (λ all. bytes.items ≡ take limit all)) }
+{
+    let file = opens.open(path)?;
+    read_start(alloc, file, limit)
 }

@@ -1,6 +1,6 @@
 use Rattle.std.proofs.Common.{◌≡◌, ◌++◌, All, map, string_bytes}
-use Rattle.mgs_written.specs.Places.{IsTold, row_of, row_in, bytes_of}
-use Rattle.mgs_written.proofs.places.places_of.Given as goal
+use Rattle.mgs_disk.specs.Places.{IsTold, row_of, row_in, bytes_of}
+use Rattle.mgs_disk.proofs.places.places_of.Given as goal
 
 -- the files so far have their places
 abbrev pub invariant-loop-file : goal.invariant-loop-file

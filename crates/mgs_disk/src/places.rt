@@ -1,34 +1,30 @@
 // Where buffers are saved: each in the file that a configuration names.
-ghost use Rattle.std.specs.Prelude.{◌≡◌, IfOk, All, map, string_bytes};
-ghost use Rattle.mgs_written.specs.Places.{IsTold, row_of, row_in, bytes_of};
+ghost use Rattle.std.specs.Prelude.{◌≡◌, IfOk, map, string_bytes};
+ghost use Rattle.std.specs.List.{find};
+ghost use Rattle.std.specs.Option.{option_map};
+ghost use Rattle.std.specs.Path.{path_bytes};
+ghost use Rattle.mgs_model.specs.Names.{same_name};
+ghost use Rattle.mgs_disk.specs.Places.{IsTold, AreFound, row_of, row_in, bytes_of, saved_at};
 
+use mgs_config::BufferFile;
 use std::alloc::{AllocError, Global};
-use std::path::PathBuf;
-
-/// A buffer, and the path of its file, as a configuration names them.
-#[derive(Drop)]
-pub struct BufferFile {
-    /// The buffer.
-    pub name: String,
-    /// Its file.
-    pub path: String,
-}
+use std::path::{Path, PathBuf};
 
 /// A buffer, and the file that it is saved in.
 #[derive(Drop)]
-pub struct Place {
+pub(crate) struct Place {
     /// The buffer.
-    pub name: String,
+    name: String,
     /// Its file, as it was named.
-    pub given: String,
+    given: String,
     /// Its file, where it was found.
-    pub path: Option<PathBuf>,
+    path: Option<PathBuf>,
 }
 
 /// What finds files: links on the way to them are followed.
 pub trait Finds {
     ghost use Rattle.std.specs.Prelude.{◌≡◌, ℕ, List, Option, IfOk};
-    ghost use Rattle.mgs_written.specs.Places.{IsTold, bytes_of};
+    ghost use Rattle.mgs_disk.specs.Places.{IsTold, bytes_of};
 
     // What a path leads to, where it is known: a path without links, or nothing.
     ghost leads: { Self → List ℕ → Option (Option (List ℕ)) };
@@ -47,19 +43,38 @@ fn place_of<F: Finds>(finds: &F, file: BufferFile) -> Result<Place, AllocError>
     Ok(Place { name, given, path })
 }
 
-/// The places of files, in their order, each where its path leads.
+/// The places of files, in their order, each where its path leads now.
 #[tactic(auto, using(crate::proofs::Placing::placed, crate::proofs::Placing::placed_all))]
-pub fn places_of<F: Finds>(
+pub(crate) fn places_of<F: Finds>(
     finds: &F,
     alloc: Global,
     files: Vec<BufferFile>,
 ) -> Result<Vec<Place>, AllocError>
     ensures named { IfOk result (λ places. map row_in places.items ≡ map row_of files.items) }
-    ensures found { IfOk result (λ places. All (λ place. IsTold (F.leads finds.now (string_bytes place.given)) (bytes_of place.path)) places.items) }
+    ensures found { IfOk result (λ places. AreFound (F.leads finds.now) places.items) }
 {
     let mut places = Vec::new(alloc);
     for file in files {
         places.push(place_of(finds, file)?)?;
     }
     Ok(places)
+}
+
+fn place_named<'a>(places: &'a [Place], name: &str) -> Option<&'a Place>
+    ensures { option_map (λ place. place.now) result ≡ find (λ place. same_name (string_bytes place.name) name.now) places.now }
+{
+    places.iter().find(|place| place.name.as_str() == name)
+}
+
+/// The file of the buffer of this name.
+pub(crate) fn path_of<'a>(places: &'a [Place], name: &str) -> Option<Path<'a>>
+    ensures { option_map path_bytes result ≡ saved_at name.now places.now }
+{
+    match place_named(places, name) {
+        Some(place) => match &place.path {
+            Some(path) => Some(path.as_path()),
+            None => None,
+        },
+        None => None,
+    }
 }
