@@ -1,5 +1,5 @@
-// A text whose growth is refused, so that an act can be told in a test for which there is no memory.
-ghost use Rattle.std.specs.Prelude.{◌≡◌};
+// A text whose growth is refused, so that an act can be told for which there is no memory.
+ghost use Rattle.std.specs.Prelude.{◌≡◌, ⊤};
 
 use mgs_marks::{Marked, PlainMarked};
 use mgs_model::{MarkId, Short};
@@ -63,6 +63,8 @@ impl<const NEW: usize> Text for Refusing<NEW> {
 
     ghost marks = { λ t. t.marks };
 
+    ghost together = { λ _. ⊤ };
+
     fn of(alloc: Global, chars: &[char]) -> Result<Self, Short> {
         if NEW == 0 && chars.is_empty() {
             return Err(Short);
@@ -96,6 +98,14 @@ impl<const NEW: usize> Text for Refusing<NEW> {
     fn replace(&mut self, a: usize, b: usize, put: &[char]) -> Result<(), Short> {
         self.grow()?;
         self.text.replace(a, b, put)
+    }
+
+    fn gather(&mut self) {
+        self.text.gather();
+    }
+
+    fn whole(&self) -> &[char] {
+        self.text.whole()
     }
 }
 
