@@ -1,5 +1,6 @@
-// A kill that would be longer than a kill buffer may be.
-use crate::fixtures::comes_out;
+// Acts at their limits: what is within them is done, and what is not is refused.
+use crate::fixtures::{comes_out, seated};
+use crate::stage::Stage;
 use crate::store::Takes;
 use mgs_marks::PlainMarked;
 use std::alloc::{AllocError, Global};
@@ -28,4 +29,42 @@ fn a_kill_has_a_limit(rt: HostRuntime) -> Result<(), Fail> {
     ";
     let line = line.as_str();
     comes_out::<PlainMarked>(&rt, rt.alloc(), line, Takes::Nothing, &["ann"], steps)
+}
+
+// The longest text is put in, saved, killed and yanked; a kill grows behind a long one; a macro replaces; and so is a character of four
+// bytes. The buffer has a file.
+#[test]
+fn what_is_within_the_limits_is_done(rt: HostRuntime) -> Result<(), Fail> {
+    let steps = "
+        1 C-u '1048576 'a C-a | Done | aaaaaaaaaaaaaaaaaaaaaaaaaaaaaaaaaaaaaaa$ | -**-notes-L1-C0 |
+        1 C-x C-s  | Done | aaaaaaaaaaaaaaaaaaaaaaaaaaaaaaaaaaaaaaa$ | ----notes-L1-C0 | Wrote notes
+        1 C-k      | Done |  | -**-notes-L1-C0 |
+        1 C-y C-a  | Done | aaaaaaaaaaaaaaaaaaaaaaaaaaaaaaaaaaaaaaa$ | -**-notes-L1-C0 |
+        1 C-k      | Done |  | -**-notes-L1-C0 |
+        1 C-u '70000 'a RET 'b M-< C-k C-k | Done | b | -**-notes-L1-C0 |
+        1 C-x '( M-< M-% 'b RET 'a RET '! C-x ') C-a | Done | a | -**-notes-L1-C0 |
+        1 'b C-x 'e C-a | Done | aa | -**-notes-L1-C0 |
+        1 '𝐀 DEL | Done | aa | -**-notes-L1-C0 |
+    ";
+    let notes = "notes ann | ALLOW ann rwat |";
+    let takes = Takes::AllBut(9);
+    comes_out::<PlainMarked>(&rt, rt.alloc(), notes, takes, &["ann"], steps)
+}
+
+// Whether as many sessions as there may be open at terminals of the largest size.
+fn all_open(stage: &mut Stage<PlainMarked>) -> bool {
+    for _ in 0..64 {
+        if stage.engine.open("ann", 64, 160).is_err() {
+            return false;
+        }
+    }
+    true
+}
+
+#[test]
+fn sixty_four_terminals_of_the_largest_size_open(rt: HostRuntime) -> Result<(), Fail> {
+    let notes = "notes ann | ALLOW ann rwat |";
+    let mut stage = seated::<PlainMarked>(rt.alloc(), notes, Takes::Nothing, &[])?;
+    assert!(rt; all_open(&mut stage));
+    Ok(())
 }
