@@ -20,11 +20,15 @@ struct OneSession {
 }
 
 impl Sessions for OneSession {
+    ghost use Rattle.std.specs.Prelude.{false};
+
     ghost does = { λ _ _ _. Unit {0} };
 
     ghost live = { λ _ server. server.is_open };
 
     ghost pending = { λ _ server. server.waiting.items };
+
+    ghost is_ended = { λ _ _. false };
 
     fn open(&mut self, user: &str, rows: usize, cols: usize) -> Result<SessionId, OpenFault> {
         if let Some(fault) = self.fault {
@@ -391,6 +395,17 @@ fn the_rest_of_a_partial_write_comes_next(rt: HostRuntime) -> Result<(), Fail> {
     writer.room = 5;
     let second = client.write(&mut writer);
     assert!(rt; second == PumpedOut::Drained && writer.taken.as_slice() == b"abcdefgh".as_slice());
+    Ok(())
+}
+
+// A long paint is written in one call, as far as the writer takes it.
+#[test]
+fn all_that_waits_is_written(rt: HostRuntime) -> Result<(), Fail> {
+    let mut client = served(rt.alloc())?;
+    client.server.waiting.resize(10_000, b'x')?;
+    let mut written = Vec::new(rt.alloc());
+    assert!(rt; client.write(&mut written) == PumpedOut::Drained);
+    assert!(rt; written.len() == 10_000 && client.server.waiting.is_empty());
     Ok(())
 }
 

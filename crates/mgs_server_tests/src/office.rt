@@ -11,12 +11,49 @@ use mgs_policy::Directory;
 use mgs_server::Server;
 use mgs_store::RefusingStore;
 use std::alloc::Global;
+use std::cell::Cell;
 use std::io;
 use std::test::Fail;
 use std::time::{Clock, Duration};
 
-/// A server whose buffers have no files.
-pub(crate) type Office = Server<RefusingStore>;
+/// A clock that stands still until it is set.
+#[derive(Drop)]
+pub(crate) struct Dial {
+    millis: Cell<u64>,
+}
+
+impl Dial {
+    /// A clock at its start.
+    pub(crate) fn new() -> Dial {
+        Dial {
+            millis: Cell::new(0),
+        }
+    }
+}
+
+impl Clock for Dial {
+    fn monotonic(&self) -> io::Result<Duration> {
+        Ok(Duration::from_millis(self.millis.get()))
+    }
+
+    fn since_1970(&self) -> io::Result<Duration> {
+        self.monotonic()
+    }
+}
+
+/// A server whose buffers have no files, and its clock.
+#[derive(Drop)]
+pub(crate) struct Office<'a> {
+    server: Server<RefusingStore, &'a Dial>,
+    dial: &'a Dial,
+}
+
+impl Office<'_> {
+    /// The port that it listens on.
+    pub(crate) fn port(&self) -> u16 {
+        self.server.port()
+    }
+}
 
 // Ann may do everything with the notes, and bob read and write them.
 fn notes_list() -> Result<List, Fail> {
@@ -73,35 +110,24 @@ fn office_config(alloc: Global, list: List) -> Result<Config, Fail>
 }
 
 /// A server of the notes on this port; 0 is one that the system chooses.
-pub(crate) fn open_office(rt: &HostRuntime, port: u16) -> Result<Office, Fail> {
+pub(crate) fn open_office<'a>(
+    rt: &HostRuntime,
+    dial: &'a Dial,
+    port: u16,
+) -> Result<Office<'a>, Fail> {
     let config = office_config(rt.alloc(), notes_list()?)?;
-    let office = Server::listen(rt, rt.alloc(), port, config, RefusingStore::new())?;
-    Ok(office)
-}
-
-// A clock that stands still, so many milliseconds after its start.
-#[derive(Clone, Copy)]
-struct StoppedClock {
-    millis: u64,
-}
-
-impl Clock for StoppedClock {
-    fn monotonic(&self) -> io::Result<Duration> {
-        Ok(Duration::from_millis(self.millis))
-    }
-
-    fn since_1970(&self) -> io::Result<Duration> {
-        Ok(Duration::from_millis(self.millis))
-    }
+    let server = Server::listen(rt, port, config, RefusingStore::new(), dial)?;
+    Ok(Office { server, dial })
 }
 
 /// One turn of the server, so many milliseconds after the clock's start.
-pub(crate) fn turn_at(office: &mut Office, millis: u64) -> Result<(), Fail> {
-    office.turn(&StoppedClock { millis })?;
-    Ok(())
+pub(crate) fn turn_at(office: &mut Office<'_>, millis: u64) -> Result<(), Fail> {
+    office.dial.millis.set(millis);
+    turn(office)
 }
 
-/// One turn of the server, at the clock's start.
-pub(crate) fn turn(office: &mut Office) -> Result<(), Fail> {
-    turn_at(office, 0)
+/// One turn of the server.
+pub(crate) fn turn(office: &mut Office<'_>) -> Result<(), Fail> {
+    office.server.turn()?;
+    Ok(())
 }

@@ -549,18 +549,18 @@ fn lists_are_full_at_64_entries(rt: HostRuntime) -> Result<(), Fail> {
     are_full(&rt, rt.alloc(), entries.as_str())
 }
 
-// Has nothing to read, and takes all, which it cannot flush; or neither reads nor takes. The first read may be interrupted.
+// Has nothing to read, and takes all, which it cannot flush; or neither reads nor takes. The first read may fail so.
 #[derive(Drop)]
 struct Broken {
     takes: bool,
-    is_interrupted: bool,
+    first: Option<ErrorKind>,
 }
 
 impl Read for Broken {
     fn read(&mut self, _buf: &mut [u8]) -> io::Result<usize> {
-        if self.is_interrupted {
-            self.is_interrupted = false;
-            return Err(io::Error::from(ErrorKind::Interrupted));
+        if let Some(fault) = self.first {
+            self.first = None;
+            return Err(io::Error::from(fault));
         }
         if self.takes {
             return Ok(0);
@@ -588,27 +588,29 @@ impl Write for Broken {
 // The end of a script for such a writer.
 fn end_at(alloc: Global, script: &[u8], takes: bool) -> Result<(), ReplayFault> {
     let mut reader = script;
-    let mut writer = Broken {
-        takes,
-        is_interrupted: false,
-    };
+    let mut writer = Broken { takes, first: None };
     replay(alloc, &mut reader, &mut writer)
 }
 
-// The end of what is read after an interruption, or not at all.
-fn read_end(alloc: Global, takes: bool) -> Result<(), ReplayFault> {
+// The end of what is read after a read that fails so, or not at all.
+fn read_end(alloc: Global, takes: bool, first: ErrorKind) -> Result<(), ReplayFault> {
     let mut written = Vec::new(alloc);
     let mut reader = Broken {
         takes,
-        is_interrupted: true,
+        first: Some(first),
     };
     replay(alloc, &mut reader, &mut written)
 }
 
 #[test]
 fn faults_of_readers_and_writers_are_told(rt: HostRuntime) {
-    assert!(rt; read_end(rt.alloc(), true) == Ok(()));
-    assert!(rt; read_end(rt.alloc(), false) == Err(ReplayFault::Read));
+    for &(takes, first, end) in &[
+        (true, ErrorKind::Interrupted, Ok(())),
+        (false, ErrorKind::Interrupted, Err(ReplayFault::Read)),
+        (true, ErrorKind::WouldBlock, Err(ReplayFault::Read)),
+    ] {
+        assert!(rt; read_end(rt.alloc(), takes, first) == end);
+    }
     assert!(rt; end_at(rt.alloc(), b"open a bob 6 20", false) == Err(ReplayFault::Write));
     assert!(rt; end_at(rt.alloc(), b"frob", true) == Err(ReplayFault::Write));
 }

@@ -61,10 +61,26 @@ fn takes(alloc: Global, terminal: &mut Terminal, wanted: &str) -> Result<bool, F
     shows(alloc, &mut term, terminal.got.as_slice(), wanted)
 }
 
+/// Whether a terminal comes to show this screen, while the server turns.
+pub(crate) fn comes_to_show(
+    alloc: Global,
+    office: &mut Office<'_>,
+    terminal: &mut Terminal,
+    wanted: &str,
+) -> Result<bool, Fail> {
+    for _ in 0..TURNS {
+        turn(office)?;
+        if takes(alloc, terminal, wanted)? {
+            return Ok(true);
+        }
+    }
+    Ok(false)
+}
+
 /// Whether two terminals come to show these screens at once, while the server turns.
 pub(crate) fn both_show(
     alloc: Global,
-    office: &mut Office,
+    office: &mut Office<'_>,
     first: &mut Terminal,
     first_wanted: &str,
     second: &mut Terminal,

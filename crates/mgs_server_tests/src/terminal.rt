@@ -75,7 +75,7 @@ fn is_painted(bytes: &[u8]) -> bool {
 }
 
 /// Whether the server paints the terminal's screen, while it turns.
-pub(crate) fn is_served(office: &mut Office, terminal: &mut Terminal) -> Result<bool, Fail> {
+pub(crate) fn is_served(office: &mut Office<'_>, terminal: &mut Terminal) -> Result<bool, Fail> {
     for _ in 0..TURNS {
         turn(office)?;
         take(terminal)?;
@@ -87,7 +87,7 @@ pub(crate) fn is_served(office: &mut Office, terminal: &mut Terminal) -> Result<
 }
 
 /// Whether the server closes the connection, while it turns.
-pub(crate) fn is_closed(office: &mut Office, terminal: &mut Terminal) -> Result<bool, Fail> {
+pub(crate) fn is_closed(office: &mut Office<'_>, terminal: &mut Terminal) -> Result<bool, Fail> {
     for _ in 0..TURNS {
         turn(office)?;
         take(terminal)?;

@@ -1,6 +1,6 @@
 // Users at one text, and one who is not let in.
 use crate::office::Office;
-use crate::screens::both_show;
+use crate::screens::{both_show, comes_to_show};
 use crate::terminal::{Terminal, enter, is_closed, press};
 use std::test::Fail;
 
@@ -38,13 +38,13 @@ const BOBS_THEN: &str = "|Ahi!                |\n\
     cursor 1 5\n";
 
 // Whether one is told that the ticket is another's, and the connection is closed.
-fn is_told(office: &mut Office, eve: &mut Terminal) -> Result<bool, Fail> {
+fn is_told(office: &mut Office<'_>, eve: &mut Terminal) -> Result<bool, Fail> {
     let is_ended = is_closed(office, eve)?;
     Ok(is_ended && eve.got.as_slice() == b"refused 3 Ticket\n".as_slice())
 }
 
 // Whether one with a ticket of another is refused so.
-fn is_refused(rt: &HostRuntime, office: &mut Office) -> Result<bool, Fail> {
+fn is_refused(rt: &HostRuntime, office: &mut Office<'_>) -> Result<bool, Fail> {
     let mut eve = enter(rt, office.port(), b"login ann t2 6 20\n")?;
     is_told(office, &mut eve)
 }
@@ -52,7 +52,7 @@ fn is_refused(rt: &HostRuntime, office: &mut Office) -> Result<bool, Fail> {
 // Whether both see what bob typed behind his login, and a third is not let in then.
 fn both_share(
     rt: &HostRuntime,
-    office: &mut Office,
+    office: &mut Office<'_>,
     ann: &mut Terminal,
     bob: &mut Terminal,
 ) -> Result<bool, Fail> {
@@ -64,7 +64,7 @@ fn both_share(
 // Whether both see what they type then, ann first.
 fn both_type(
     rt: &HostRuntime,
-    office: &mut Office,
+    office: &mut Office<'_>,
     ann: &mut Terminal,
     bob: &mut Terminal,
 ) -> Result<bool, Fail> {
@@ -74,11 +74,47 @@ fn both_type(
 }
 
 /// Whether two share a text, and a third is not let in meanwhile.
-pub(crate) fn only_users_share(rt: &HostRuntime, office: &mut Office) -> Result<bool, Fail> {
+pub(crate) fn only_users_share(rt: &HostRuntime, office: &mut Office<'_>) -> Result<bool, Fail> {
     let port = office.port();
     let mut ann = enter(rt, port, b"login ann t1 6 20\n")?;
     let mut bob = enter(rt, port, b"login bob t2 6 20\nhi")?;
     let is_shared = both_share(rt, office, &mut ann, &mut bob)?;
     let is_typed = both_type(rt, office, &mut ann, &mut bob)?;
     Ok(is_shared && is_typed)
+}
+
+const SHUT_OUT: &str = "|[no read: no entry] |\n\
+    |                    |\n\
+    |                    |\n\
+    |                    |\n\
+    |-??-?-(no read)-----!\n\
+    |                    |\n\
+    cursor 1 1\n";
+
+// Ann takes the entry of bob away.
+const SHUTS: &[u8] = b"\x152\x1bxacl-delete\r";
+
+// Whether bob's two terminals show that he is shut out, once ann has taken his entry away. He sends nothing.
+fn are_shut_out(
+    rt: &HostRuntime,
+    office: &mut Office<'_>,
+    ann: &mut Terminal,
+    bob: &mut Terminal,
+    other: &mut Terminal,
+) -> Result<bool, Fail> {
+    let is_first_in = comes_to_show(rt.alloc(), office, bob, BOBS)?;
+    let is_other_in = comes_to_show(rt.alloc(), office, other, ANNS)?;
+    press(ann, SHUTS)?;
+    let is_first_out = comes_to_show(rt.alloc(), office, bob, SHUT_OUT)?;
+    let is_other_out = comes_to_show(rt.alloc(), office, other, SHUT_OUT)?;
+    Ok(is_first_in && is_other_in && is_first_out && is_other_out)
+}
+
+/// Whether all who are shut out see that without a key of their own: three are there, and two of them are.
+pub(crate) fn are_all_shut_out(rt: &HostRuntime, office: &mut Office<'_>) -> Result<bool, Fail> {
+    let port = office.port();
+    let mut ann = enter(rt, port, b"login ann t1 6 20\n")?;
+    let mut bob = enter(rt, port, b"login bob t2 6 20\nhi")?;
+    let mut other = enter(rt, port, b"login bob t2 6 20\n")?;
+    are_shut_out(rt, office, &mut ann, &mut bob, &mut other)
 }
