@@ -10,7 +10,7 @@ mod turning;
 mod typing;
 
 pub use laws::{kill_stays, outcomes_are_lawful, settled_stays};
-pub use mgs_model::{OpenFault, SessionId};
+pub use mgs_model::{Keyed, OpenFault, SessionId};
 pub use mgs_world::Size;
 pub use secrecy::{hidden_act, hidden_text, purged};
 pub use server::Core;

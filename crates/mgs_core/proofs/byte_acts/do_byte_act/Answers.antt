@@ -1,9 +1,10 @@
-use Rattle.std.proofs.Common.{◌∙◌, true, ap}
+use Rattle.std.proofs.Common.{◌∙◌, true, ap, sym}
 use Rattle.std.proofs.lemmas.Result.{IfOk-weaker, on_err_weaker}
 use Rattle.mgs_model.specs.Apply.{outcome_in}
 use Rattle.mgs_laws.specs.Refusals.{may_be_refused}
 use Rattle.mgs_world.specs.Worlds.{state_at, world_of}
 use Rattle.mgs_core.specs.declared.byte_acts.ByteAct.{ByteAct}
+use Rattle.mgs_core.specs.declared.byte_acts.ByteAct.TheVariants.{Answer}
 use Rattle.mgs_core.specs.ByteActs.{model_act}
 use Rattle.mgs_core.proofs.Prompted.{answer_done, answer_may}
 use Rattle.mgs_core.proofs.Taken.{acted_byte_act, quit_quietly, replaced_may, replaced_quietly, skipped_quietly, sought_quietly, started_replacing}
@@ -25,15 +26,15 @@ returns-in-Act-clause-may g c =
 pub returns-in-Answer-clause-ok : goal.returns-in-Answer-clause-ok
 returns-in-Answer-clause-ok g c =
     IfOk-weaker c.answer.result _ _
-    (λ touched did id next place. answer_done touched _ _ _ _ id (state_at c.args.at c.args.sessions.now) c.args.before.now c.args.act c.asked-prompt.result.now c.in-Answer.argument c.question-question.result c.input-input.result.now
-    c.in-Answer.is c.asked-prompt.ensures c.question-question.ensures c.input-input.ensures.value (did id next place)) c.answer.ensures.ok
+    (λ touched did id next place. answer_done touched _ _ _ _ id (state_at c.args.at c.args.sessions.now) c.args.before.now c.args.act c.asked-prompt.result.now c.counted-count.result c.question-question.result c.input-input.result.now
+    (c.in-Answer.is ∙ ap Answer (sym c.counted-count.ensures)) c.asked-prompt.ensures c.question-question.ensures c.input-input.ensures.value (did id next place)) c.answer.ensures.ok
 
 pub returns-in-Answer-clause-may : goal.returns-in-Answer-clause-may
 returns-in-Answer-clause-may g c =
     on_err_weaker c.answer.result
     (λ may id next place.
-    answer_may (world_of c.args.directory.now c.args.buffers.now c.args.sessions.now next) id (state_at c.args.at c.args.sessions.now) c.args.before.now c.args.act c.asked-prompt.result.now c.in-Answer.argument c.question-question.result c.input-input.result.now
-    c.in-Answer.is c.asked-prompt.ensures c.question-question.ensures c.input-input.ensures.value (may id next place))
+    answer_may (world_of c.args.directory.now c.args.buffers.now c.args.sessions.now next) id (state_at c.args.at c.args.sessions.now) c.args.before.now c.args.act c.asked-prompt.result.now c.counted-count.result c.question-question.result c.input-input.result.now
+    (c.in-Answer.is ∙ ap Answer (sym c.counted-count.ensures)) c.asked-prompt.ensures c.question-question.ensures c.input-input.ensures.value (may id next place))
     c.answer.ensures.may
 
 pub returns-in-Seek-clause-ok : goal.returns-in-Seek-clause-ok
