@@ -6,7 +6,9 @@ mod buffers;
 mod keys;
 mod rights;
 mod screens;
+mod sockets;
 mod texts;
+mod world;
 
 use crate::keys::{byte_of, session_of, use_keys, use_prompt};
 use crate::rights::use_list;

@@ -1,8 +1,13 @@
 // Texts with marks, edits that are kept, and what is read of a text.
+ghost use Rattle.std.specs.Prelude.{◌≡◌, ◌<◌, ◌≤◌, ◌^◌, length, true};
+ghost use Rattle.mgs_edit.specs.Planned.{is_planned};
+ghost use Rattle.mgs_edit.specs.Reading.{IsWithin};
+
+use mgs_edit::{Around, Failure, Plan, plan_command};
 use mgs_gap::GapText;
 use mgs_lines::{column, forward_paragraph, forward_word, line_end, line_start};
 use mgs_marks::{Marked, PlainMarked};
-use mgs_model::{MarkId, Short, TEXT_LIMIT};
+use mgs_model::{Command, MarkId, Short, TEXT_LIMIT};
 use mgs_search::{find_backward, find_forward, matches_at};
 use mgs_text::{PlainText, Text};
 use mgs_undo::{Edit, Record};
@@ -65,4 +70,18 @@ pub(crate) fn use_record(alloc: Global) -> Result<u64, Short> {
     let _oldest: Option<Edit> = record.push(edit);
     let _item: Option<&Edit> = record.item(1);
     Ok(record.serial())
+}
+
+// What a command on a text comes to.
+fn use_plan<T: Text>(command: Command, text: &T, around: &Around) -> Option<Failure>
+    requires planned { is_planned command ≡ true }
+    requires place { around.now.place ≤ length (T.text text.now) }
+    requires mark { IsWithin (length (T.text text.now)) around.now.mark }
+    requires short { length (T.text text.now) < 2 ^ 32 }
+{
+    let planned: Result<Plan, Failure> = plan_command(command, text, around);
+    match planned {
+        Ok(Plan::Edits(_) | Plan::Moves(_)) => None,
+        Err(failure) => Some(failure),
+    }
 }
