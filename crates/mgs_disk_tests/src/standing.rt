@@ -59,12 +59,12 @@ impl<'a> Replaces for StandIn<'a> {
         self.try_step("create ", path.as_str())
     }
 
-    fn write(&mut self, room: &mut String, text: &[char]) -> io::Result<()> {
-        room.clear();
+    fn write(&mut self, _room: &mut String, text: &[char]) -> io::Result<()> {
+        let mut written = String::new(self.alloc);
         for c in text {
-            room.push(*c)?;
+            written.push(*c)?;
         }
-        self.try_step("write ", room.as_str())
+        self.try_step("write ", written.as_str())
     }
 
     fn give_group(&mut self) {
