@@ -44,7 +44,7 @@ expect "what was never proved is refused" "$(install "$work/a")" "1 install.sh: 
 (
     # shellcheck disable=SC2034
     top=$work/tree program=$built/mgd
-    eval "$(sed -n '/^crates_of_mgd()/,/^}/p; /^sum_of_sources()/,/^}/p; /^sum_of_program()/,/^}/p' "$work/tree/mgd")"
+    eval "$(sed -n '/^crates_below()/,/^}/p; /^sum_of_sources()/,/^}/p; /^sum_of_program()/,/^}/p' "$work/tree/mgd")"
     (sum_of_sources) > "$built/mgd.sources"
     sum_of_program > "$built/mgd.sum"
 )

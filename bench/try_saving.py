@@ -246,6 +246,41 @@ def try_nobody():
         server.end()
 
 
+def seen_of(stream, *words):
+    """What a session is sent until one of these words is among it."""
+    got = b""
+    while not any(word in got for word in words):
+        data = stream.recv(65536)
+        if not data:
+            break
+        got += data
+    return got
+
+
+def try_full_memory():
+    """Another user fills the memory that the server may have with undo items of a buffer of her own, until less is left than the text takes."""
+    with Folder() as folder:
+        text = "old\n" * 250_000
+        write(folder.at("a"), text)
+        write(folder.at("served.toml"), '[[user]]\nname = "ann"\nticket = "t"\n[[user]]\nname = "eve"\nticket = "e"\n'
+              f'[[buffer]]\nname = "b"\nowner = "ann"\nlist = ["ALLOW ann rwat"]\nfile = "{folder.at("a")}"\n'
+              '[[buffer]]\nname = "hers"\nowner = "eve"\nlist = ["ALLOW eve rwat"]\n')
+        server = Server(folder.path, folder.at("a"), before=lambda: resource.setrlimit(resource.RLIMIT_AS, (100 << 20, 100 << 20)))
+        with socket.create_connection(("127.0.0.1", server.port)) as ann, socket.create_connection(("127.0.0.1", server.port)) as eve:
+            ann.settimeout(60)
+            eve.settimeout(60)
+            ann.sendall(b"login ann t 6 40\nx")
+            seen_of(ann, b"**")
+            # Killed and yanked twice, a line becomes twice as long; killed and yanked once, it leaves an undo item.
+            eve.sendall(b"login eve e 6 40\n" + b"a" * 100 + b"\x01\x0b\x19\x19" * 13 + b"\x01\x0b\x19" * 100)
+            full = b"No memory" in seen_of(eve, b"No memory")
+            ann.sendall(b"\x18\x13")
+            got = seen_of(ann, b"Wrote b", b"No memory", b"Save failed")
+        seen = (full, b"Wrote b" in got, read(folder.at("a")) == "x" + text, folder.left())
+        server.end()
+    expect("with the memory full of another's undo items, a text is saved", seen == (True, True, True, []), seen)
+
+
 def main():
     for mode in (0o600, 0o640, 0o644, 0o666, 0o755):
         try_kept(mode)
@@ -254,6 +289,7 @@ def main():
     try_limit()
     try_read()
     try_closed_streams()
+    try_full_memory()
     if IS_ROOT:
         try_kept(0o640, (1234, 4321))
         try_full_disk()

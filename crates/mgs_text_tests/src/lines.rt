@@ -1,4 +1,5 @@
 // Lines and columns of a text.
+use crate::searches::cut_at;
 use mgs_lines::{column, column_place, indent_end, line_end, line_start, settled_top, width};
 use mgs_text::{PlainText, Text};
 use std::process::Abort;
@@ -58,6 +59,19 @@ fn parts_lines_and_counts_cells(rt: HostRuntime) -> Result<(), Fail> {
     for &(at, c, cells) in &WIDTHS {
         assert!(rt; width(at, c) == cells, "{c} at {at}");
     }
+    Ok(())
+}
+
+// Whether a text of 20 characters ends in this column.
+fn ends_in_column(text: &impl Text, cells: usize) -> bool {
+    text.len() == 20 && column(text, 20) == cells
+}
+
+// Columns are counted on where the characters of a line do not lie together.
+#[test]
+fn columns_go_on_behind_a_gap(rt: HostRuntime) -> Result<(), Fail> {
+    let text = cut_at(rt.alloc(), &['x'; 20], 10)?;
+    assert!(rt; ends_in_column(&text, 20));
     Ok(())
 }
 

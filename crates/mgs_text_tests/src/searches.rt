@@ -76,7 +76,7 @@ fn finds_matches(rt: HostRuntime) -> Result<(), Fail> {
     Ok(())
 }
 
-const TEXTS: [&[char]; 8] = [
+const TEXTS: [&[char]; 10] = [
     &[],
     &['a'],
     &['B', 'a'],
@@ -85,9 +85,11 @@ const TEXTS: [&[char]; 8] = [
     &['b', 'b', 'a', 'a', 'b', 'a', 'a', 'b', 'A'],
     &['[', '{', '@', '`', 'a', '['],
     &['\u{e9}', 'a', '\u{c9}', 'a', '\u{e9}', 'A'],
+    &['a', 'b', 'a', 'b', 'a', 'b', 'a', 'c'],
+    &['c', 'a', 'b', 'a', 'b', 'a', 'b', 'a'],
 ];
 
-const PATTERNS: [&[char]; 9] = [
+const PATTERNS: [&[char]; 11] = [
     &[],
     &['a'],
     &['B'],
@@ -97,6 +99,8 @@ const PATTERNS: [&[char]; 9] = [
     &['{'],
     &['`', 'A'],
     &['\u{e9}', 'a'],
+    &['a', 'b', 'a', 'b', 'a', 'c'],
+    &['c', 'a', 'b', 'a', 'b', 'a'],
 ];
 
 // The first place from one on where a pattern stands: each is tried in full.
@@ -147,8 +151,31 @@ fn searches_pass_over_no_match(rt: HostRuntime) -> Result<(), Fail> {
     Ok(())
 }
 
-// A text whose gap lies at a place, or at its end.
-fn cut_at(alloc: Global, chars: &[char], place: usize) -> Result<GapText, Short> {
+// So many `a` and this character.
+fn behind_letters(alloc: Global, count: usize, last: char) -> Result<Vec<char>, Short> {
+    let mut chars = Vec::new(alloc);
+    for _ in 0..count {
+        chars.push('a').map_err(|_| Short)?;
+    }
+    chars.push(last).map_err(|_| Short)?;
+    Ok(chars)
+}
+
+// Of a pattern of more than 120 characters the first 120 stand at 0 and 1 as well.
+#[test]
+fn long_patterns_are_found_behind_a_mismatch(rt: HostRuntime) -> Result<(), Fail> {
+    let chars = behind_letters(rt.alloc(), 122, 'b')?;
+    let pattern = behind_letters(rt.alloc(), 120, 'b')?;
+    let text = PlainText::of(rt.alloc(), &chars)?;
+    let one_on = find_forward(&text, 1.min(text.len()), &pattern);
+    assert!(rt; find_forward(&text, 0, &pattern) == Some(2));
+    assert!(rt; one_on == Some(2));
+    assert!(rt; find_backward(&text, text.len(), &pattern) == Some(2));
+    Ok(())
+}
+
+/// A text whose gap lies at a place, or at its end.
+pub(crate) fn cut_at(alloc: Global, chars: &[char], place: usize) -> Result<GapText, Short> {
     let mut text = GapText::of(alloc, chars)?;
     let cut = place.min(text.len());
     text.replace(cut, cut, &[])?;
