@@ -6,6 +6,7 @@ mod arranging;
 mod leaving;
 mod listing;
 mod resizing;
+mod room;
 mod showing;
 mod splitting;
 

@@ -10,6 +10,7 @@ ghost use Rattle.mgs_arrange.specs.Arranged.{run_ended};
 ghost use Rattle.mgs_arrange.specs.Arranging.{IsResized, Rearranged};
 ghost use Rattle.mgs_arrange.specs.Showing.{StandingAdded, is_shown, shown_in, standing, window_shows};
 
+use crate::room::reserve;
 use mgs_buffers::Buffers;
 use mgs_marks::Marked;
 use mgs_model::{Kind, Name, Short};
@@ -92,7 +93,7 @@ fn show_in_session<T: Marked + Drop>(
     // For what it says of the selected window.
     let _selected = session.windows.selected();
     let stood = standing(&session.windows, name);
-    session.windows.reserve()?;
+    reserve(buffers.alloc(), &mut session.windows)?;
     let window_marks = add_standing(buffers, name, stood)?;
     let before = session.windows.show(window_marks);
     drop_window_marks(buffers, before);

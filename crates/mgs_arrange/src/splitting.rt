@@ -7,6 +7,7 @@ ghost use Rattle.mgs_world.specs.Worlds.{session_of};
 ghost use Rattle.mgs_world.specs.WindowMarks.{WindowMarksDropped};
 ghost use Rattle.mgs_arrange.specs.Arranging.{IsArranged, IsCopied, IsResized, MayBeSplit, Rearranged};
 
+use crate::room::reserve;
 use mgs_buffers::Buffers;
 use mgs_marks::Marked;
 use mgs_model::{Message, Short, WINDOW_LIMIT};
@@ -54,7 +55,7 @@ pub fn split<T: Marked + Drop>(buffers: &mut Buffers<T>, session: &mut Session) 
         break_off(session, Message::TooManyWindows);
         return Ok(());
     }
-    session.windows.reserve()?;
+    reserve(buffers.alloc(), &mut session.windows)?;
     let shows = copy_shown(buffers, window.shows)?;
     session.windows.split(shows);
     Ok(())

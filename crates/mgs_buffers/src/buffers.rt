@@ -94,6 +94,11 @@ impl<T: Marked + Drop> Buffers<T> {
         }
     }
 
+    /// Where the buffers take their memory.
+    pub fn alloc(&self) -> Global {
+        self.alloc
+    }
+
     /// How many buffers there are.
     pub fn len(&self) -> usize
         ensures value { result ≡ length self.now }

@@ -37,6 +37,9 @@ pub enum EditFault {
 /// Why a user did not change an entry of a buffer's access list, in the order in which the faults are checked.
 #[derive(Clone, Copy, Debug, PartialEq, Eq, Error)]
 pub enum EntriesFault {
+    /// There is no such buffer.
+    #[error("there is no such buffer")]
+    NoBuffer,
     /// The list does not grant WRITE_ACL: what it decides, which is not `Granted`.
     #[error("denied")]
     Denied(Decision),
@@ -51,6 +54,9 @@ pub enum EntriesFault {
 /// Why a user did not change a buffer's owner or owning group, in the order in which the faults are checked.
 #[derive(Clone, Copy, Debug, PartialEq, Eq, Error)]
 pub enum OwnersFault {
+    /// There is no such buffer.
+    #[error("there is no such buffer")]
+    NoBuffer,
     /// The list does not grant WRITE_OWNER: what it decides, which is not `Granted`.
     #[error("denied")]
     Denied(Decision),
@@ -63,12 +69,15 @@ pub enum OwnersFault {
 }
 
 /// Why a user did not save a buffer, in the order in which the faults are checked.
-#[derive(Clone, Copy, PartialEq, Eq)]
+#[derive(Clone, Copy, Debug, PartialEq, Eq, Error)]
 pub enum SaveFault {
     /// The buffer's access list does not grant READ_DATA and WRITE_DATA: what it decides, which is not `Granted`.
+    #[error("denied")]
     Denied(Decision),
     /// The buffer has no file.
+    #[error("No file")]
     NoFile,
     /// The store could not save the text, and counted the fault.
+    #[error("Save failed")]
     Store,
 }

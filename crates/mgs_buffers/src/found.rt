@@ -1,7 +1,8 @@
 // One buffer that was looked up by its name, and what is asked of it.
-ghost use Rattle.std.specs.Prelude.{◌≡◌, ◌≤◌, find, length};
+ghost use Rattle.std.specs.Prelude.{◌≡◌, ◌≤◌, find, length, true};
 ghost use Rattle.std.specs.Option.{option_copied, option_map};
 ghost use Rattle.mgs_model.specs.World.{may};
+ghost use Rattle.mgs_model.specs.declared.entry.Decision.TheVariants.{Granted};
 ghost use Rattle.mgs_undo.specs.History.{has_serial};
 ghost use Rattle.mgs_undo.specs.Numbered.{item_of};
 ghost use Rattle.mgs_buffers.specs.Contents.{marked_of};
@@ -11,6 +12,7 @@ ghost use Rattle.mgs_buffers.specs.Permitting.{mask_decision, right_decision};
 
 use crate::buffer::Buffer;
 use crate::buffers::Buffers;
+use crate::judging::is_outright;
 use mgs_acl::Entry;
 use mgs_cache::Judge;
 use mgs_marks::Marked;
@@ -78,6 +80,17 @@ impl<'a, T: Marked + Drop> Found<'a, T> {
         ensures { result ≡ may directory.now user.now right (marked_at self.now.name self.now.all).buffer }
     {
         self.buffer().grants(directory, user, right)
+    }
+
+    /// Whether the buffer's access list is one of so few entries that a judge keeps nothing of it, and one walk over it grants all rights
+    /// of a mask. Where it is not, nothing is said.
+    pub fn grants_outright(&self, directory: &Directory, user: &Name, mask: Mask) -> bool
+        ensures { result ≡ true → mask_decision directory.now (marked_at self.now.name self.now.all).buffer user.now mask ≡ Granted }
+    {
+        if !is_outright(&self.buffer().list) {
+            return false;
+        }
+        self.decide_all(directory, user, mask) == Decision::Granted
     }
 
     /// What the buffer's access list decides on one right of a user (RFC 8881, section 6.2.1), by a judge that keeps what was

@@ -10,7 +10,12 @@ use mgs_model::{Decision, Mask, Name, Owners, Right};
 use mgs_policy::{Directory, decide_right};
 
 /// The most entries of a list that is decided outright, with nothing kept: to go through so few costs less than to find a decision.
-pub const OUTRIGHT_LIMIT: usize = 10;
+const OUTRIGHT_LIMIT: usize = 10;
+
+/// Whether a list is decided outright.
+pub(crate) fn is_outright(list: &List) -> bool {
+    list.len() <= OUTRIGHT_LIMIT
+}
 
 /// What a list decides on one right of a user, from what a judge keeps for a place or by deciding and keeping.
 pub(crate) fn judged(
@@ -26,7 +31,7 @@ pub(crate) fn judged(
     ensures value { result ≡ decision_by (decider directory.now owners.now user.now list.now) (right ∷ []) }
     ensures stays { StaysRight place directory.now owners.now list.now judge.old judge.new }
 {
-    if list.len() <= OUTRIGHT_LIMIT {
+    if is_outright(list) {
         return decide_right(list, owners, user, directory, right);
     }
     let group = owners.group.as_ref();

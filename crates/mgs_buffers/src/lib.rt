@@ -16,6 +16,5 @@ mod telling;
 pub use buffers::Buffers;
 pub use fault::{AddFault, EditFault, EntriesFault, OwnersFault, SaveFault};
 pub use found::Found;
-pub use judging::OUTRIGHT_LIMIT;
 pub use mgs_store::{Store, StoreFault};
 pub use telling::Attributes;

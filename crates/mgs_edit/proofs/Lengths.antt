@@ -1,15 +1,11 @@
 -- How many characters a plan puts in.
-use Rattle.std.proofs.Common.{◌≡◌, ℕ, zero, suc, ◌+◌, ◌-◌, ◌*◌, ◌≤◌, Bool, true, List, [], ◌∷◌, ◌++◌, length, drop, refl, ap, ◌∙◌, arith, length-append, length-drop, length-take}
-use Rattle.std.proofs.lemmas.List.{length-map}
+use Rattle.std.proofs.Common.{◌≡◌, ℕ, zero, suc, ◌+◌, ◌-◌, ◌*◌, ◌≤◌, List, ◌++◌, length, refl, ap, ◌∙◌, arith, length-append}
 use Rattle.std.specs.Prelude.{replicate, slice_range}
 use Rattle.std.specs.List.{repeat}
 use Rattle.std.proofs.Math.Nat.{suc-mul}
 use Rattle.std.proofs.lemmas.List.{length-replicate}
-use Rattle.std.specs.Char.{to_ascii_lowercase, to_ascii_uppercase}
-use Rattle.mgs_model.specs.Cases.{begins_word, capitalized_from}
-use Rattle.mgs_edit.specs.Reading.{put_read, PutWithin, cased}
-use Rattle.mgs_edit.specs.declared.plan.Case.{Case}
-use Rattle.mgs_edit.specs.declared.plan.Case.TheVariants.{Upper, Lower, Capitalized}
+use Rattle.mgs_fill.proofs.Lengths.{length_cased_range, length_range}
+use Rattle.mgs_edit.specs.Reading.{put_read, PutWithin}
 use Rattle.mgs_edit.specs.declared.plan.Put.{Put}
 use Rattle.mgs_edit.specs.declared.plan.Put.TheVariants.{Nothing, Character, KillBuffer, Indented, Exchanged, Cased, Filled}
 
@@ -30,21 +26,6 @@ length_repeat (suc n) xs =
     let rest : length (repeat n xs) ≡ n * length xs = length_repeat n xs in
     let all : suc n * length xs ≡ n * length xs + length xs = suc-mul n (length xs) in
     omega arith
-
-length_range : (xs : List ℕ) (a b : ℕ) → a ≤ b → b ≤ length xs → length (slice_range xs a b) ≡ b - a
-length_range xs a b h k = omega (arith, length-take (b - a) (drop a xs), length-drop a xs)
-
-length_capitalized : (begins : Bool) (xs : List ℕ) → length (capitalized_from begins xs) ≡ length xs
-length_capitalized begins [] = refl
-length_capitalized begins (x ∷ xs) = ap suc (length_capitalized (begins_word begins x) xs)
-
-length_cased : (case : Case) (xs : List ℕ) → length (cased case xs) ≡ length xs
-length_cased Upper xs = length-map xs to_ascii_uppercase
-length_cased Lower xs = length-map xs to_ascii_lowercase
-length_cased Capitalized xs = length_capitalized true xs
-
-pub length_cased_range : (case : Case) (xs : List ℕ) (a b : ℕ) → a ≤ b → b ≤ length xs → length (cased case (slice_range xs a b)) ≡ b - a
-length_cased_range case xs a b h k = length_cased case (slice_range xs a b) ∙ length_range xs a b h k
 
 length_put : (text kill : List ℕ) (p : Put) → PutWithin text p → length (put_read text kill p) ≡ put_length (length kill) p
 length_put text kill Nothing h = refl

@@ -1,6 +1,3 @@
 pub mod Lengths
-mod Stretches
-mod Regions
-mod Words
-mod Counts
+mod Rewrites
 mod Digits

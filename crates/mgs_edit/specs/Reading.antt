@@ -1,9 +1,8 @@
 -- What a plan says: each is read as a plan of the model, given the text and the kill buffer that it is for.
-use Rattle.std.specs.Prelude.{◌≡◌, ℕ, ◌+◌, ◌-◌, ◌≤◌, Bool, not, List, [], ◌++◌, length, nat_lt, replicate, slice_range, Option, Some, None, Result, Ok, Err, if◌then◌else◌}
+use Rattle.std.specs.Prelude.{◌≡◌, ℕ, ◌+◌, ◌-◌, ◌≤◌, Bool, List, [], ◌++◌, length, nat_lt, replicate, slice_range, Option, Some, None, Result, Ok, Err}
 use Rattle.std.specs.List.{repeat}
 use Rattle.mgs_model.specs.Outcome.{PointPlan, Keep_position, At, MarkPlan, Keep_mark, Mark_at, KillPlan, Keep_kill, Kill_is}
-use Rattle.mgs_model.specs.Whites.{is_between, refilled}
-use Rattle.mgs_model.specs.Cases.{uppercased, lowercased, capitalized}
+use Rattle.mgs_model.specs.Whites.{refilled}
 use Rattle.mgs_model.specs.Plans as model
 use Rattle.mgs_model.specs.World.{Item}
 use Rattle.mgs_model.specs.declared.limits.TheConstants.{TEXT_LIMIT}
@@ -11,6 +10,7 @@ use Rattle.mgs_model.specs.declared.message.Message.{Message}
 use Rattle.mgs_model.specs.declared.message.Message.TheVariants.{Silent}
 use Rattle.mgs_model.specs.declared.session.Kind.{Kind}
 use Rattle.mgs_model.specs.declared.session.Kind.TheVariants.{Other, Kill}
+use Rattle.mgs_fill.specs.Rewriting.{cased}
 use Rattle.mgs_edit.specs.declared.plan.Around.{Around}
 use Rattle.mgs_edit.specs.declared.plan.Goes.{Goes}
 use Rattle.mgs_edit.specs.declared.plan.Goes.TheVariants.{Stays, To, Behind}
@@ -19,8 +19,6 @@ use Rattle.mgs_edit.specs.declared.plan.Joins.TheVariants.{New, InFront}
 use Rattle.mgs_edit.specs.declared.plan.Joins.TheVariants as joins
 use Rattle.mgs_edit.specs.declared.plan.Piece.{Piece}
 use Rattle.mgs_edit.specs.declared.plan.Finish.{Finish}
-use Rattle.mgs_edit.specs.declared.plan.Case.{Case}
-use Rattle.mgs_edit.specs.declared.plan.Case.TheVariants.{Upper, Lower, Capitalized}
 use Rattle.mgs_edit.specs.declared.plan.Put.{Put}
 use Rattle.mgs_edit.specs.declared.plan.Put.TheVariants.{Nothing, Character, KillBuffer, Indented, Exchanged, Cased, Filled}
 use Rattle.mgs_edit.specs.declared.plan.Change.{Change}
@@ -37,11 +35,6 @@ abbrev pub undoing : Kind → List ℕ → ℕ → model.Around → model.Around
 undoing kind name serial rest = record rest { kind = kind; name = name; serial = serial }
 
 -- PLANS
-
-abbrev pub cased : Case → List ℕ → List ℕ
-cased Upper chars = uppercased chars
-cased Lower chars = lowercased chars
-cased Capitalized chars = capitalized chars
 
 abbrev pub put_read : List ℕ → List ℕ → Put → List ℕ
 put_read text kill Nothing = []
@@ -205,12 +198,3 @@ pub record LeavesBehind (f : Finish) : Type 0 where
   pub mark : f.mark ≡ None
   pub top : f.top ≡ None
   pub kill : f.kill ≡ None
-
--- FILLING: a character of a word
-abbrev pub is_in_word : ℕ → Bool
-is_in_word c = not (is_between c)
-
--- how many characters come in for one, behind a character of a word or behind another: a word has one before it that parts
--- it from the word before
-abbrev pub filled_by : Bool → ℕ → ℕ
-filled_by in_word c = if is_between c then 0 else if in_word then 1 else 2

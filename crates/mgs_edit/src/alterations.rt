@@ -5,16 +5,18 @@ ghost use Rattle.mgs_model.specs.declared.session.Alteration.TheVariants.{Delete
 ghost use Rattle.mgs_edit.specs.Reading.{ChangeWithin, IsWithin, deleted, killing, IsChange};
 
 use crate::around::{goes, is_at_end, is_at_start, joins_behind, joins_in_front, times};
-use crate::cases::{case_region, case_words};
-use crate::fills::fill_paragraph;
-use crate::plan::{Around, Case, Change, Finish, Joins, Piece, Put};
-use crate::whites::{delete_blank_lines, delete_horizontal_space, join_line, just_one_space};
+use crate::plan::{Around, Change, Finish, Joins, Piece, Put};
+use crate::rewriting::{given_of, planned};
+use mgs_fill::{
+    Case, case_region, case_words, delete_blank_lines, delete_horizontal_space, fill_paragraph,
+    join_line, just_one_space,
+};
 use mgs_lines::{backward_word, forward_word, kill_line_end};
 use mgs_model::{Alteration, Kind, Message};
 use mgs_text::Text;
 
 /// The characters between two positions are taken out, and the point stands where they were.
-pub(crate) fn deletion(from: usize, to: usize) -> Change
+fn deletion(from: usize, to: usize) -> Change
     ensures { result ≡ deleted from to }
 {
     Change {
@@ -169,6 +171,7 @@ pub fn alteration<T: Text>(
     ensures plan { IsChange (alteration command) around.now (T.text text.now) result }
     ensures within { (kill : List ℕ) → IfOk result (ChangeWithin (T.text text.now) kill) }
 {
+    let given = given_of(around);
     match command {
         Alteration::DeleteChar => delete_char(text, around),
         Alteration::DeleteBackwardChar => delete_backward_char(text, around),
@@ -177,15 +180,15 @@ pub fn alteration<T: Text>(
         Alteration::BackwardKillWord => kill_to_word_start(text, around),
         Alteration::KillRegion => kill_region(text, around),
         Alteration::TransposeChars => transpose_chars(text, around),
-        Alteration::UpcaseWord => case_words(text, around, Case::Upper),
-        Alteration::DowncaseWord => case_words(text, around, Case::Lower),
-        Alteration::CapitalizeWord => case_words(text, around, Case::Capitalized),
-        Alteration::UpcaseRegion => case_region(text, around, Case::Upper),
-        Alteration::DowncaseRegion => case_region(text, around, Case::Lower),
-        Alteration::JustOneSpace => Ok(just_one_space(text, around)),
-        Alteration::DeleteHorizontalSpace => Ok(delete_horizontal_space(text, around)),
-        Alteration::DeleteBlankLines => Ok(delete_blank_lines(text, around)),
-        Alteration::JoinLine => join_line(text, around),
-        Alteration::FillParagraph => Ok(fill_paragraph(text, around)),
+        Alteration::UpcaseWord => planned(case_words(text, &given, Case::Upper)),
+        Alteration::DowncaseWord => planned(case_words(text, &given, Case::Lower)),
+        Alteration::CapitalizeWord => planned(case_words(text, &given, Case::Capitalized)),
+        Alteration::UpcaseRegion => planned(case_region(text, &given, Case::Upper)),
+        Alteration::DowncaseRegion => planned(case_region(text, &given, Case::Lower)),
+        Alteration::JustOneSpace => planned(Ok(just_one_space(text, &given))),
+        Alteration::DeleteHorizontalSpace => planned(Ok(delete_horizontal_space(text, &given))),
+        Alteration::DeleteBlankLines => planned(Ok(delete_blank_lines(text, &given))),
+        Alteration::JoinLine => planned(join_line(text, &given)),
+        Alteration::FillParagraph => planned(Ok(fill_paragraph(text, &given))),
     }
 }

@@ -4,26 +4,24 @@
 
 mod alterations;
 mod around;
-mod cases;
 mod families;
-mod fills;
 mod insertions;
 mod motions;
 mod numbers;
 mod plan;
+mod rewriting;
 mod scrolling;
 mod sizes;
 mod undoing;
-mod whites;
 mod written;
 
 pub use alterations::alteration;
 pub use families::{Failure, Plan, plan_command};
-pub use fills::refill;
 pub use insertions::{insertion, reading_insertion};
+pub use mgs_fill::{Case, refill};
 pub use motions::motion;
 pub use numbers::line_wanted;
-pub use plan::{Around, Case, Change, Finish, Goes, Joins, Piece, Put, Undone};
+pub use plan::{Around, Change, Finish, Goes, Joins, Piece, Put, Undone};
 pub use scrolling::{scroll, scrolled_row};
 pub use sizes::{
     is_edit, is_kill_too_large, is_too_long, is_undo_an_edit, is_undo_too_long, put_len,

@@ -1,4 +1,5 @@
 // What a planner is given, and the plan that it answers.
+use mgs_fill::Case;
 use mgs_model::{Kind, Message};
 
 /// What a planner is given beside the text.
@@ -68,17 +69,6 @@ pub struct Finish {
     pub kind: Kind,
     /// What the echo text tells.
     pub told: Message,
-}
-
-/// The case that letters come in.
-#[derive(Clone, Copy, PartialEq, Eq)]
-pub enum Case {
-    /// Upper case for each.
-    Upper,
-    /// Lower case for each.
-    Lower,
-    /// Upper case for the first letter of each word, and lower case for the others.
-    Capitalized,
 }
 
 /// What is put in.

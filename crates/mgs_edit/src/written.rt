@@ -2,11 +2,11 @@
 ghost use Rattle.std.specs.Prelude.{◌≡◌, ◌≤◌, ◌-◌, ◌+◌, ◌++◌, length, replicate, slice_range, IfOk};
 ghost use Rattle.std.specs.List.{repeat};
 ghost use Rattle.mgs_model.specs.Whites.{refilled};
-ghost use Rattle.mgs_edit.specs.Reading.{put_read, PutWithin, cased};
+ghost use Rattle.mgs_fill.specs.Rewriting.{cased};
+ghost use Rattle.mgs_edit.specs.Reading.{put_read, PutWithin};
 
-use crate::cases::change_case;
-use crate::fills::refill;
-use crate::plan::{Case, Put};
+use crate::plan::Put;
+use mgs_fill::{Case, change_case, refill};
 use mgs_model::Short;
 use mgs_text::Text;
 use std::alloc::Global;

@@ -56,7 +56,8 @@ impl Store for Stand {
     }
 }
 
-fn users(alloc: Global, rt: &impl Abort) -> Directory {
+// ann, bob and cyn.
+pub(crate) fn users(alloc: Global, rt: &impl Abort) -> Directory {
     let mut directory = Directory::new(alloc);
     for &user in &["ann", "bob", "cyn"] {
         assert!(rt; directory.add_user(user).is_ok());

@@ -19,6 +19,8 @@ mod listing;
 #[cfg(test)]
 mod lockstep;
 #[cfg(test)]
+mod long_lists;
+#[cfg(test)]
 mod marks;
 #[cfg(test)]
 mod queues;

@@ -10,17 +10,22 @@ use mgs_marks::Marked;
 use mgs_model::SCRIPT_LIMIT;
 use std::alloc::Global;
 use std::io::{ErrorKind, Read, Write};
+use thiserror::Error;
 
-/// Why a replay ended.
-#[derive(Clone, Copy, PartialEq, Eq)]
+/// Why a replay ended. Printed as what `replay` tells on standard error.
+#[derive(Clone, Copy, Debug, PartialEq, Eq, Error)]
 pub enum ReplayFault {
     /// This line, counted from 1, is refused.
+    #[error("line {0}: refused")]
     Line(usize),
     /// Reading failed, or the script has more than 16,777,216 bytes.
+    #[error("read failed")]
     Read,
     /// Writing failed.
+    #[error("write failed")]
     Write,
     /// Out of memory.
+    #[error("no memory")]
     Short,
 }
 

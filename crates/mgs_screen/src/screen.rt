@@ -24,7 +24,7 @@ use crate::listing::draw_rows;
 use crate::measuring::measure;
 use crate::redrawing::redraw_pane;
 use crate::tab_stops::TabStop;
-use mgs_buffers::{Buffers, Found, OUTRIGHT_LIMIT};
+use mgs_buffers::{Buffers, Found};
 use mgs_cache::Judge;
 use mgs_grid::{Grid, RowSet};
 use mgs_marks::Marked;
@@ -77,14 +77,7 @@ const READS: u32 = 0x81;
 fn reads_all<T: Marked + Drop>(found: &Found<T>, directory: &Directory, user: &Name) -> bool
     ensures { result ≡ true → ReadsAll directory.now user.now (marked_at found.now.name found.now.all).buffer }
 {
-    if found.entries().len() > OUTRIGHT_LIMIT {
-        return false;
-    }
-    let reads = Mask::from_bits(READS);
-    match found.decide_all(directory, user, reads) {
-        Decision::Granted => true,
-        _ => false,
-    }
+    found.grants_outright(directory, user, Mask::from_bits(READS))
 }
 
 /// What may be seen of a buffer: whether it is modified, where its attributes may be read, and whether its text may be.

@@ -1,5 +1,6 @@
 // A script's line as a value.
 use mgs_model::Name;
+use thiserror::Error;
 
 /// What a script's line says. The texts are the script's own.
 #[derive(PartialEq, Eq, Drop)]
@@ -58,10 +59,12 @@ pub enum Line<'a> {
 }
 
 /// Why a line was not read.
-#[derive(Clone, Copy, PartialEq, Eq)]
+#[derive(Clone, Copy, Debug, PartialEq, Eq, Error)]
 pub enum LineFault {
     /// The line is refused.
+    #[error("refused")]
     Bad,
     /// Out of memory.
+    #[error("no memory")]
     Short,
 }

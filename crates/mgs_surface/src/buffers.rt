@@ -52,15 +52,14 @@ fn use_entries<T: Marked + Drop>(
     user: &Name,
     name: &Name,
     entry: Entry,
-) -> Option<Decision>
-    requires { HasBuffer name.now buffers.old }
-{
+) -> Option<Decision> {
     let inserted: Result<(), EntriesFault> = buffers.insert_entry_as(
         directory, user, name, 0, entry,
     );
     match inserted {
         Err(EntriesFault::Denied(decision)) => Some(decision),
-        Ok(()) | Err(EntriesFault::NoSuchEntry) | Err(EntriesFault::Full) => None,
+        Ok(()) => None,
+        Err(EntriesFault::NoBuffer | EntriesFault::NoSuchEntry | EntriesFault::Full) => None,
     }
 }
 
@@ -70,13 +69,12 @@ fn use_owner<T: Marked + Drop>(
     directory: &Directory,
     user: &Name,
     name: &Name,
-) -> Option<Decision>
-    requires { HasBuffer name.now buffers.old }
-{
+) -> Option<Decision> {
     let given: Result<(), OwnersFault> = buffers.give_to_user_as(directory, user, name, *user);
     match given {
         Err(OwnersFault::Denied(decision)) => Some(decision),
-        Ok(()) | Err(OwnersFault::NoSuchUser) | Err(OwnersFault::NoSuchGroup) => None,
+        Ok(()) => None,
+        Err(OwnersFault::NoBuffer | OwnersFault::NoSuchUser | OwnersFault::NoSuchGroup) => None,
     }
 }
 

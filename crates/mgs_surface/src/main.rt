@@ -3,6 +3,7 @@
 #![tactic(auto)]
 
 mod buffers;
+mod faults;
 mod keys;
 mod rights;
 mod screens;
@@ -10,6 +11,7 @@ mod sockets;
 mod texts;
 mod world;
 
+use crate::faults::use_faults;
 use crate::keys::{byte_of, session_of, use_keys, use_prompt};
 use crate::rights::use_list;
 use crate::screens::use_screen;
@@ -27,7 +29,8 @@ fn main(rt: HostRuntime) -> ExitCode {
     let closes = session_of(Event::Close { id: 1 }) == 1;
     let classes = is_word('a') && is_white(' ') && ARGUMENT_LIMIT == 9999;
     let keys = use_prompt() && byte_of(Key::Plain(b'a')).is_some();
-    let all = closes && classes && keys && use_list("ALLOW ann r").is_some();
+    let printed = matches!(use_faults(alloc), Ok(true));
+    let all = closes && classes && keys && printed && use_list("ALLOW ann r").is_some();
     let answers = match (argument, texts, serial, cursor) {
         (Ok(Some(7)), Ok(1), Ok(1), Ok((1, 1))) => all,
         _ => false,

@@ -4,10 +4,11 @@ ghost use Rattle.mgs_edit.specs.Planned.{is_planned};
 ghost use Rattle.mgs_edit.specs.Reading.{IsWithin};
 
 use mgs_edit::{Around, Failure, Plan, plan_command};
+use mgs_fill::{Case, Given, Rewrite, case_words, fill_paragraph, just_one_space};
 use mgs_gap::GapText;
 use mgs_lines::{column, forward_paragraph, forward_word, line_end, line_start};
 use mgs_marks::{Marked, PlainMarked};
-use mgs_model::{Command, MarkId, Short, TEXT_LIMIT};
+use mgs_model::{Command, MarkId, Message, Short, TEXT_LIMIT};
 use mgs_search::{find_backward, find_forward, matches_at};
 use mgs_text::{PlainText, Text};
 use mgs_undo::{Edit, Record};
@@ -84,4 +85,14 @@ fn use_plan<T: Text>(command: Command, text: &T, around: &Around) -> Option<Fail
         Ok(Plan::Edits(_) | Plan::Moves(_)) => None,
         Err(failure) => Some(failure),
     }
+}
+
+// A paragraph is filled, words come in upper case, and white becomes one space.
+fn use_fill<T: Text>(text: &T, given: &Given) -> bool
+    requires { given.now.place ≤ length (T.text text.now) }
+{
+    let filled: Rewrite = fill_paragraph(text, given);
+    let cased: Result<Rewrite, Message> = case_words(text, given, Case::Upper);
+    let spaced: Rewrite = just_one_space(text, given);
+    filled.from == spaced.from && cased.is_ok()
 }

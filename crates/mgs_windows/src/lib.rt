@@ -5,7 +5,7 @@
 mod places;
 mod without_buffer;
 
-ghost use Rattle.std.specs.Prelude.{◌≡◌, ◌≢◌, ◌-◌, ◌/◌, ◌+◌, ◌<◌, ◌≤◌, [], ◌∷◌, length, slice_get, vec_capacity, Some, OnOk, ◌^◌};
+ghost use Rattle.std.specs.Prelude.{◌≡◌, ◌≢◌, ◌-◌, ◌/◌, ◌+◌, ◌<◌, ◌≤◌, [], ◌∷◌, length, slice_get, vec_capacity, Some, ◌^◌};
 ghost use Rattle.mgs_model.specs.Apply.{change_at};
 ghost use Rattle.std.specs.Option.{option_map};
 ghost use Rattle.mgs_windows.specs.Panes.{WindowList, IsWindowList, closer, given, grown, height_at, left_by, list_without_buffer, lower_half, mark_set, marked, one_shown, places_after, rows_set, showing, showing_rows, shown_in, shows_at, shrunk, single_window, split_at, window_removed, window_rows_shown, window_shown, window_split, windows_without};
@@ -14,7 +14,7 @@ ghost use Rattle.mgs_windows.specs.declared.RowPane.TheVariants.{NoRows};
 use crate::places::put_place;
 use crate::without_buffer::{leave_places, leave_windows};
 use arrayvec::ArrayVec;
-use mgs_model::{MarkId, Name, Short};
+use mgs_model::{MarkId, Name};
 use std::marker::Model;
 
 /// A buffer in a window: the marks of the window's point, mark and top in the buffer's text.
@@ -291,15 +291,15 @@ fn closer(index: usize, selected: usize) -> usize
     }
 }
 
-/// Room for so many more places. `Short`: memory was refused.
-fn reserve_places(places: &mut Vec<WindowMarks>, more: usize) -> Result<(), Short>
-    ensures same { places.new.items ≡ places.old.items }
-    ensures room { OnOk result (length places.old.items + more ≤ vec_capacity places.new) }
-    ensures grows { vec_capacity places.old ≤ vec_capacity places.new }
+/// Puts the places into room that has none.
+fn fill_room(room: &mut Vec<WindowMarks>, places: &[WindowMarks])
+    requires none { room.old.items ≡ [] }
+    requires most { length places.now ≤ vec_capacity room.old }
+    ensures places { room.new.items ≡ places.now }
+    ensures capacity { vec_capacity room.new ≡ vec_capacity room.old }
 {
-    match places.reserve(more) {
-        Ok(()) => Ok(()),
-        Err(_) => Err(Short),
+    for place in places {
+        room.push_reserved(*place);
     }
 }
 
@@ -407,13 +407,29 @@ impl Windows {
         give_rows(&mut self.list, from, to, rows);
     }
 
-    /// Makes room for the place of one more window. `Short`: memory was refused, and all is as it was.
-    pub fn reserve(&mut self) -> Result<(), Short>
-        ensures same { self.new ≡ record self.old { capacity = self.new.capacity } }
-        ensures grows { self.old.capacity ≤ self.new.capacity }
-        ensures room { OnOk result (length self.old.places + shown_in self.old.windows + 1 ≤ self.new.capacity) }
+    /// How many places there is room for.
+    pub fn capacity(&self) -> usize
+        ensures { result ≡ self.now.capacity }
     {
-        reserve_places(&mut self.places, self.list.len() + 1)
+        self.places.capacity()
+    }
+
+    /// How many places there may be with one window more: those that there are, and one for each window.
+    pub fn places_wanted(&self) -> usize
+        ensures { length self.now.places + shown_in self.now.windows + 1 ≤ result }
+    {
+        self.places.len() + self.list.len() + 1
+    }
+
+    /// Puts the places into other room, in which there is none yet. It takes no memory; the room before is given back.
+    pub fn take_room(&mut self, room: Vec<WindowMarks>)
+        requires none { room.items ≡ [] }
+        requires most { length self.old.places + shown_in self.old.windows ≤ vec_capacity room }
+        ensures { self.new ≡ record self.old { capacity = vec_capacity room } }
+    {
+        let mut room = room;
+        fill_room(&mut room, self.places.as_slice());
+        self.places = room;
     }
 
     /// The selected window becomes two: the upper one has half of its rows and shows what it showed, the lower one has

@@ -29,7 +29,7 @@ drop_window_marks-requires g c =
     let within : x.windows.selected < length x.windows.windows = omega (arith, c.selected-selected.ensures.value, c.selected-selected.ensures.within) in
     let given : c.show-before.result ≡ given_up x = c.show-before.ensures.left ∙ ap (λ (w : WindowList). left_by (shows_at w.selected w.windows) w.places) c.reserve.ensures.same in
     subst (IsShownSound c.add_standing.new.buffers) (sym given)
-    (before_sound c.args.name.now _ _ c.reserve.new.self.capacity c.in_ok-window_marks.window_marks x c.args.buffers.now c.add_standing.new.buffers within c.requires.sound c.in_ok-window_marks.ensures.ok)
+    (before_sound c.args.name.now _ _ c.reserve.new.windows.capacity c.in_ok-window_marks.window_marks x c.args.buffers.now c.add_standing.new.buffers within c.requires.sound c.in_ok-window_marks.ensures.ok)
 
 pub returns : goal.returns
 returns g c =
@@ -39,7 +39,7 @@ returns g c =
     let ks = c.args.buffers.now in
     let ls = c.add_standing.new.buffers in
     let ms = c.drop_window_marks.new.buffers in
-    let capacity = c.reserve.new.self.capacity in
+    let capacity = c.reserve.new.windows.capacity in
     let within : x.windows.selected < length x.windows.windows = omega (arith, c.selected-selected.ensures.value, c.selected-selected.ensures.within) in
     let given : c.show-before.result ≡ given_up x = c.show-before.ensures.left ∙ ap (λ (w : WindowList). left_by (shows_at w.selected w.windows) w.places) c.reserve.ensures.same in
     let session : c.set_kind.new.session ≡ acted Other (shown_session capacity y x) =

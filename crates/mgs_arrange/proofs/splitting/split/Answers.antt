@@ -33,12 +33,12 @@ pub returns-clause-rearranged : goal.returns-clause-rearranged
 returns-clause-rearranged g c =
     let x : Session = c.args.session.now in
     subst (λ (w : WindowList). Rearranged c.args.buffers.now c.copy_shown.new.buffers x (record x { windows = w })) (sym (c.split.ensures ∙ ap (window_split c.in_ok-shows.shows) c.reserve.ensures.same))
-    (split_rearranged c.args.buffers.now c.copy_shown.new.buffers c.reserve.new.self.capacity c.in_ok-shows.shows x c.selected_window-window.result c.selected_window-window.ensures c.in_ok-shows.ensures.ok)
+    (split_rearranged c.args.buffers.now c.copy_shown.new.buffers c.reserve.new.windows.capacity c.in_ok-shows.shows x c.selected_window-window.result c.selected_window-window.ensures c.in_ok-shows.ensures.ok)
 
 pub returns-clause-arranged : goal.returns-clause-arranged
 returns-clause-arranged g c n =
     let x : Session = c.args.session.now in
     let s = session_of c.args.buffers.now x in
     ap (λ (w : WindowList). session_of c.copy_shown.new.buffers (record x { windows = w })) (c.split.ensures ∙ ap (window_split c.in_ok-shows.shows) c.reserve.ensures.same)
-    ∙ split_seen c.args.buffers.now c.copy_shown.new.buffers c.reserve.new.self.capacity c.in_ok-shows.shows x c.selected_window-window.result c.selected_window-window.ensures c.requires c.in_ok-shows.ensures.ok
+    ∙ split_seen c.args.buffers.now c.copy_shown.new.buffers c.reserve.new.windows.capacity c.in_ok-shows.shows x c.selected_window-window.result c.selected_window-window.ensures c.requires c.in_ok-shows.ensures.ok
     ∙ sym (ap (λ r. arranged_or_told r s) (may_split n c.args.buffers.now x c.selected_window-window.result c.selected_window-window.ensures (omega (arith, c.if-window-lt3.false)) (omega (arith, c.if-as_slice-ge-WINDOW_LIMIT.false, ap length c.as_slice.ensures.value))))

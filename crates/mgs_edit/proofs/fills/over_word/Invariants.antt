@@ -1,7 +1,0 @@
-use Rattle.std.proofs.Common.{◌≡◌}
-use Rattle.mgs_model.specs.Walks.{over}
-use Rattle.mgs_edit.specs.Reading.{is_in_word}
-use Rattle.mgs_edit.proofs.fills.over_word.Given as goal
-
-abbrev pub invariant-loop-i : goal.invariant-loop-i
-invariant-loop-i l = over is_in_word l.chars l.i ≡ over is_in_word l.chars l.at

@@ -1,0 +1,5 @@
+pub mod Lengths
+mod Stretches
+mod Regions
+mod Words
+mod Counts
