@@ -1,0 +1,9 @@
+//! The editing server's program, run with one word too many.
+#![tactic(auto)]
+
+use mgs_program::run;
+use std::process::ExitCode;
+
+fn main(rt: HostRuntime) -> ExitCode {
+    run(&rt)
+}

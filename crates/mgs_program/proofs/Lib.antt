@@ -1,0 +1,3 @@
+mod Replaying
+mod Serving
+mod Ending

@@ -1,0 +1,3 @@
+pub mod Replays
+pub mod Serves
+pub mod Endings
