@@ -39,11 +39,11 @@ fn spell_beside<R: RandomSource>(rt: &R, path: Path<'_>, beside: &mut String) ->
 
 /// Makes an empty file beside another, which this process alone may open: it is made where nothing has its name, no link either. Its
 /// path is spelled in the room that is lent.
-pub(crate) fn create_beside<R: fs::Files<File = File> + RandomSource>(
+pub(crate) fn create_beside<R: fs::Files + RandomSource>(
     rt: &R,
     path: Path<'_>,
     beside: &mut String,
-) -> io::Result<File> {
+) -> io::Result<R::File> {
     let mut how = OpenOptions::new();
     how.write(true).create_new(true).mode(PRIVATE);
     for _ in 0..TRIES {
@@ -59,7 +59,7 @@ pub(crate) fn create_beside<R: fs::Files<File = File> + RandomSource>(
 
 /// Waits until the disk has the names in a folder. Some file systems know no such call, and a folder may be closed to readers: then
 /// nothing is done.
-pub(crate) fn sync_names<R: fs::Files<File = File>>(rt: &R, folder: Path<'_>) {
+pub(crate) fn sync_names<R: fs::Files>(rt: &R, folder: Path<'_>) {
     if let Ok(folder) = File::open(rt, folder) {
         let _ = folder.sync_all();
     }

@@ -14,6 +14,7 @@ mod store;
 
 pub use disk::Disk;
 pub use files::FileStore;
+pub use kept::Gives;
 pub use load::{load_config, load_config_from};
 pub use opening::RegularFiles;
 pub use places::Finds;

@@ -2,12 +2,12 @@
 ghost use Rattle.std.specs.Prelude.{◌<◌, ◌↔◌, IsTrue};
 
 use crate::folder::{create_beside, sync_names};
-use crate::kept::{give_group, give_mode, give_owner, may_be_replaced};
+use crate::kept::{Gives, give_group, give_mode, give_owner, may_be_replaced};
 use crate::places::Finds;
 use libc::types::rlimit;
 use mgs_written::{Replaces, write_text};
 use std::alloc::AllocError;
-use std::fs::{self, File, Metadata};
+use std::fs::{self, Metadata, OpenFile};
 use std::io::{self, ErrorKind};
 use std::path::{Path, PathBuf};
 use std::random::RandomSource;
@@ -48,14 +48,14 @@ fn is_past_limit(len: u64) -> bool {
 /// The files of the disk that buffers are saved in. No save takes memory: the room for a new file's path is made at the start. What
 /// files hold is not known to proofs.
 #[derive(Drop)]
-pub struct DiskFiles<'a, R> {
+pub struct DiskFiles<'a, R: fs::Files> {
     rt: &'a R,
     beside: String,
-    new: Option<File>,
+    new: Option<R::File>,
     old: Option<Metadata>,
 }
 
-impl<'a, R: AllocGlobal> DiskFiles<'a, R> {
+impl<'a, R: fs::Files + AllocGlobal> DiskFiles<'a, R> {
     /// The files of the disk, of which none is replaced yet.
     pub fn new(rt: &'a R) -> Result<DiskFiles<'a, R>, AllocError> {
         Ok(DiskFiles {
@@ -86,7 +86,10 @@ fn none_made() -> io::Error {
     io::Error::from(ErrorKind::NotFound)
 }
 
-impl<'a, R: fs::Files<File = File> + RandomSource> Replaces for DiskFiles<'a, R> {
+impl<'a, R: fs::Files + RandomSource> Replaces for DiskFiles<'a, R>
+where
+    R::File: Gives,
+{
     ghost use Rattle.std.specs.Prelude.{None};
 
     ghost done = { λ files. None };

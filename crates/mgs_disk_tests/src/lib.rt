@@ -7,6 +7,8 @@ mod faulty;
 #[cfg(test)]
 mod files;
 #[cfg(test)]
+mod noting;
+#[cfg(test)]
 mod room;
 #[cfg(test)]
 mod saving;

@@ -24,8 +24,8 @@ pub(crate) struct Room<'a> {
     pub store: FileStore<DiskFiles<'a, Faulty<'a, HostRuntime>>>,
 }
 
-// Makes an empty folder of this name among the temporary files.
-fn make_folder(rt: &HostRuntime, name: &str) -> io::Result<PathBuf> {
+/// Makes an empty folder of this name among the temporary files.
+pub(crate) fn make_folder(rt: &HostRuntime, name: &str) -> io::Result<PathBuf> {
     let mut folder = env::temp_dir(rt)?;
     folder.push(name)?;
     let _ = fs::remove_dir_all(rt, folder.as_path());
