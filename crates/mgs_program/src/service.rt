@@ -1,14 +1,18 @@
 // A configuration that is served.
 ghost use Rattle.std.specs.Prelude.{◌≡◌, ◌≢◌, IfOk};
 ghost use Rattle.mgs_buffers.specs.MarkedBuffer.{AreUnmarked};
+ghost use Rattle.mgs_config.specs.World.{paths_of};
+ghost use Rattle.mgs_disk.specs.Places.{AreFound};
+ghost use Rattle.mgs_disk.specs.Saving.{places_in, rows_in, steps_of};
 ghost use Rattle.mgs_program.specs.Serves.{Serves, start_status};
 
 use mgs_command::{FAILED, NO_SOCKETS, tell};
-use mgs_config::{Config, ConfigFault, ConfigTable, TableFault};
+use mgs_config::{BufferFile, Config, ConfigFault, ConfigTable, TableFault};
 use mgs_disk::{DiskFiles, FileStore, Finds};
 use mgs_server::{ListenFault, Server};
 use mgs_store::Store;
 use mgs_written::Replaces;
+use std::alloc::{AllocError, Global};
 use std::fs::{self, File};
 use std::mem;
 use std::net::Net;
@@ -37,6 +41,20 @@ fn no_store() -> StartFault {
     })
 }
 
+// The store of these files, which are taken.
+fn store_of<D: Finds + Replaces + Drop>(
+    alloc: Global,
+    disk: D,
+    files: &mut Vec<BufferFile>,
+) -> Result<FileStore<D>, AllocError>
+    ensures named { IfOk result (λ store. rows_in store ≡ paths_of files.old.items) }
+    ensures found { IfOk result (λ store. AreFound (D.leads disk) (places_in store)) }
+    ensures untouched { IfOk result (λ store. steps_of D.done store ≡ D.done disk) }
+{
+    let taken = mem::replace(files, Vec::new(alloc));
+    FileStore::new(alloc, disk, taken)
+}
+
 /// Listens on a port of the loopback address, on one that the system chooses where it is 0, and serves a configuration, none of whose
 /// buffers has a mark in use, as of one that was read: its users log in by its tickets, its buffers stand as it has them, and each that
 /// has a file is saved there, by this disk. Logins are timed by the clock.
@@ -57,8 +75,7 @@ pub fn open_server<R: AllocGlobal + Net, D: Finds + Replaces + Drop, C: Clock + 
     ensures { IfOk result (λ server. Serves ⟦<FileStore<D> as Store>⟧.failed ⟦<FileStore<D> as Store>⟧.accepted (D.leads disk) D.done (D.done disk) config port server) }
 {
     let alloc = rt.alloc();
-    let files = mem::replace(&mut config.files, Vec::new(alloc));
-    let store = match FileStore::new(alloc, disk, files) {
+    let store = match store_of(alloc, disk, &mut config.files) {
         Ok(store) => store,
         Err(_) => return Err(no_store()),
     };

@@ -4,6 +4,5 @@ use Rattle.mgs_program.proofs.service.open_server.Goals as goal
 
 pub returns-in-Ok-listen : goal.returns-in-Ok-listen
 returns-in-Ok-listen g c =
-    let named = rw c.replace-files.ensures.value at c.in-Ok.ensures.named in
     served c.in-Ok.store (λ store. store.faults) (λ store. None) (g.D.Finds.leads c.args.disk) g.D.Replaces.done (g.D.Replaces.done c.args.disk) c.args.config c.args.port c.in-Ok-listen.server
-    named c.in-Ok.ensures.found c.in-Ok.ensures.none c.in-Ok-listen.ensures.serving c.in-Ok-listen.ensures.tickets c.in-Ok-listen.ensures.peers c.in-Ok-listen.ensures.port
+    c.in-Ok.ensures.named c.in-Ok.ensures.found c.in-Ok.ensures.untouched c.in-Ok-listen.ensures.serving c.in-Ok-listen.ensures.tickets c.in-Ok-listen.ensures.peers c.in-Ok-listen.ensures.port
