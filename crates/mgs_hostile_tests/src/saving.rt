@@ -1,5 +1,6 @@
 // Saves: what a store is asked to take, and stores that fail once.
 use crate::fixtures::comes_out;
+use crate::refusing::Refusing;
 use crate::store::Takes;
 use mgs_marks::PlainMarked;
 use std::test::Fail;
@@ -44,5 +45,19 @@ fn the_text_of_the_buffer_is_saved(rt: HostRuntime) -> Result<(), Fail> {
         1 C-_ C-x C-s | Done | x | ----notes-L1-C1 | Wrote notes
         1 C-x C-f 'other RET 'x C-x C-s | Done | x | -**-other-L1-C1 | No file
     ";
-    comes_out::<PlainMarked>(&rt, rt.alloc(), NOTES, Takes::OneText, &["ann"], steps)
+    comes_out::<PlainMarked>(&rt, rt.alloc(), NOTES, Takes::Text("x"), &["ann"], steps)
+}
+
+// Whatever is refused from then on, and as often: the two growths of a window's marks and that of the first letter are had before.
+#[test]
+fn a_save_needs_no_growth(rt: HostRuntime) -> Result<(), Fail> {
+    let text = "notes ann | ALLOW ann rwat | 49abc";
+    let steps = "
+        1 'x      | Done  | x49abc | -**-notes-L1-C1 |
+        1 'y      | Short | x49abc | -**-notes-L1-C1 | No memory
+        1 C-x C-s | Done  | x49abc | ----notes-L1-C1 | Wrote notes
+        1 'y      | Short | x49abc | ----notes-L1-C1 | No memory
+    ";
+    let takes = Takes::Text("x49abc");
+    comes_out::<Refusing<0>>(&rt, rt.alloc(), text, takes, &["ann"], steps)
 }

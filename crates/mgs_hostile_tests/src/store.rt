@@ -8,8 +8,8 @@ pub(crate) enum Takes {
     Nothing,
     /// All but the one that so many come before.
     AllBut(usize),
-    /// The text `x` of the buffer `notes`.
-    OneText,
+    /// This text of the buffer `notes`.
+    Text(&'static str),
 }
 
 /// A store that takes some saves and keeps nothing.
@@ -18,6 +18,15 @@ pub(crate) struct Shelf {
     takes: Takes,
     saves: usize,
     faults: u64,
+}
+
+fn is_text(text: &[char], wanted: &str) -> bool {
+    for (at, c) in wanted.chars().enumerate() {
+        if text.get(at) != Some(&c) {
+            return false;
+        }
+    }
+    text.len() == wanted.chars().count()
 }
 
 impl Shelf {
@@ -33,7 +42,7 @@ impl Shelf {
         match self.takes {
             Takes::Nothing => false,
             Takes::AllBut(before) => self.saves != before,
-            Takes::OneText => name == "notes" && matches!(text, ['x']),
+            Takes::Text(wanted) => name == "notes" && is_text(text, wanted),
         }
     }
 }
