@@ -31,24 +31,25 @@ fn a_kill_has_a_limit(rt: HostRuntime) -> Result<(), Fail> {
     comes_out::<PlainMarked>(&rt, rt.alloc(), line, Takes::Nothing, &["ann"], steps)
 }
 
-// The longest text is put in, saved, killed and yanked; a kill grows behind a long one; a macro replaces; and so is a character of four
-// bytes. The buffer has a file.
+// The longest text is saved, killed, yanked and saved again; a kill grows behind a long one; a macro replaces; and a character of four bytes
+// is put in. The buffer has a file. An argument is 9,999 at most, so the text is there from the start.
 #[test]
 fn what_is_within_the_limits_is_done(rt: HostRuntime) -> Result<(), Fail> {
+    let line = long(rt.alloc(), 1_048_574)?;
     let steps = "
-        1 C-u '1048576 'a C-a | Done | aaaaaaaaaaaaaaaaaaaaaaaaaaaaaaaaaaaaaaa$ | -**-notes-L1-C0 |
-        1 C-x C-s  | Done | aaaaaaaaaaaaaaaaaaaaaaaaaaaaaaaaaaaaaaa$ | ----notes-L1-C0 | Wrote notes
-        1 C-k      | Done |  | -**-notes-L1-C0 |
-        1 C-y C-a  | Done | aaaaaaaaaaaaaaaaaaaaaaaaaaaaaaaaaaaaaaa$ | -**-notes-L1-C0 |
-        1 C-k      | Done |  | -**-notes-L1-C0 |
-        1 C-u '70000 'a RET 'b M-< C-k C-k | Done | b | -**-notes-L1-C0 |
+        1 M-> RET 'b M-< | Done | aaaaaaaaaaaaaaaaaaaaaaaaaaaaaaaaaaaaaaa$/b | -**-notes-L1-C0 |
+        1 C-x C-s  | Done | aaaaaaaaaaaaaaaaaaaaaaaaaaaaaaaaaaaaaaa$/b | ----notes-L1-C0 | Wrote notes
+        1 C-SPC M-> C-w | Done |  | -**-notes-L1-C0 |
+        1 C-y M-<  | Done | aaaaaaaaaaaaaaaaaaaaaaaaaaaaaaaaaaaaaaa$/b | -**-notes-L1-C0 |
+        1 C-x C-s  | Done | aaaaaaaaaaaaaaaaaaaaaaaaaaaaaaaaaaaaaaa$/b | ----notes-L1-C0 | Wrote notes
+        1 C-k C-k  | Done | b | -**-notes-L1-C0 |
         1 C-x '( M-< M-% 'b RET 'a RET '! C-x ') C-a | Done | a | -**-notes-L1-C0 |
         1 'b C-x 'e C-a | Done | aa | -**-notes-L1-C0 |
         1 '𝐀 DEL | Done | aa | -**-notes-L1-C0 |
     ";
-    let notes = "notes ann | ALLOW ann rwat |";
     let takes = Takes::AllBut(9);
-    comes_out::<PlainMarked>(&rt, rt.alloc(), notes, takes, &["ann"], steps)
+    let line = line.as_str();
+    comes_out::<PlainMarked>(&rt, rt.alloc(), line, takes, &["ann"], steps)
 }
 
 // Whether as many sessions as there may be open at terminals of the largest size.
