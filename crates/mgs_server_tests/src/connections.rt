@@ -179,7 +179,7 @@ enum Case {
     Idle,
     /// Keys beside new connections.
     Keys,
-    /// Three of whom two are shut out.
+    /// As many as there may be, of whom all but one are shut out.
     Shut,
     /// Two who share a text, and a third who is not let in.
     Together,
@@ -231,7 +231,7 @@ const CASES: [(Case, &str); 8] = [
     (Case::Keys, "a key beside a new connection is handled"),
     (
         Case::Shut,
-        "each who is shut out sees it without a key of his own",
+        "each of 63 who are shut out sees it without a key of his own",
     ),
     (
         Case::Together,

@@ -96,3 +96,28 @@ pub(crate) fn both_show(
     }
     Ok(false)
 }
+
+// Takes what came to each of these terminals, and whether all then show this screen.
+fn all_take(alloc: Global, terminals: &mut Vec<Terminal>, wanted: &str) -> Result<bool, Fail> {
+    let mut all_show = true;
+    for terminal in terminals.iter_mut() {
+        all_show &= takes(alloc, terminal, wanted)?;
+    }
+    Ok(all_show)
+}
+
+/// Whether all of these terminals come to show this screen at once, while the server turns.
+pub(crate) fn all_show(
+    alloc: Global,
+    office: &mut Office<'_>,
+    terminals: &mut Vec<Terminal>,
+    wanted: &str,
+) -> Result<bool, Fail> {
+    for _ in 0..TURNS {
+        turn(office)?;
+        if all_take(alloc, terminals, wanted)? {
+            return Ok(true);
+        }
+    }
+    Ok(false)
+}

@@ -1,6 +1,6 @@
 // Users at one text, and one who is not let in.
 use crate::office::Office;
-use crate::screens::{both_show, comes_to_show};
+use crate::screens::{all_show, both_show, comes_to_show};
 use crate::terminal::{Terminal, enter, is_closed, press};
 use std::test::Fail;
 
@@ -94,27 +94,40 @@ const SHUT_OUT: &str = "|[no read: no entry] |\n\
 // Ann takes the entry of bob away.
 const SHUTS: &[u8] = b"\x152\x1bxacl-delete\r";
 
-// Whether bob's two terminals show that he is shut out, once ann has taken his entry away. He sends nothing.
+// So many sessions of bob are there beside the one that types, and with ann's they are as many as there may be.
+const OTHERS: usize = 62;
+
+// Bob once more, so many times.
+fn enter_others(rt: &HostRuntime, port: u16) -> Result<Vec<Terminal>, Fail> {
+    let mut others = Vec::new(rt.alloc());
+    for _ in 0..OTHERS {
+        let one = enter(rt, port, b"login bob t2 6 20\n")?;
+        others.push(one)?;
+    }
+    Ok(others)
+}
+
+// Whether all of bob's terminals show that he is shut out, once ann has taken his entry away. He sends nothing.
 fn are_shut_out(
     rt: &HostRuntime,
     office: &mut Office<'_>,
     ann: &mut Terminal,
     bob: &mut Terminal,
-    other: &mut Terminal,
+    others: &mut Vec<Terminal>,
 ) -> Result<bool, Fail> {
     let is_first_in = comes_to_show(rt.alloc(), office, bob, BOBS)?;
-    let is_other_in = comes_to_show(rt.alloc(), office, other, ANNS)?;
+    let are_others_in = all_show(rt.alloc(), office, others, ANNS)?;
     press(ann, SHUTS)?;
     let is_first_out = comes_to_show(rt.alloc(), office, bob, SHUT_OUT)?;
-    let is_other_out = comes_to_show(rt.alloc(), office, other, SHUT_OUT)?;
-    Ok(is_first_in && is_other_in && is_first_out && is_other_out)
+    let are_others_out = all_show(rt.alloc(), office, others, SHUT_OUT)?;
+    Ok(is_first_in && are_others_in && is_first_out && are_others_out)
 }
 
-/// Whether all who are shut out see that without a key of their own: three are there, and two of them are.
+/// Whether all who are shut out see that without a key of their own: 64 are there, and 63 of them are.
 pub(crate) fn are_all_shut_out(rt: &HostRuntime, office: &mut Office<'_>) -> Result<bool, Fail> {
     let port = office.port();
     let mut ann = enter(rt, port, b"login ann t1 6 20\n")?;
     let mut bob = enter(rt, port, b"login bob t2 6 20\nhi")?;
-    let mut other = enter(rt, port, b"login bob t2 6 20\n")?;
-    are_shut_out(rt, office, &mut ann, &mut bob, &mut other)
+    let mut others = enter_others(rt, port)?;
+    are_shut_out(rt, office, &mut ann, &mut bob, &mut others)
 }
