@@ -1,7 +1,6 @@
 -- The gap moves to the text's end, and no mark with it.
-use Rattle.std.proofs.Common.{◌≡◌, ℕ, ◌+◌, ◌-◌, ◌≤◌, List, ◌++◌, Option, map, take, drop, length, subst, sym, ap, ap₂, ◌∙◌, arith, length-append}
+use Rattle.std.proofs.Common.{◌≡◌, ℕ, ◌+◌, ◌-◌, ◌≤◌, List, Option, map, subst, sym, ap, ap₂, ◌∙◌, arith}
 use Rattle.std.proofs.lemmas.Bool.Decides.{nat_tests}
-use Rattle.std.proofs.lemmas.List.{length-map, take_at}
 use Rattle.std.specs.Option.{option_map}
 use Rattle.mgs_model.specs.Text.{shift}
 use Rattle.mgs_marks.specs.Marks.{position_in}
@@ -18,15 +17,11 @@ marks_still n g e m h xs within =
     map_map (text_place m h) (moved n g e e 0 m h) xs
     ∙ map_same (λ p. text_place m h (moved n g e e 0 m h p)) (text_place n g) xs (λ i. text_of_raw m h (shift e e 0 (text_place n g (position_in xs i))) ∙ shift_still e (text_place n g (position_in xs i)) (within i))
 
--- what the walk over the places leaves, by the vector's items
-pub places_moved : (n' g' m' h' e' n g e m h count : ℕ) (xs ys ns : List (Option ℕ)) → n' ≡ n → g' ≡ g → m' ≡ m → h' ≡ h → e' ≡ e → ys ≡ xs → count ≡ length xs
-    → ns ≡ map (option_map (moved n' g' e' e' 0 m' h')) ys → take count (ns ++ drop (length ns) xs) ≡ map (option_map (moved n g e e 0 m h)) xs
-places_moved n' g' m' h' e' n g e m h count xs ys ns en eg em eh ee ex long is =
-    let gone : ns ≡ map (option_map (moved n g e e 0 m h)) xs =
-    is ∙ ap₂ (λ x y. map (option_map (moved x y e' e' 0 m' h')) ys) en eg ∙ ap₂ (λ x y. map (option_map (moved n g e' e' 0 x y)) ys) em eh
-    ∙ ap (λ x. map (option_map (moved n g x x 0 m h)) ys) ee ∙ ap (λ zs. map (option_map (moved n g e e 0 m h)) zs) ex in
-    let size : length ns ≡ count = ap (λ (l : List (Option ℕ)). length l) gone ∙ length-map xs (option_map (moved n g e e 0 m h)) ∙ sym long in
-    take_at ns (drop (length ns) xs) count size ∙ gone
+-- what the walk over the marks left, by the gap's place and width and the text's end before and after it
+pub places_moved : (n' g' m' h' e' n g e m h : ℕ) (xs ns : List (Option ℕ)) → n' ≡ n → g' ≡ g → m' ≡ m → h' ≡ h → e' ≡ e → ns ≡ map (option_map (moved n' g' e' e' 0 m' h')) xs → ns ≡ map (option_map (moved n g e e 0 m h)) xs
+places_moved n' g' m' h' e' n g e m h xs ns en eg em eh ee is =
+    is ∙ ap₂ (λ x y. map (option_map (moved x y e' e' 0 m' h')) xs) en eg ∙ ap₂ (λ x y. map (option_map (moved n g e' e' 0 x y)) xs) em eh
+    ∙ ap (λ x. map (option_map (moved n g x x 0 m h)) xs) ee
 
 pub still_raw : (n g e m h : ℕ) (xs zs : List (Option ℕ)) → ((i : ℕ) → text_place n g (position_in xs i) ≤ e) → zs ≡ map (option_map (moved n g e e 0 m h)) xs → (i : ℕ) → IsRaw m h (position_in zs i)
 still_raw n g e m h xs zs within is i = subst (λ (ys : List (Option ℕ)). IsRaw m h (position_in ys i)) (sym is) (moved_raw n g e e 0 m h e xs (omega arith) (omega arith) within i)

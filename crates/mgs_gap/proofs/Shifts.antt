@@ -14,6 +14,13 @@ text_of_raw n g m = grind (arith, nat_tests)
 pub is_raw : (n g m : ℕ) → IsRaw n g (raw_place n g m)
 is_raw n g m = ap (raw_place n g) (text_of_raw n g m)
 
+-- the first place, which stands for a mark that is not there
+pub raw_zero : (n g : ℕ) → IsRaw n g 0
+raw_zero n g = grind (arith, nat_tests)
+
+pub zero_within : (n g len : ℕ) → text_place n g 0 ≤ len
+zero_within n g len = grind (arith, nat_tests)
+
 -- an insertion of k characters at the gap moves no mark
 pub insertion_text : (n g k p : ℕ) → k ≤ g → IsRaw n g p → text_place (n + k) (g - k) p ≡ shift n n k (text_place n g p)
 insertion_text n g k p h e = grind (arith, nat_tests)

@@ -10,11 +10,12 @@ use crate::block::Block;
 use crate::feeds::Feeds;
 use crate::lined::{edit_lined, gather_lined};
 use crate::places::{
-    Gap, Splice, count_used, free_slot, leaves_marks, move_places, to_raw, to_text,
+    Gap, Splice, add_place, leaves_marks, move_places, place_of, put_place, to_raw, to_text,
 };
 use mgs_marks::Marked;
 use mgs_model::{MarkId, Short};
 use mgs_text::Text;
+use slab::Slab;
 use std::alloc::Global;
 
 /// A text with marks in one block of memory with a gap. An edit at the gap moves no other character, and an insertion
@@ -24,11 +25,11 @@ use std::alloc::Global;
 pub struct GapText {
     block: Block,
     feeds: Feeds,
-    places: Vec<Option<usize>>,
+    places: Slab<usize>,
     alloc: Global,
     ghost lines: { (AreFeeds feeds.before.items feeds.after.items block.front block.back) × (length feeds.before.items + length feeds.after.items ≤ vec_capacity feeds.before) },
-    ghost raw: { (i : ℕ) → IsRaw (length block.front) block.gap (position_in places.items i) },
-    ghost within: { (i : ℕ) → text_place (length block.front) block.gap (position_in places.items i) ≤ length (text_of block) },
+    ghost raw: { (i : ℕ) → IsRaw (length block.front) block.gap (position_in places.slots i) },
+    ghost within: { (i : ℕ) → text_place (length block.front) block.gap (position_in places.slots i) ≤ length (text_of block) },
 }
 
 impl GapText {
@@ -75,7 +76,7 @@ impl Text for GapText {
 
     ghost together = { λ t. t.block.back ≡ [] };
 
-    ghost marks = { λ t. marks_at (length t.block.front) t.block.gap t.places.items };
+    ghost marks = { λ t. marks_at (length t.block.front) t.block.gap t.places.slots };
 
     fn of(alloc: Global, chars: &[char]) -> Result<Self, Short> {
         let feeds = Feeds::of(alloc, chars)?;
@@ -83,7 +84,7 @@ impl Text for GapText {
         Ok(GapText {
             block,
             feeds,
-            places: Vec::new(alloc),
+            places: Slab::new(alloc),
             alloc,
         })
     }
@@ -168,28 +169,27 @@ impl Marked for GapText {
         let gap = self.gap();
         // The block's size bounds every place in it.
         let _size = self.block.after();
-        let id = free_slot(&mut self.places)?;
-        self.places[id] = Some(to_raw(gap, p));
+        let id = add_place(&mut self.places, to_raw(gap, p))?;
         Ok(MarkId::of(id))
     }
 
     fn pos(&self, id: MarkId) -> usize {
-        to_text(self.gap(), self.places[id.slot()].unwrap_or(0))
+        to_text(self.gap(), place_of(&self.places, id.slot()))
     }
 
     fn place(&mut self, id: MarkId, p: usize) {
         // The block's size bounds every place in it.
         let _size = self.block.after();
         let place = to_raw(self.gap(), p);
-        self.places[id.slot()] = Some(place);
+        put_place(&mut self.places, id.slot(), place);
     }
 
     fn drop_mark(&mut self, id: MarkId) {
-        self.places[id.slot()] = None;
+        self.places.remove(id.slot());
     }
 
     #[tactic(auto, using(crate::proofs::Marks::count_moved))]
     fn mark_count(&self) -> usize {
-        count_used(&self.places)
+        self.places.len()
     }
 }

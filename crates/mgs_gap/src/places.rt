@@ -1,11 +1,13 @@
 // Raw places and places in the text.
-ghost use Rattle.std.specs.Prelude.{◌≡◌, ℕ, ◌+◌, ◌-◌, ◌<◌, ◌≤◌, ◌^◌, ◌↔◌, Option, None, map, length, count_by, is_some, IsTrue, IfOk, OnErr};
+ghost use Rattle.std.specs.Prelude.{◌≡◌, ◌≢◌, ℕ, ◌+◌, ◌<◌, ◌≤◌, ◌^◌, ◌↔◌, Some, None, map, length, slice_set, IsSome, IsTrue, IfOk, OnErr};
 ghost use Rattle.std.specs.Option.{option_map};
+ghost use Rattle.slab.specs.Slab.{get};
 ghost use Rattle.mgs_model.specs.Text.{shift};
 ghost use Rattle.mgs_marks.specs.Marks.{mark_in, position_in, or_zero};
 ghost use Rattle.mgs_gap.specs.RawPlaces.{text_place, raw_place, IsRaw, moved};
 
 use mgs_model::Short;
+use slab::Slab;
 
 /// Where the gap lies.
 #[derive(Clone, Copy)]
@@ -66,58 +68,70 @@ fn shifted(p: usize, edit: Splice) -> usize
     }
 }
 
-fn place_moved(place: Option<usize>, old: Gap, edit: Splice, new: Gap) -> Option<usize>
+fn moved_place(place: usize, old: Gap, edit: Splice, new: Gap) -> usize
     requires order { edit.from ≤ edit.to }
-    requires raw { IsRaw old.start old.width (or_zero place) }
-    requires fits { text_place old.start old.width (or_zero place) + edit.count < 2 ^ 64 }
-    requires stays { shift edit.from edit.to edit.count (text_place old.start old.width (or_zero place)) + new.width < 2 ^ 64 }
-    ensures { result ≡ option_map (moved old.start old.width edit.from edit.to edit.count new.start new.width) place }
+    requires raw { IsRaw old.start old.width place }
+    requires fits { text_place old.start old.width place + edit.count < 2 ^ 64 }
+    requires stays { shift edit.from edit.to edit.count (text_place old.start old.width place) + new.width < 2 ^ 64 }
+    ensures { result ≡ moved old.start old.width edit.from edit.to edit.count new.start new.width place }
 {
-    Some(to_raw(new, shifted(to_text(old, place?), edit)))
+    to_raw(new, shifted(to_text(old, place), edit))
+}
+
+// Moves the mark of one slot, if it is in use.
+fn move_place(places: &mut Slab<usize>, id: usize, old: Gap, edit: Splice, new: Gap)
+    requires order { edit.from ≤ edit.to }
+    requires raw { IsRaw old.start old.width (or_zero (get places.old id)) }
+    requires fits { text_place old.start old.width (or_zero (get places.old id)) + edit.count < 2 ^ 64 }
+    requires stays { shift edit.from edit.to edit.count (text_place old.start old.width (or_zero (get places.old id))) + new.width < 2 ^ 64 }
+    ensures moved { get places.new id ≡ option_map (moved old.start old.width edit.from edit.to edit.count new.start new.width) (get places.old id) }
+    ensures others { (k : ℕ) → k ≢ id → get places.new k ≡ get places.old k }
+    ensures len { length places.new.slots ≡ length places.old.slots }
+{
+    if let Some(place) = places.get_mut(id) {
+        *place = moved_place(*place, old, edit, new);
+    }
 }
 
 // Moves every mark over an edit that took the gap from `old` to `new`.
-pub(crate) fn move_places(places: &mut [Option<usize>], old: Gap, edit: Splice, new: Gap)
+pub(crate) fn move_places(places: &mut Slab<usize>, old: Gap, edit: Splice, new: Gap)
     requires order { edit.from ≤ edit.to }
-    requires raw { (i : ℕ) → IsRaw old.start old.width (position_in places.old i) }
-    requires fits { (i : ℕ) → text_place old.start old.width (position_in places.old i) + edit.count < 2 ^ 64 }
-    requires stays { (i : ℕ) → shift edit.from edit.to edit.count (text_place old.start old.width (position_in places.old i)) + new.width < 2 ^ 64 }
-    ensures { places.new ≡ map (option_map (moved old.start old.width edit.from edit.to edit.count new.start new.width)) places.old }
+    requires raw { (i : ℕ) → IsRaw old.start old.width (position_in places.old.slots i) }
+    requires fits { (i : ℕ) → text_place old.start old.width (position_in places.old.slots i) + edit.count < 2 ^ 64 }
+    requires stays { (i : ℕ) → shift edit.from edit.to edit.count (text_place old.start old.width (position_in places.old.slots i)) + new.width < 2 ^ 64 }
+    ensures { places.new.slots ≡ map (option_map (moved old.start old.width edit.from edit.to edit.count new.start new.width)) places.old.slots }
 {
-    for place in places.iter_mut() {
-        *place = place_moved(*place, old, edit, new);
+    for id in 0..places.capacity() {
+        move_place(places, id, old, edit, new);
     }
 }
 
-// A slot that holds no mark, at the end where each holds one.
-pub(crate) fn free_slot(places: &mut Vec<Option<usize>>) -> Result<usize, Short>
-    ensures free { IfOk result (λ id. mark_in places.old.items id ≡ None) }
-    ensures there { IfOk result (λ id. id < length places.new.items) }
-    ensures same { (k : ℕ) → mark_in places.new.items k ≡ mark_in places.old.items k }
-    ensures err { OnErr result (places.new.items ≡ places.old.items) }
+// A new mark's slot.
+#[tactic(auto, using(mgs_marks::proofs::Moves::mark_in_get))]
+pub(crate) fn add_place(places: &mut Slab<usize>, place: usize) -> Result<usize, Short>
+    ensures free { IfOk result (λ id. mark_in places.old.slots id ≡ None) }
+    ensures added { IfOk result (λ id. mark_in places.new.slots id ≡ Some place) }
+    ensures others { IfOk result (λ id. (k : ℕ) → k ≢ id → mark_in places.new.slots k ≡ mark_in places.old.slots k) }
+    ensures err { OnErr result (places.new.slots ≡ places.old.slots) }
 {
-    let mut id = 0;
-    for place in places.iter() {
-        if place.is_none() {
-            break;
-        }
-        id += 1;
-    }
-    if id == places.len() {
-        places.push(None).map_err(|_| Short)?;
-    }
-    Ok(id)
+    places.reserve(1).map_err(|_| Short)?;
+    Ok(places.insert_reserved(place))
 }
 
-// How many slots hold a mark.
-pub(crate) fn count_used(places: &[Option<usize>]) -> usize
-    ensures { result ≡ count_by is_some places.now }
+// The place of a mark.
+pub(crate) fn place_of(places: &Slab<usize>, id: usize) -> usize
+    requires { IsSome (get places.now id) }
+    ensures { get places.now id ≡ Some result }
 {
-    let mut used = 0;
-    for place in places {
-        if place.is_some() {
-            used += 1;
-        }
+    places[id]
+}
+
+// Puts a mark at a place.
+pub(crate) fn put_place(places: &mut Slab<usize>, id: usize, place: usize)
+    requires { IsSome (get places.old id) }
+    ensures { places.new.slots ≡ slice_set places.old.slots id (Some place) }
+{
+    if let Some(slot) = places.get_mut(id) {
+        *slot = place;
     }
-    used
 }
