@@ -4,12 +4,12 @@ ghost use Rattle.mgs_buffers.specs.MarkedBuffer.{AreUnmarked};
 ghost use Rattle.mgs_config.specs.World.{paths_of};
 ghost use Rattle.mgs_disk.specs.Places.{AreFound};
 ghost use Rattle.mgs_disk.specs.Saving.{places_in, rows_in, steps_of};
-ghost use Rattle.mgs_program.specs.Serves.{Serves, start_status};
+ghost use Rattle.mgs_program.specs.Serves.{Serves, ServedOn, start_status};
 
 use mgs_command::{FAILED, NO_SOCKETS, tell};
 use mgs_config::{BufferFile, Config, ConfigFault, ConfigTable, TableFault};
 use mgs_disk::{DiskFiles, FileStore, Finds};
-use mgs_server::{ListenFault, Server};
+use mgs_server::{EngineServer, ListenFault, Server};
 use mgs_store::Store;
 use mgs_written::Replaces;
 use std::alloc::{AllocError, Global};
@@ -70,9 +70,9 @@ pub fn open_server<R: AllocGlobal + Net, D: Finds + Replaces + Drop, C: Clock + 
     mut config: Config,
     port: u16,
     clock: C,
-) -> Result<Server<FileStore<D>, C>, StartFault>
+) -> Result<EngineServer<FileStore<D>, C>, StartFault>
     requires { AreUnmarked config.buffers }
-    ensures { IfOk result (λ server. Serves ⟦<FileStore<D> as Store>⟧.failed ⟦<FileStore<D> as Store>⟧.accepted (D.leads disk) D.done (D.done disk) config port server) }
+    ensures { IfOk result (ServedOn ⟦<FileStore<D> as Store>⟧.failed ⟦<FileStore<D> as Store>⟧.accepted D.leads D.done disk config port) }
 {
     let alloc = rt.alloc();
     let store = match store_of(alloc, disk, &mut config.files) {
@@ -101,7 +101,7 @@ fn end_start<R: Eprint>(rt: &R, fault: StartFault) -> u8
 /// standard error.
 pub fn serve<R: Print + Eprint + Wait, S: Store + Drop, C: Clock + Drop>(
     rt: &R,
-    mut server: Server<S, C>,
+    mut server: EngineServer<S, C>,
 ) -> u8
     ensures { result ≡ NO_SOCKETS }
 {
@@ -121,7 +121,7 @@ fn open_on_disk<'a, R: AllocGlobal + fs::Files<File = File> + RandomSource + Net
     rt: &'a R,
     config: Config,
     port: u16,
-) -> Result<Server<FileStore<DiskFiles<'a, R>>, &'a R>, StartFault>
+) -> Result<EngineServer<FileStore<DiskFiles<'a, R>>, &'a R>, StartFault>
     requires { AreUnmarked config.buffers }
 {
     match DiskFiles::new(rt) {
