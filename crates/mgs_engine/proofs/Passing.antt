@@ -1,15 +1,17 @@
 -- Sessions whose connections are to be written to: no bytes wait for those that are passed over.
-use Rattle.std.proofs.Common.{◌≡◌, ℕ, ◌<◌, Bool, true, false, not, ◌&&◌, ◌==◌, cond, eqb-true, List, [], ◌∷◌, length, map, Some, None, refl, sym, ap, ◌∙◌, arith}
+use Rattle.std.proofs.Common.{◌≡◌, ℕ, ◌<◌, Bool, true, false, not, ◌&&◌, ◌==◌, cond, eqb-true, List, [], ◌∷◌, length, map, Option, Some, None, refl, sym, ap, subst, ◌∙◌, arith}
 use Rattle.std.specs.Prelude.{find, nat_eq}
 use Rattle.std.specs.Option.{option_map}
 use Rattle.std.proofs.lemmas.Bool.{lt-ltb}
 use Rattle.std.proofs.lemmas.Bool.Decides.{nat_tests}
 use Rattle.mgs_core.specs.Held.{AreRising}
-use Rattle.mgs_wire.specs.Calls.{IsBefore}
+use Rattle.mgs_wire.specs.Calls.{IsBefore, PassesNoEnd}
+use Rattle.mgs_engine.specs.declared.ending.Cause.{Cause}
 use Rattle.mgs_engine.specs.declared.screen.Screen.{Screen}
 use Rattle.mgs_engine.specs.Due.{is_due}
 use Rattle.mgs_engine.specs.Queues.{find_queue, waiting_in}
 use Rattle.mgs_engine.specs.Screens.{queue_of, queues_of, shown_size}
+use Rattle.mgs_engine.specs.Serving.{Serving, has_ended, is_to_tell}
 
 -- an id below the first is not there
 not_there : (id : ℕ) (x : Screen) (xs : List Screen) → AreRising (map shown_size (x ∷ xs)) → id < x.id → find_queue id (queues_of (x ∷ xs)) ≡ None
@@ -48,3 +50,8 @@ none_passed after (x ∷ xs) r id l before =
       | false ↦ λ d p. here (nat_eq x.id id) refl d p
     ]
     in go (is_due after x) refl before
+
+-- none that ended and is to be told
+pub no_end_passed : (after : ℕ) (result : Option ℕ) (es : List (ℕ × Cause)) (s t : Serving) → s ≡ t → es ≡ s.ended → ((id : ℕ) → after < id → IsBefore id result → has_ended id es ≡ false) → PassesNoEnd is_to_tell after result t
+no_end_passed after result es s t seen told passed =
+    λ id few above before. subst (λ (u : Serving). is_to_tell id u ≡ false) seen (subst (λ (xs : List (ℕ × Cause)). has_ended id xs ≡ false) told (passed id above before))

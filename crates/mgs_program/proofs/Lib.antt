@@ -1,3 +1,4 @@
 mod Replaying
 mod Serving
 mod Ending
+mod Turning

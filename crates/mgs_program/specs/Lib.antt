@@ -1,3 +1,4 @@
 pub mod Replays
 pub mod Serves
 pub mod Endings
+pub mod Turning

@@ -4,12 +4,13 @@ ghost use Rattle.mgs_buffers.specs.MarkedBuffer.{AreUnmarked};
 ghost use Rattle.mgs_config.specs.World.{paths_of};
 ghost use Rattle.mgs_disk.specs.Places.{AreFound};
 ghost use Rattle.mgs_disk.specs.Saving.{places_in, rows_in, steps_of};
-ghost use Rattle.mgs_program.specs.Serves.{Serves, start_status};
+ghost use Rattle.mgs_program.specs.Serves.{Serves, ServedOn, start_status};
+ghost use Rattle.mgs_program.specs.Turning.{EndsByFailure};
 
 use mgs_command::{FAILED, NO_SOCKETS, tell};
 use mgs_config::{BufferFile, Config, ConfigFault, ConfigTable, TableFault};
 use mgs_disk::{DiskFiles, FileStore, Finds};
-use mgs_server::{ListenFault, Server};
+use mgs_server::{EngineServer, ListenFault, Server, TakesTurns};
 use mgs_store::Store;
 use mgs_written::Replaces;
 use std::alloc::{AllocError, Global};
@@ -70,9 +71,9 @@ pub fn open_server<R: AllocGlobal + Net, D: Finds + Replaces + Drop, C: Clock + 
     mut config: Config,
     port: u16,
     clock: C,
-) -> Result<Server<FileStore<D>, C>, StartFault>
+) -> Result<EngineServer<FileStore<D>, C>, StartFault>
     requires { AreUnmarked config.buffers }
-    ensures { IfOk result (λ server. Serves ⟦<FileStore<D> as Store>⟧.failed ⟦<FileStore<D> as Store>⟧.accepted (D.leads disk) D.done (D.done disk) config port server) }
+    ensures { IfOk result (ServedOn ⟦<FileStore<D> as Store>⟧.failed ⟦<FileStore<D> as Store>⟧.accepted D.leads D.done disk config port) }
 {
     let alloc = rt.alloc();
     let store = match store_of(alloc, disk, &mut config.files) {
@@ -97,20 +98,21 @@ fn end_start<R: Eprint>(rt: &R, fault: StartFault) -> u8
     }
 }
 
-/// Prints the server's port, and serves turn by turn without end. It returns where a turn failed, as `NO_SOCKETS`, and tells that on
-/// standard error.
-pub fn serve<R: Print + Eprint + Wait, S: Store + Drop, C: Clock + Drop>(
-    rt: &R,
-    mut server: Server<S, C>,
-) -> u8
-    ensures { result ≡ NO_SOCKETS }
+/// Prints the server's port, and serves turn by turn without end. It returns where a turn failed, and only then, as `NO_SOCKETS`, and tells
+/// that on standard error.
+pub fn serve<R: Print + Eprint + Wait, T: TakesTurns>(rt: &R, server: &mut T) -> u8
+    ensures status { result ≡ NO_SOCKETS }
+    ensures failed { EndsByFailure T.turns T.fails server.old server.new }
 {
     let port = server.port();
     let _ = println!(rt; "listening 127.0.0.1:{port}");
     for _ in rt.forever() {
-        if let Err(fault) = server.turn() {
-            tell(rt, fault);
-            return NO_SOCKETS;
+        match server.turn() {
+            Ok(()) => {}
+            Err(fault) => {
+                tell(rt, fault);
+                return NO_SOCKETS;
+            }
         }
     }
     unreachable!()
@@ -121,7 +123,7 @@ fn open_on_disk<'a, R: AllocGlobal + fs::Files<File = File> + RandomSource + Net
     rt: &'a R,
     config: Config,
     port: u16,
-) -> Result<Server<FileStore<DiskFiles<'a, R>>, &'a R>, StartFault>
+) -> Result<EngineServer<FileStore<DiskFiles<'a, R>>, &'a R>, StartFault>
     requires { AreUnmarked config.buffers }
 {
     match DiskFiles::new(rt) {
@@ -142,7 +144,7 @@ pub fn serve_config<
     ensures { result ≢ 0 }
 {
     match open_on_disk(rt, config, port) {
-        Ok(server) => serve(rt, server),
+        Ok(mut server) => serve(rt, &mut server),
         Err(fault) => end_start(rt, fault),
     }
 }

@@ -4,4 +4,5 @@ mod Logins
 mod First
 mod Moving
 mod Reading
+mod Running
 mod Turning

@@ -1,160 +1,47 @@
--- What the calls of a turn do to the world.
-use Rattle.std.proofs.Common.{◌≡◌, ℕ, ◌<◌, List, [], ◌∷◌, ◌++◌, drop, length, map, Option, Some, None, Result, Ok, Err, refl, sym, ap, subst, ◌∙◌, arith}
-use Rattle.std.specs.Prelude.{slice_get}
+-- What the sockets did in a turn, and then each that ended was told.
+use Rattle.std.proofs.Common.{◌≡◌, ℕ, Bool, List, Option, Result, refl, sym, subst}
 use Rattle.std.specs.declared.io.Error.{Error}
 use Rattle.slab.specs.Slab.{Slab}
-use Rattle.mgs_model.specs.Events.{Event, Saved, run, run_saves}
-use Rattle.mgs_model.specs.Events as model
-use Rattle.mgs_model.specs.World.{World}
-use Rattle.mgs_model.specs.declared.errors.OpenFault.{OpenFault}
-use Rattle.mgs_laws.proofs.Saves.{saves_behind}
-use Rattle.mgs_store.specs.Stores.{StoreTold, told_more}
-use Rattle.mgs_store.proofs.Told.{told_none, told_twice}
-use Rattle.mgs_wire.specs.Calls.{Call, Open, Byte, Close, Took}
+use Rattle.mgs_wire.specs.Calls.{Call}
 use Rattle.mgs_wire.specs.Connections.{Connection}
-use Rattle.mgs_engine.specs.declared.ending.Cause.TheVariants.{Slow}
-use Rattle.mgs_engine.specs.Does.{Does}
-use Rattle.mgs_engine.specs.Driven.{HasEvents}
-use Rattle.mgs_engine.specs.Handled.{Handles}
-use Rattle.mgs_engine.specs.Serving.{Serving, is_to_tell, pending_of}
-use Rattle.mgs_engine.specs.Slow.{slow_ids}
-use Rattle.mgs_engine.proofs.RunLemmas.{run-append, saves_first, store_left}
 use Rattle.mgs_server.specs.declared.peer.Peer.{Peer}
 use Rattle.mgs_server.specs.Calls.{AreMade, Calls}
 use Rattle.mgs_server.specs.Listening.{Listening}
 use Rattle.mgs_server.specs.Peers.{ClosesLogins, Moved, ServesReady, peers_of, server_state, server_with, slots_of, under}
-use Rattle.mgs_server.specs.Turns.{Ran, Turns, answer_of, asked_by, live_in}
+use Rattle.mgs_server.specs.Turns.{Turns}
 use Rattle.mgs_server.proofs.Moving.{moved_calls, moved_then}
 
--- RUNS
+module _ {E X : Type 0} (does : E → Call → E → Type 0) (live : ℕ → E → Bool) (pending : ℕ → E → List ℕ) (is_ended : ℕ → E → Bool)
+    (tells : E → E → Type 0) (runs : E → List Call → E → E → Type 0) (answers : X → List ℕ → Result ℕ Error → X → Type 0) where
+  -- whatever led to what was served then
+  abbrev Runs : E → E → Type 0
+  Runs served new = (first : E) (calls : List Call) → AreMade does first calls served → runs first calls served new
 
--- the events of one call
-record Came (old : Serving) (c : Call) (new : Serving) : Type 0 where
-  events : List Event
-  has : HasEvents old (asked_by c) (answer_of c) new events
-  world : new.world ≡ run old.world events
-  saves : new.store.accepted ≡ told_more (run_saves old.world events) old.store.accepted
-
-came_open : (old new : Serving) (user : List ℕ) (rows cols : ℕ) (a : Result ℕ OpenFault) → Does old (Open user rows cols a) new → Came old (Open user rows cols a) new
-came_open old new user rows cols (Ok id) d = record {
-  events = model.Open id user rows cols ∷ [];
-  has = (d, refl);
-  world = d.0.ok.2;
-  saves = ap (λ (t : StoreTold). t.accepted) d.0.store ∙ told_none old.store.accepted [] refl;
-}
-came_open old new user rows cols (Err fault) d = record {
-  events = [];
-  has = (d, refl);
-  world = ap (λ (s : Serving). s.world) d.0.err;
-  saves = ap (λ (s : Serving). s.store.accepted) d.0.err ∙ told_none old.store.accepted [] refl;
-}
-
-came : (old new : Serving) (c : Call) → Does old c new → Came old c new
-came old new (Open user rows cols a) d = came_open old new user rows cols a d
-came old new (Byte id byte a) d =
-    let h : Handles old new id byte a = d.0 in
-    let ids : List ℕ = slow_ids old h.typed.world in
-    let slow : List Event = map (λ i. model.Close i) ids in
-    record {
-      events = model.Byte id byte h.step.stored h.step.stop ∷ slow;
-      has = (d, refl);
-      world = h.closes ∙ ap (λ (w : World). run w slow) h.step.step;
-      saves =
-          ap (λ (s : Serving). s.store.accepted) h.slow
-          ∙ ap (λ (t : StoreTold). t.accepted) (store_left Slow ids h.typed)
-          ∙ h.step.saves
-          ∙ ap (λ (xs : List Saved). told_more xs old.store.accepted) (sym (saves_first old.world (model.Byte id byte h.step.stored h.step.stop) ids));
-    }
-came old new (Close id) d = record {
-  events = model.Close id ∷ [];
-  has = (d, refl);
-  world = d.2;
-  saves = ap (λ (s : Serving). s.store.accepted) d.0 ∙ told_none old.store.accepted [] refl;
-}
-came old new (Took id n) d = record {
-  events = [];
-  has = (d, refl);
-  world = ap (λ (s : Serving). s.world) d;
-  saves = ap (λ (s : Serving). s.store.accepted) d ∙ told_none old.store.accepted [] refl;
-}
-
--- those of all
-ran : (old new : Serving) (cs : List Call) → AreMade Does old cs new → Ran old cs new new
-ran old new [] h = record {
-  events = [];
-  each = (refl, h);
-  world = ap (λ (s : Serving). s.world) h;
-  saves = ap (λ (s : Serving). s.store.accepted) h ∙ told_none old.store.accepted [] refl;
-}
-ran old new (c ∷ cs) h =
-    let first : Came old c h.0 = came old h.0 c h.1 in
-    let rest : Ran h.0 cs new new = ran h.0 new cs h.2 in
-    record {
-      events = first.events ++ rest.events;
-      each = (h.0, first.events, rest.events, first.has, rest.each, refl);
-      world = rest.world ∙ ap (λ (w : World). run w rest.events) first.world ∙ sym (run-append old.world first.events rest.events);
-      saves =
-          rest.saves
-          ∙ ap (λ (w : World). told_more (run_saves w rest.events) h.0.store.accepted) first.world
-          ∙ ap (told_more (run_saves (run old.world first.events) rest.events)) first.saves
-          ∙ told_twice old.store.accepted (run_saves old.world first.events) (run_saves (run old.world first.events) rest.events)
-          ∙ ap (λ (xs : List Saved). told_more xs old.store.accepted) (sym (saves_behind old.world first.events rest.events));
-    }
-
--- what the sockets did, and then each that ended was told
-module _ {X : Type 0} (answers : X → List ℕ → Result ℕ Error → X → Type 0) where
-  turned : (old new : Listening) (served : Serving) (peers : ℕ → Option Connection)
-      → ServesReady Does live_in pending_of answers is_to_tell old.tickets new.reported (server_state old.serving (under old.peers)) (server_state served peers) → ClosesLogins peers (under new.peers)
-      → Moved Does live_in pending_of old.tickets (server_state old.serving (under old.peers)) (server_state served (under new.peers)) → new.serving ≡ record served { ended = [] } → new.tickets ≡ old.tickets → new.port ≡ old.port → Turns answers old new
-  turned old new served peers ready closes moved told tickets port =
-      let c : Calls Does old.serving served = moved_calls Does live_in pending_of old.tickets (server_state old.serving (under old.peers)) (server_state served (under new.peers)) moved in
-      let r : Ran old.serving c.calls served served = ran old.serving served c.calls c.made in
-      record {
-        served = served;
-        peers = peers;
-        ready = ready;
-        closes = closes;
-        moved = moved;
-        told = told;
-        calls = c.calls;
-        made = c.made;
-        ran = record {
-          events = r.events;
-          each = r.each;
-          world = ap (λ (s : Serving). s.world) told ∙ r.world;
-          saves = ap (λ (s : Serving). s.store.accepted) told ∙ r.saves;
-        };
-        tickets = tickets;
-        port = port;
-      }
+  turned : (old new : Listening E) (served : E) (peers : ℕ → Option Connection)
+      → ServesReady does live pending answers is_ended old.tickets new.reported (server_state old.serving (under old.peers)) (server_state served peers) → ClosesLogins peers (under new.peers)
+      → Moved does live pending old.tickets (server_state old.serving (under old.peers)) (server_state served (under new.peers)) → tells served new.serving → Runs served new.serving
+      → new.tickets ≡ old.tickets → new.port ≡ old.port → Turns does live pending is_ended tells runs answers old new
+  turned old new served peers ready closes moved told run tickets port =
+      let c : Calls does old.serving served = moved_calls does live pending old.tickets (server_state old.serving (under old.peers)) (server_state served (under new.peers)) moved in
+      record { served = served; peers = peers; ready = ready; closes = closes; moved = moved; told = told; calls = c.calls; made = c.made; ran = run old.serving c.calls c.made; tickets = tickets; port = port }
 
   -- the same of a slab of connections, and of the view of a server: those that are ready were served, and those that came too late closed
-  pub turned_in : {S : Type 0} (serving between served told : Serving) (peers before mid now : Slab (Peer S)) (first reported last : List ℕ) (tickets : List (List ℕ × List ℕ)) (port : ℕ) (old : Listening) → before ≡ peers
-      → ServesReady Does live_in pending_of answers is_to_tell tickets reported (server_with serving before) (server_with between mid) → last ≡ reported
-      → Moved Does live_in pending_of tickets (server_with serving before) (server_with between mid) → Moved Does live_in pending_of tickets (server_with between mid) (server_with served now)
+  pub turned_in : {S : Type 0} (serving between served told : E) (peers before mid now : Slab (Peer S)) (first reported last : List ℕ) (tickets : List (List ℕ × List ℕ)) (port : ℕ) (old : Listening E) → before ≡ peers
+      → ServesReady does live pending answers is_ended tickets reported (server_with serving before) (server_with between mid) → last ≡ reported
+      → Moved does live pending tickets (server_with serving before) (server_with between mid) → Moved does live pending tickets (server_with between mid) (server_with served now)
       → served ≡ between → ClosesLogins (peers_of mid) (peers_of now)
-      → told ≡ record served { ended = [] } → record { serving = serving; peers = slots_of peers; tickets = tickets; port = port; reported = first } ≡ old
-      → Turns answers old (record { serving = told; peers = slots_of now; tickets = tickets; port = port; reported = last })
-  turned_in {S} serving between served told peers before mid now first reported last tickets port old waited ready kept moved late same closes heard seen =
-      let start : Listening = record { serving = serving; peers = slots_of peers; tickets = tickets; port = port; reported = first } in
-      let end : Listening = record { serving = told; peers = slots_of now; tickets = tickets; port = port; reported = last } in
-      let all : Moved Does live_in pending_of tickets (server_with serving before) (server_with served now) =
-      moved_then Does live_in pending_of tickets (server_with serving before) (server_with between mid) (server_with served now) moved late in
-      let served_so : ServesReady Does live_in pending_of answers is_to_tell tickets reported (server_with serving before) (server_with served mid) =
-      subst (λ (s : Serving). ServesReady Does live_in pending_of answers is_to_tell tickets reported (server_with serving before) (server_with s mid)) (sym same) ready in
-      let reported_so : ServesReady Does live_in pending_of answers is_to_tell tickets last (server_with serving before) (server_with served mid) =
-      subst (λ (keys : List ℕ). ServesReady Does live_in pending_of answers is_to_tell tickets keys (server_with serving before) (server_with served mid)) (sym kept) served_so in
-      subst (λ (l : Listening). Turns answers l end) seen
+      → tells served told → Runs served told → record { serving = serving; peers = slots_of peers; tickets = tickets; port = port; reported = first } ≡ old
+      → Turns does live pending is_ended tells runs answers old (record { serving = told; peers = slots_of now; tickets = tickets; port = port; reported = last })
+  turned_in {S} serving between served told peers before mid now first reported last tickets port old waited ready kept moved late same closes heard run seen =
+      let start : Listening E = record { serving = serving; peers = slots_of peers; tickets = tickets; port = port; reported = first } in
+      let end : Listening E = record { serving = told; peers = slots_of now; tickets = tickets; port = port; reported = last } in
+      let all : Moved does live pending tickets (server_with serving before) (server_with served now) =
+      moved_then does live pending tickets (server_with serving before) (server_with between mid) (server_with served now) moved late in
+      let served_so : ServesReady does live pending answers is_ended tickets reported (server_with serving before) (server_with served mid) =
+      subst (λ (s : E). ServesReady does live pending answers is_ended tickets reported (server_with serving before) (server_with s mid)) (sym same) ready in
+      let reported_so : ServesReady does live pending answers is_ended tickets last (server_with serving before) (server_with served mid) =
+      subst (λ (keys : List ℕ). ServesReady does live pending answers is_ended tickets keys (server_with serving before) (server_with served mid)) (sym kept) served_so in
+      subst (λ (l : Listening E). Turns does live pending is_ended tells runs answers l end) seen
       (turned start end served (peers_of mid)
-      (subst (λ (slab : Slab (Peer S)). ServesReady Does live_in pending_of answers is_to_tell tickets last (server_with serving slab) (server_with served mid)) waited reported_so) closes
-      (subst (λ (slab : Slab (Peer S)). Moved Does live_in pending_of tickets (server_with serving slab) (server_with served now)) waited all) heard refl refl)
-
--- TELLING: there is one less to be told, until none is left
-
-pub less_to_tell : {T : Type 0} (xs : List T) (x : T) → Some x ≡ slice_get xs 0 → length (drop 1 xs) < length xs
-less_to_tell [] x e = absurd cc
-less_to_tell (y ∷ ys) x e = omega arith
-
-pub none_to_tell : {T : Type 0} (xs : List T) → None ≡ slice_get xs 0 → xs ≡ []
-none_to_tell [] e = refl
-none_to_tell (y ∷ ys) e = absurd cc
+      (subst (λ (slab : Slab (Peer S)). ServesReady does live pending answers is_ended tickets last (server_with serving slab) (server_with served mid)) waited reported_so) closes
+      (subst (λ (slab : Slab (Peer S)). Moved does live pending tickets (server_with serving slab) (server_with served now)) waited all) heard run refl refl)

@@ -9,12 +9,16 @@ use Rattle.mgs_wire.specs.Connections.{Connection}
 use Rattle.mgs_engine.specs.Serving.{Serving}
 
 -- what is served, the connections under their keys, the tickets of the users, the port, and the keys that the last wait reported, in order
-pub record Listening : Type 0 where
-  pub serving : Serving
+pub record Listening (E : Type 0) : Type 0 where
+  pub serving : E
   pub peers : List (Option Connection)
   pub tickets : List (List ℕ × List ℕ)
   pub port : ℕ
   pub reported : List ℕ
+
+-- one that serves an engine
+abbrev pub EngineListening : Type 0
+EngineListening = Listening Serving
 
 -- a directory and buffers, before any session
 abbrev pub first_world : Directory → List MarkedBuffer → World

@@ -1,6 +1,7 @@
 // Who is let in, for how long, and where.
 use crate::office::{Dial, Office, open_office, turn, turn_at};
 use crate::screens::comes_to_show;
+use crate::slow::is_painted_at_once;
 use crate::terminal::{Terminal, enter, is_closed, is_served, press, take};
 use crate::together::{are_all_shut_out, only_users_share};
 use std::net::{Ipv4Addr, SocketAddr, TcpStream};
@@ -181,6 +182,8 @@ enum Case {
     Keys,
     /// As many as there may be, of whom all but one are shut out.
     Shut,
+    /// One who reads nothing until much waits for him.
+    Slow,
     /// Two who share a text, and a third who is not let in.
     Together,
     /// A port that was asked for.
@@ -196,6 +199,7 @@ fn is_so(rt: &HostRuntime, office: &mut Office<'_>, case: Case) -> Result<bool, 
         Case::Idle => are_turns_calm(rt, office),
         Case::Keys => are_keys_heard(rt, office),
         Case::Shut => are_all_shut_out(rt, office),
+        Case::Slow => is_painted_at_once(rt, office),
         Case::Together => only_users_share(rt, office),
         Case::Port(port) => is_found_at(rt, office, port),
     }
@@ -216,7 +220,7 @@ fn free_port(rt: &HostRuntime) -> Result<u16, Fail> {
     Ok(office.port())
 }
 
-const CASES: [(Case, &str); 8] = [
+const CASES: [(Case, &str); 9] = [
     (
         Case::Crowd,
         "the 65th connection is refused, and 64 silent ones are closed after a minute",
@@ -232,6 +236,10 @@ const CASES: [(Case, &str); 8] = [
     (
         Case::Shut,
         "each of 63 who are shut out sees it without a key of his own",
+    ),
+    (
+        Case::Slow,
+        "10,000 bytes are written at once, whole and in order",
     ),
     (
         Case::Together,

@@ -45,6 +45,8 @@ mod searches;
 #[cfg(test)]
 mod seeking;
 #[cfg(test)]
+mod slow;
+#[cfg(test)]
 mod steps;
 #[cfg(test)]
 mod terminal;

@@ -8,7 +8,7 @@ use mgs_config::Config;
 use mgs_gap::GapText;
 use mgs_model::Tickets;
 use mgs_policy::Directory;
-use mgs_server::Server;
+use mgs_server::{EngineServer, Server};
 use mgs_store::RefusingStore;
 use std::alloc::Global;
 use std::cell::Cell;
@@ -44,7 +44,7 @@ impl Clock for Dial {
 /// A server whose buffers have no files, and its clock.
 #[derive(Drop)]
 pub(crate) struct Office<'a> {
-    server: Server<RefusingStore, &'a Dial>,
+    server: EngineServer<RefusingStore, &'a Dial>,
     dial: &'a Dial,
 }
 

@@ -1,14 +1,13 @@
-use Rattle.std.proofs.Common.{◌≡◌, ℕ, false, List, [], map, sym, ap, subst, ◌∙◌}
+use Rattle.std.proofs.Common.{◌≡◌, List, [], map, sym, ap, subst, ◌∙◌}
 use Rattle.std.specs.Prelude.{find}
 use Rattle.std.specs.Option.{option_map}
 use Rattle.mgs_world.specs.Worlds.{sizes}
 use Rattle.mgs_core.specs.Held.{AreRising}
 use Rattle.mgs_wire.specs.Calls.{IsBefore}
-use Rattle.mgs_engine.specs.declared.ending.Cause.{Cause}
 use Rattle.mgs_engine.specs.declared.screen.Screen.{Screen}
 use Rattle.mgs_engine.specs.Due.{is_due}
 use Rattle.mgs_engine.specs.Screens.{shown_size}
-use Rattle.mgs_engine.specs.Serving.{Serving, has_ended, is_to_tell, pending_of}
+use Rattle.mgs_engine.specs.Serving.{Serving, pending_of}
 use Rattle.mgs_engine.proofs.Passing.{none_passed}
 use Rattle.mgs_engine.proofs.engine.Engine.next_due.Goals as goal
 
@@ -21,6 +20,3 @@ returns-clause-passed g c = λ id few above before.
 
 pub returns-clause-rising : goal.returns-clause-rising
 returns-clause-rising g c = subst (λ (s : Serving). AreRising (sizes s.world)) c.self.view_is c.size-first.ensures.rising
-
-pub returns-clause-no_end : goal.returns-clause-no_end
-returns-clause-no_end g c = λ id few above before. subst (λ (s : Serving). is_to_tell id s ≡ false) c.self.view_is (subst (λ (es : List (ℕ × Cause)). has_ended id es ≡ false) c.deref-2.ensures.value (c.with_ended.ensures.ended id above before))

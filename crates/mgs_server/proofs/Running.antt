@@ -1,0 +1,114 @@
+-- What the calls of connections do to the world of an engine.
+use Rattle.std.proofs.Common.{◌≡◌, ℕ, ◌<◌, List, [], ◌∷◌, ◌++◌, drop, length, map, Some, None, Result, Ok, Err, refl, sym, ap, ◌∙◌, arith}
+use Rattle.std.specs.Prelude.{slice_get}
+use Rattle.mgs_model.specs.Events.{Event, Saved, run, run_saves}
+use Rattle.mgs_model.specs.Events as model
+use Rattle.mgs_model.specs.World.{World}
+use Rattle.mgs_model.specs.declared.errors.OpenFault.{OpenFault}
+use Rattle.mgs_laws.proofs.Saves.{saves_behind}
+use Rattle.mgs_store.specs.Stores.{StoreTold, told_more}
+use Rattle.mgs_store.proofs.Told.{told_none, told_twice}
+use Rattle.mgs_wire.specs.Calls.{Call, Open, Byte, Close, Took}
+use Rattle.mgs_engine.specs.declared.ending.Cause.TheVariants.{Slow}
+use Rattle.mgs_engine.specs.Does.{Does}
+use Rattle.mgs_engine.specs.Driven.{HasEvents}
+use Rattle.mgs_engine.specs.Handled.{Handles}
+use Rattle.mgs_engine.specs.Serving.{Serving}
+use Rattle.mgs_engine.specs.Slow.{slow_ids}
+use Rattle.mgs_engine.proofs.RunLemmas.{run-append, saves_first, store_left}
+use Rattle.mgs_server.specs.Calls.{AreMade}
+use Rattle.mgs_server.specs.Turns.{HasTold, Ran, answer_of, asked_by}
+
+-- the events of one call
+record Came (old : Serving) (c : Call) (new : Serving) : Type 0 where
+  events : List Event
+  has : HasEvents old (asked_by c) (answer_of c) new events
+  world : new.world ≡ run old.world events
+  saves : new.store.accepted ≡ told_more (run_saves old.world events) old.store.accepted
+
+came_open : (old new : Serving) (user : List ℕ) (rows cols : ℕ) (a : Result ℕ OpenFault) → Does old (Open user rows cols a) new → Came old (Open user rows cols a) new
+came_open old new user rows cols (Ok id) d = record {
+  events = model.Open id user rows cols ∷ [];
+  has = (d, refl);
+  world = d.0.ok.2;
+  saves = ap (λ (t : StoreTold). t.accepted) d.0.store ∙ told_none old.store.accepted [] refl;
+}
+came_open old new user rows cols (Err fault) d = record {
+  events = [];
+  has = (d, refl);
+  world = ap (λ (s : Serving). s.world) d.0.err;
+  saves = ap (λ (s : Serving). s.store.accepted) d.0.err ∙ told_none old.store.accepted [] refl;
+}
+
+came : (old new : Serving) (c : Call) → Does old c new → Came old c new
+came old new (Open user rows cols a) d = came_open old new user rows cols a d
+came old new (Byte id byte a) d =
+    let h : Handles old new id byte a = d.0 in
+    let ids : List ℕ = slow_ids old h.typed.world in
+    let slow : List Event = map (λ i. model.Close i) ids in
+    record {
+      events = model.Byte id byte h.step.stored h.step.stop ∷ slow;
+      has = (d, refl);
+      world = h.closes ∙ ap (λ (w : World). run w slow) h.step.step;
+      saves =
+          ap (λ (s : Serving). s.store.accepted) h.slow
+          ∙ ap (λ (t : StoreTold). t.accepted) (store_left Slow ids h.typed)
+          ∙ h.step.saves
+          ∙ ap (λ (xs : List Saved). told_more xs old.store.accepted) (sym (saves_first old.world (model.Byte id byte h.step.stored h.step.stop) ids));
+    }
+came old new (Close id) d = record {
+  events = model.Close id ∷ [];
+  has = (d, refl);
+  world = d.2;
+  saves = ap (λ (s : Serving). s.store.accepted) d.0 ∙ told_none old.store.accepted [] refl;
+}
+came old new (Took id n) d = record {
+  events = [];
+  has = (d, refl);
+  world = ap (λ (s : Serving). s.world) d;
+  saves = ap (λ (s : Serving). s.store.accepted) d ∙ told_none old.store.accepted [] refl;
+}
+
+-- those of all
+ran : (old new : Serving) (cs : List Call) → AreMade Does old cs new → Ran old cs new new
+ran old new [] h = record {
+  events = [];
+  each = (refl, h);
+  world = ap (λ (s : Serving). s.world) h;
+  saves = ap (λ (s : Serving). s.store.accepted) h ∙ told_none old.store.accepted [] refl;
+}
+ran old new (c ∷ cs) h =
+    let first : Came old c h.0 = came old h.0 c h.1 in
+    let rest : Ran h.0 cs new new = ran h.0 new cs h.2 in
+    record {
+      events = first.events ++ rest.events;
+      each = (h.0, first.events, rest.events, first.has, rest.each, refl);
+      world = rest.world ∙ ap (λ (w : World). run w rest.events) first.world ∙ sym (run-append old.world first.events rest.events);
+      saves =
+          rest.saves
+          ∙ ap (λ (w : World). told_more (run_saves w rest.events) h.0.store.accepted) first.world
+          ∙ ap (told_more (run_saves (run old.world first.events) rest.events)) first.saves
+          ∙ told_twice old.store.accepted (run_saves old.world first.events) (run_saves (run old.world first.events) rest.events)
+          ∙ ap (λ (xs : List Saved). told_more xs old.store.accepted) (sym (saves_behind old.world first.events rest.events));
+    }
+
+-- and then each that ended was told
+pub has_run : (served new : Serving) → HasTold served new → (first : Serving) (calls : List Call) → AreMade Does first calls served → Ran first calls served new
+has_run served new told first calls made =
+    let r : Ran first calls served served = ran first served calls made in
+    record {
+      events = r.events;
+      each = r.each;
+      world = ap (λ (s : Serving). s.world) told ∙ r.world;
+      saves = ap (λ (s : Serving). s.store.accepted) told ∙ r.saves;
+    }
+
+-- TELLING: there is one less to be told, until none is left
+
+pub less_to_tell : {T : Type 0} (xs : List T) (x : T) → Some x ≡ slice_get xs 0 → length (drop 1 xs) < length xs
+less_to_tell [] x e = absurd cc
+less_to_tell (y ∷ ys) x e = omega arith
+
+pub none_to_tell : {T : Type 0} (xs : List T) → None ≡ slice_get xs 0 → xs ≡ []
+none_to_tell [] e = refl
+none_to_tell (y ∷ ys) e = absurd cc
