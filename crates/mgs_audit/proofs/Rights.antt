@@ -6,8 +6,9 @@ use Rattle.mgs_model.specs.Text.{edited, is_edit}
 use Rattle.mgs_model.specs.World.{Buffer, is_named, most_items}
 use Rattle.mgs_model.specs.Outcome.{Effect, No_effect, Edit, Unmodified, SetList, SetOwners, Create, Kill, Save, Quit}
 use Rattle.mgs_model.specs.Apply.{change_first, remove_first, new_buffer, owners_after, buffer_edited, buffer_unmodified, buffers_after, item_for}
+use Rattle.mgs_laws.specs.Apart.{Rules, rules_of}
 use Rattle.mgs_audit.specs.Effects.{effects_done}
-use Rattle.mgs_audit.specs.Lines.{Rights, rights_of, are_of, rights_after, told}
+use Rattle.mgs_audit.specs.Lines.{are_of, rights_after, told}
 
 -- IN LISTS
 
@@ -46,42 +47,42 @@ behind_seen r (x ∷ xs) ys = ap (λ zs. r x ∷ zs) (behind_seen r xs ys)
 
 -- OF BUFFERS
 
-either : (c : Bool) (y x : Buffer) → rights_of y ≡ rights_of x → rights_of (if c then y else x) ≡ rights_of x
+either : (c : Bool) (y x : Buffer) → rules_of y ≡ rules_of x → rules_of (if c then y else x) ≡ rules_of x
 either true y x e = e
 either false y x e = refl
 
-edit_keeps : (a b : ℕ) (put : List ℕ) (x : Buffer) → rights_of (buffer_edited a b put x) ≡ rights_of x
+edit_keeps : (a b : ℕ) (put : List ℕ) (x : Buffer) → rules_of (buffer_edited a b put x) ≡ rules_of x
 edit_keeps a b put x =
     either (is_edit a b put) (record x { text = edited a b put x.text; items = take most_items (item_for a b put x ∷ x.items); serial = x.serial + 1; modified = true }) x refl
 
-pub rights_effect : (f : Effect) (buffers : List Buffer) → map rights_of (buffers_after f buffers) ≡ rights_after f (map rights_of buffers)
+pub rights_effect : (f : Effect) (buffers : List Buffer) → map rules_of (buffers_after f buffers) ≡ rights_after f (map rules_of buffers)
 rights_effect No_effect buffers = refl
-rights_effect (Edit name a b put) buffers = unseen rights_of (is_named name) (buffer_edited a b put) (edit_keeps a b put) buffers
-rights_effect (Unmodified name) buffers = unseen rights_of (is_named name) buffer_unmodified (λ x. refl) buffers
+rights_effect (Edit name a b put) buffers = unseen rules_of (is_named name) (buffer_edited a b put) (edit_keeps a b put) buffers
+rights_effect (Unmodified name) buffers = unseen rules_of (is_named name) buffer_unmodified (λ x. refl) buffers
 rights_effect (SetList name entries) buffers =
-    seen rights_of (are_of name) (λ x. record x { entries = entries }) (λ r. record r { entries = entries }) (λ x. refl) buffers
+    seen rules_of (are_of name) (λ x. record x { entries = entries }) (λ r. record r { entries = entries }) (λ x. refl) buffers
 rights_effect (SetOwners name new) buffers =
-    seen rights_of (are_of name) (λ x. record x { owners = owners_after new x.owners }) (λ r. record r { owners = owners_after new r.owners }) (λ x. refl) buffers
-rights_effect (Create name owner) buffers = behind_seen rights_of buffers (new_buffer name owner ∷ [])
-rights_effect (Kill name) buffers = removed_seen rights_of (are_of name) buffers
-rights_effect (Save name text) buffers = unseen rights_of (is_named name) buffer_unmodified (λ x. refl) buffers
+    seen rules_of (are_of name) (λ x. record x { owners = owners_after new x.owners }) (λ r. record r { owners = owners_after new r.owners }) (λ x. refl) buffers
+rights_effect (Create name owner) buffers = behind_seen rules_of buffers (new_buffer name owner ∷ [])
+rights_effect (Kill name) buffers = removed_seen rules_of (are_of name) buffers
+rights_effect (Save name text) buffers = unseen rules_of (is_named name) buffer_unmodified (λ x. refl) buffers
 rights_effect Quit buffers = refl
 
 -- one effect after another
-abbrev pub rights_done : List Effect → List Rights → List Rights
+abbrev pub rights_done : List Effect → List Rules → List Rules
 rights_done [] all = all
 rights_done (f ∷ fs) all = rights_done fs (rights_after f all)
 
-pub rights_behind : (fs gs : List Effect) (all : List Rights) → rights_done (fs ++ gs) all ≡ rights_done gs (rights_done fs all)
+pub rights_behind : (fs gs : List Effect) (all : List Rules) → rights_done (fs ++ gs) all ≡ rights_done gs (rights_done fs all)
 rights_behind [] gs all = refl
 rights_behind (f ∷ fs) gs all = rights_behind fs gs (rights_after f all)
 
-pub rights_effects : (fs : List Effect) (buffers : List Buffer) → map rights_of (effects_done fs buffers) ≡ rights_done fs (map rights_of buffers)
+pub rights_effects : (fs : List Effect) (buffers : List Buffer) → map rules_of (effects_done fs buffers) ≡ rights_done fs (map rules_of buffers)
 rights_effects [] buffers = refl
 rights_effects (f ∷ fs) buffers = rights_effects fs (buffers_after f buffers) ∙ ap (rights_done fs) (rights_effect f buffers)
 
 -- what is not told changes no rights
-told_done : (f : Effect) (all : List Rights) → rights_done (told f) all ≡ rights_after f all
+told_done : (f : Effect) (all : List Rules) → rights_done (told f) all ≡ rights_after f all
 told_done No_effect all = refl
 told_done (Edit name a b put) all = refl
 told_done (Unmodified name) all = refl
@@ -92,7 +93,7 @@ told_done (Kill name) all = refl
 told_done (Save name text) all = refl
 told_done Quit all = refl
 
-pub all_told : (fs : List Effect) (all : List Rights) → rights_done (flat_map told fs) all ≡ rights_done fs all
+pub all_told : (fs : List Effect) (all : List Rules) → rights_done (flat_map told fs) all ≡ rights_done fs all
 all_told [] all = refl
 all_told (f ∷ fs) all =
     rights_behind (told f) (flat_map told fs) all

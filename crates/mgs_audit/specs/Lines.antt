@@ -3,13 +3,13 @@ use Rattle.std.specs.Prelude.{◌≡◌, ℕ, suc, ◌+◌, Bool, List, [], ◌�
 use Rattle.std.specs.List.{flat_map}
 use Rattle.mgs_model.specs.Names.{same_name}
 use Rattle.mgs_model.specs.declared.entry.Decision.{Decision}
-use Rattle.mgs_model.specs.declared.entry.Entry.{Entry}
 use Rattle.mgs_model.specs.declared.owners.Owners.{Owners}
 use Rattle.mgs_model.specs.declared.message.Message.{Message}
 use Rattle.mgs_model.specs.declared.message.Message.TheVariants.{Denied}
 use Rattle.mgs_model.specs.Outcome.{Effect, SetList, SetOwners, Create, Kill, Save}
 use Rattle.mgs_model.specs.Apply.{change_first, remove_first, new_buffer, owners_after}
-use Rattle.mgs_model.specs.World.{World, Session, Buffer, find_session}
+use Rattle.mgs_model.specs.World.{World, Session, find_session}
+use Rattle.mgs_laws.specs.Apart.{Rules, rules_of}
 use Rattle.mgs_model.specs.Events.{Event, Open, Byte, Close, run, step, event_effects, can_open}
 
 pub data Line : Type 0 where
@@ -71,37 +71,29 @@ audit w n (e ∷ es) = lines_of w n e ++ audit (step w e) (suc n) es
 
 -- RIGHTS: all that decides who may do what with a buffer, beside the directory
 
-pub record Rights : Type 0 where
-  pub name : List ℕ
-  pub owners : Owners
-  pub entries : List Entry
-
-abbrev pub rights_of : Buffer → Rights
-rights_of b = record { name = b.name; owners = b.owners; entries = b.entries }
-
-abbrev pub are_of : List ℕ → Rights → Bool
+abbrev pub are_of : List ℕ → Rules → Bool
 are_of name r = same_name name r.name
 
-abbrev pub rights_after : Effect → List Rights → List Rights
+abbrev pub rights_after : Effect → List Rules → List Rules
 rights_after (SetList name entries) all = change_first (are_of name) (λ r. record r { entries = entries }) all
 rights_after (SetOwners name new) all = change_first (are_of name) (λ r. record r { owners = owners_after new r.owners }) all
-rights_after (Create name owner) all = all ++ rights_of (new_buffer name owner) ∷ []
+rights_after (Create name owner) all = all ++ rules_of (new_buffer name owner) ∷ []
 rights_after (Kill name) all = remove_first (are_of name) all
 rights_after _ all = all
 
-abbrev pub told_by : Line → List Rights → List Rights
+abbrev pub told_by : Line → List Rules → List Rules
 told_by (Ruled n user effect) all = rights_after effect all
 told_by _ all = all
 
 -- what lines, one after another, tell of rights
-abbrev pub rights_told : List Line → List Rights → List Rights
+abbrev pub rights_told : List Line → List Rules → List Rules
 rights_told [] all = all
 rights_told (l ∷ ls) all = rights_told ls (told_by l all)
 
 -- THE LAWS
 
 abbrev pub AreAsTold : Type 0
-AreAsTold = (w : World) (n : ℕ) (es : List Event) → map rights_of (run w es).buffers ≡ rights_told (audit w n es) (map rights_of w.buffers)
+AreAsTold = (w : World) (n : ℕ) (es : List Event) → map rules_of (run w es).buffers ≡ rights_told (audit w n es) (map rules_of w.buffers)
 
 abbrev pub TellsOn : Type 0
 TellsOn = (w : World) (n : ℕ) (es fs : List Event) → audit w n (es ++ fs) ≡ audit w n es ++ audit (run w es) (n + length es) fs

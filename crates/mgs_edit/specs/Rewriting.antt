@@ -1,14 +1,18 @@
 -- What mgs_fill rewrites, as a change.
-use Rattle.std.specs.Prelude.{ℕ, Option, None, Result, Ok, Err}
+use Rattle.std.specs.Prelude.{◌≡◌, ℕ, List, Option, None, Result, Ok, Err}
+use Rattle.mgs_fill.specs.Rewriting.{IsRewrite}
 use Rattle.mgs_fill.specs.declared.rewrite.Given.{Given}
 use Rattle.mgs_fill.specs.declared.rewrite.Point.{Point}
 use Rattle.mgs_fill.specs.declared.rewrite.Point.TheVariants as points
 use Rattle.mgs_fill.specs.declared.rewrite.Rewrite.{Rewrite}
 use Rattle.mgs_fill.specs.declared.rewrite.Written.{Written}
 use Rattle.mgs_fill.specs.declared.rewrite.Written.TheVariants as written
+use Rattle.mgs_model.specs.Plans.{alteration}
 use Rattle.mgs_model.specs.declared.message.Message.{Message}
 use Rattle.mgs_model.specs.declared.message.Message.TheVariants.{Silent}
+use Rattle.mgs_model.specs.declared.session.Alteration.{Alteration}
 use Rattle.mgs_model.specs.declared.session.Kind.TheVariants.{Other}
+use Rattle.mgs_edit.specs.Reading.{IsChange}
 use Rattle.mgs_edit.specs.declared.plan.Around.{Around}
 use Rattle.mgs_edit.specs.declared.plan.Change.{Change}
 use Rattle.mgs_edit.specs.declared.plan.Finish.{Finish}
@@ -41,3 +45,9 @@ changed r = record { from = r.from; to = r.to; put = put_for r.from r.to r.writt
 abbrev pub changed_or : Result Rewrite Message → Result Change Message
 changed_or (Ok r) = Ok (changed r)
 changed_or (Err message) = Err message
+
+-- what is a command's rewriting on a text is its change then
+abbrev pub IsOfRewrite : Result Rewrite Message → Result Change Message → Type 0
+IsOfRewrite answer change =
+    (command : Alteration) (x : Around) (text : List ℕ) (g : Given) → g ≡ given_of x
+    → IsRewrite (alteration command) g text answer → IsChange (alteration command) x text change

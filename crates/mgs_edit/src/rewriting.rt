@@ -1,12 +1,8 @@
 // What mgs_fill rewrites, as changes.
 ghost use Rattle.std.specs.Prelude.{◌≡◌, ℕ, List, IfOk};
-ghost use Rattle.mgs_fill.specs.Rewriting.{IsRewrite, RewriteWithin};
-ghost use Rattle.mgs_fill.specs.declared.rewrite.Given.{Given};
-ghost use Rattle.mgs_model.specs.Plans.{alteration};
-ghost use Rattle.mgs_model.specs.declared.session.Alteration.{Alteration};
-ghost use Rattle.mgs_edit.specs.Reading.{ChangeWithin, IsChange};
-ghost use Rattle.mgs_edit.specs.Rewriting.{changed, changed_or, finish_for, given_of, put_for};
-ghost use Rattle.mgs_edit.specs.declared.plan.Around.{Around};
+ghost use Rattle.mgs_fill.specs.Rewriting.{RewriteWithin};
+ghost use Rattle.mgs_edit.specs.Reading.{ChangeWithin};
+ghost use Rattle.mgs_edit.specs.Rewriting.{IsOfRewrite, changed, changed_or, finish_for, given_of, put_for};
 
 use crate::plan::{Around, Change, Finish, Goes, Put, STAYS};
 use mgs_fill::{Given, Point, Rewrite, Written};
@@ -74,7 +70,7 @@ fn changed_or(answer: Result<Rewrite, Message>) -> Result<Change, Message>
 #[tactic(auto, using(crate::proofs::Rewrites::is_change, crate::proofs::Rewrites::is_within))]
 /// The change that a rewriting is, which is the command's plan where the rewriting is.
 pub(crate) fn planned(answer: Result<Rewrite, Message>) -> Result<Change, Message>
-    ensures plan { (command : Alteration) (x : Around) (text : List ℕ) (g : Given) → g ≡ given_of x → IsRewrite (alteration command) g text answer → IsChange (alteration command) x text result }
+    ensures plan { IsOfRewrite answer result }
     ensures within { (text kill : List ℕ) → IfOk answer (RewriteWithin text) → IfOk result (ChangeWithin text kill) }
 {
     changed_or(answer)
