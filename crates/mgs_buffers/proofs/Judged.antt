@@ -57,14 +57,23 @@ pub one_right : (directory : Directory) (owners : Owners) (user : List ℕ) (ent
 one_right directory owners user entries right = decision_one directory owners user entries right
 
 module _ {T : Type 0} (text : T → List ℕ) (marks : T → List (Option ℕ)) where
-  -- the buffer that stands at a place
-  pub ruled_at : (es : List (List ℕ × Buffer T)) (ks : List MarkedBuffer) (i : ℕ) (n : List ℕ) (s : Buffer T) → marked_all text marks es ≡ ks → slice_get es i ≡ Some (n, s) → IsRuled i s.owners s.list (rules_kept ks)
-  ruled_at es ks i n s view at =
+  -- what is decided by at a place
+  rules_at : (es : List (List ℕ × Buffer T)) (ks : List MarkedBuffer) (i : ℕ) (o : Option (List ℕ × Buffer T)) → marked_all text marks es ≡ ks → o ≡ slice_get es i
+      → option_map rules_of (option_map (λ (k : MarkedBuffer). k.buffer) (option_map (λ (e : List ℕ × Buffer T). marked_of text marks e.0 e.1) o)) ≡ slice_get (rules_kept ks) i
+  rules_at es ks i o view at =
       let f : List ℕ × Buffer T → MarkedBuffer = λ e. marked_of text marks e.0 e.1 in
       let g : MarkedBuffer → model.Buffer = λ k. k.buffer in
-      record {
-        name = n;
-        there = ap (λ (xs : List MarkedBuffer). slice_get (rules_kept xs) i) (sym view)
-            ∙ slice_get-map rules_of (map g (map f es)) i
-            ∙ ap (option_map rules_of) (slice_get-map g (map f es) i ∙ ap (option_map g) (slice_get-map f es i ∙ ap (option_map f) at));
-      }
+      sym (ap (λ (xs : List MarkedBuffer). slice_get (rules_kept xs) i) (sym view)
+      ∙ slice_get-map rules_of (map g (map f es)) i
+      ∙ ap (option_map rules_of) (slice_get-map g (map f es) i ∙ ap (option_map g) (slice_get-map f es i ∙ ap (option_map f) (sym at))))
+
+  pub rules_found : (es : List (List ℕ × Buffer T)) (ks : List MarkedBuffer) (i : ℕ) (n : List ℕ) (s : Buffer T) → marked_all text marks es ≡ ks → Some (n, s) ≡ slice_get es i
+      → Some (rules_of (marked_of text marks n s).buffer) ≡ slice_get (rules_kept ks) i
+  rules_found es ks i n s view at = rules_at es ks i (Some (n, s)) view at
+
+  pub rules_none : (es : List (List ℕ × Buffer T)) (ks : List MarkedBuffer) (i : ℕ) → marked_all text marks es ≡ ks → None ≡ slice_get es i → None ≡ slice_get (rules_kept ks) i
+  rules_none es ks i view at = rules_at es ks i None view at
+
+  -- the buffer that stands at a place
+  pub ruled_at : (es : List (List ℕ × Buffer T)) (ks : List MarkedBuffer) (i : ℕ) (n : List ℕ) (s : Buffer T) → marked_all text marks es ≡ ks → slice_get es i ≡ Some (n, s) → IsRuled i s.owners s.list (rules_kept ks)
+  ruled_at es ks i n s view at = record { name = n; there = sym (rules_found es ks i n s view (sym at)) }

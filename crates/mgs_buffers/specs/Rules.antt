@@ -1,5 +1,5 @@
 -- What is answered where a user changes the access list or the owners of a buffer: that there is one is judged first, then the rights.
-use Rattle.std.specs.Prelude.{◌≡◌, ◌≢◌, ℕ, ◌<◌, ◌≤◌, Bool, true, false, List, Option, None, Some, Result, Ok, Err, insert, remove, slice_set}
+use Rattle.std.specs.Prelude.{◌≡◌, ◌≢◌, ℕ, ◌<◌, ◌≤◌, Bool, true, false, List, Option, None, Some, Result, Ok, Err, insert, remove, slice_set, length}
 use Rattle.mgs_model.specs.Access.{Directory, is_group_named}
 use Rattle.mgs_model.specs.declared.entry.Decision.{Decision}
 use Rattle.mgs_model.specs.declared.entry.Decision.TheVariants.{Granted}
@@ -10,6 +10,9 @@ use Rattle.mgs_buffers.specs.declared.fault.EntriesFault.{EntriesFault}
 use Rattle.mgs_buffers.specs.declared.fault.EntriesFault.TheVariants as entries
 use Rattle.mgs_buffers.specs.declared.fault.OwnersFault.{OwnersFault}
 use Rattle.mgs_buffers.specs.declared.fault.OwnersFault.TheVariants as owners
+use Rattle.mgs_model.specs.Apply.{change_first}
+use Rattle.mgs_buffers.specs.MarkedBuffer.{MarkedBuffer, has_buffer, marked_at, marked_named, marked_list_set}
+use Rattle.mgs_buffers.specs.Permitting.{mask_decision}
 use Rattle.mgs_buffers.specs.declared.rules.ListChange.{ListChange}
 use Rattle.mgs_buffers.specs.declared.rules.ListChange.TheVariants.{Insert, Delete, Replace}
 
@@ -44,6 +47,28 @@ abbrev pub ListAnswers : ListChange → Result (Unit {0}) EntriesFault → Bool 
 ListAnswers (Insert e) answer there due n len = InsertAnswers answer there due n len
 ListAnswers Delete answer there due n len = ChangeAnswers answer there due n len
 ListAnswers (Replace e) answer there due n len = ChangeAnswers answer there due n len
+
+-- the decision on changing the access list of the buffer of this name, and on giving it to another
+-- the bits of WRITE_ACL and of WRITE_OWNER
+abbrev pub WRITE_ACL : ℕ
+WRITE_ACL = 262144
+
+abbrev pub WRITE_OWNER : ℕ
+WRITE_OWNER = 524288
+
+abbrev pub list_decision : List MarkedBuffer → Directory → List ℕ → List ℕ → Decision
+list_decision ks directory user name = mask_decision directory (marked_at name ks).buffer user WRITE_ACL
+
+abbrev pub owners_decision : List MarkedBuffer → Directory → List ℕ → List ℕ → Decision
+owners_decision ks directory user name = mask_decision directory (marked_at name ks).buffer user WRITE_OWNER
+
+-- a user changes the access list of the buffer of this name
+abbrev pub EntriesAnswer : List MarkedBuffer → Directory → List ℕ → List ℕ → ListChange → ℕ → Result (Unit {0}) EntriesFault → Type 0
+EntriesAnswer ks directory user name change n answer =
+    ListAnswers change answer (has_buffer name ks) (list_decision ks directory user name) n (length (marked_at name ks).buffer.entries)
+
+abbrev pub entries_changed : List ℕ → ListChange → ℕ → List MarkedBuffer → List MarkedBuffer
+entries_changed name change n ks = change_first (marked_named name) (marked_list_set (list_changed change n (marked_at name ks).buffer.entries)) ks
 
 -- a user becomes the owner who is in the directory, or is not
 abbrev pub OwnerAnswers : Result (Unit {0}) OwnersFault → Bool → Decision → Bool → Type 0

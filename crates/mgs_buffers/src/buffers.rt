@@ -25,6 +25,7 @@ use crate::completing::completion;
 use crate::fault::AddFault;
 use crate::found::Found;
 use crate::naming::name_typed;
+use crate::rights::Rights;
 use crate::telling::{Attributes, is_shown, told};
 use indexmap::IndexMap;
 use mgs_acl::{group_named, user_named};
@@ -148,6 +149,41 @@ impl<T: Marked + Drop> Buffers<T> {
             Err(fault) => return Err(fault),
         };
         match self.add_last(name, owners, list, text, has_file) {
+            Ok(()) => Ok(()),
+            Err(Short) => Err(AddFault::Short),
+        }
+    }
+
+    /// Adds a buffer as the last, as `add` does, whose owners and access list were kept. That the owner is a user of the directory is for
+    /// the caller to see.
+    ///
+    /// The faults, checked in this order: `Twice`, `Full`, `Long` and `Short`, as of `add`. They change nothing.
+    pub fn restore(
+        &mut self,
+        rights: &Rights<'_>,
+        text: &[char],
+        has_file: bool,
+    ) -> Result<(), AddFault>
+        ensures ok { OnOk result (self.new ≡ self.old ++ marked_new rights.now.name rights.now.owners rights.now.entries text.now has_file ∷ []) }
+        ensures err { OnErr result (self.new ≡ self.old) }
+        ensures unmarked { AreUnmarked self.old → AreUnmarked self.new }
+    {
+        if self.has(rights.name) {
+            return Err(AddFault::Twice);
+        }
+        if self.len() >= BUFFER_LIMIT {
+            return Err(AddFault::Full);
+        }
+        if text.len() > TEXT_LIMIT {
+            return Err(AddFault::Long);
+        }
+        match self.add_last(
+            *rights.name,
+            *rights.owners,
+            rights.list.copy(),
+            text,
+            has_file,
+        ) {
             Ok(()) => Ok(()),
             Err(Short) => Err(AddFault::Short),
         }
@@ -356,6 +392,20 @@ impl<T: Marked + Drop> Buffers<T> {
     {
         match self.all.get_index(i) {
             Some((name, buffer)) => told(name, buffer, judge, i, directory, user),
+            None => None,
+        }
+    }
+
+    /// By what access to the `i`-th buffer is decided, in the order of creation, from 0. `None` where there are no more than `i` buffers.
+    pub fn rights(&self, i: usize) -> Option<Rights<'_>>
+        ensures { result ≡ slice_get (rules_kept self.now) i }
+    {
+        match self.all.get_index(i) {
+            Some((name, buffer)) => Some(Rights {
+                name,
+                owners: &buffer.owners,
+                list: &buffer.list,
+            }),
             None => None,
         }
     }

@@ -5,9 +5,9 @@ ghost use Rattle.mgs_model.specs.Access.{is_among};
 ghost use Rattle.mgs_model.specs.Apply.{change_first};
 ghost use Rattle.mgs_model.specs.declared.entry.Decision.TheVariants.{Granted};
 ghost use Rattle.mgs_model.specs.declared.owners.NewOwner.TheVariants.{ToUser, ToGroup};
-ghost use Rattle.mgs_buffers.specs.MarkedBuffer.{has_buffer, marked_at, marked_named, marked_list_set, marked_owners_set};
-ghost use Rattle.mgs_buffers.specs.Permitting.{mask_decision};
-ghost use Rattle.mgs_buffers.specs.Rules.{ChangeAnswers, InsertAnswers, ListAnswers, OwnerAnswers, GroupAnswers, fault_of, is_group_known, list_changed};
+ghost use Rattle.mgs_buffers.specs.MarkedBuffer.{has_buffer, marked_named, marked_owners_set};
+ghost use Rattle.mgs_buffers.specs.declared.rules.ListChange.TheVariants.{Insert, Delete, Replace};
+ghost use Rattle.mgs_buffers.specs.Rules.{ChangeAnswers, EntriesAnswer, GroupAnswers, InsertAnswers, ListAnswers, OwnerAnswers, entries_changed, fault_of, is_group_known, list_changed, owners_decision};
 
 use crate::buffers::Buffers;
 use crate::fault::{EntriesFault, OwnersFault};
@@ -99,8 +99,8 @@ impl<T: Marked + Drop> Buffers<T> {
         n: usize,
         change: ListChange,
     ) -> Result<(), EntriesFault>
-        ensures answer { let b = (marked_at name.now self.old).buffer in ListAnswers change result (has_buffer name.now self.old) (mask_decision directory.now b user.now 262144) n (length b.entries) }
-        ensures ok { OnOk result (self.new ≡ change_first (marked_named name.now) (marked_list_set (list_changed change n (marked_at name.now self.old).buffer.entries)) self.old) }
+        ensures answer { EntriesAnswer self.old directory.now user.now name.now change n result }
+        ensures ok { OnOk result (self.new ≡ entries_changed name.now change n self.old) }
         ensures err { OnErr result (self.new ≡ self.old) }
     {
         if !self.has(name) {
@@ -132,8 +132,8 @@ impl<T: Marked + Drop> Buffers<T> {
         n: usize,
         entry: Entry,
     ) -> Result<(), EntriesFault>
-        ensures answer { let b = (marked_at name.now self.old).buffer in InsertAnswers result (has_buffer name.now self.old) (mask_decision directory.now b user.now 262144) n (length b.entries) }
-        ensures ok { OnOk result (self.new ≡ change_first (marked_named name.now) (marked_list_set (insert (marked_at name.now self.old).buffer.entries n entry)) self.old) }
+        ensures answer { EntriesAnswer self.old directory.now user.now name.now (Insert entry) n result }
+        ensures ok { OnOk result (self.new ≡ entries_changed name.now (Insert entry) n self.old) }
         ensures err { OnErr result (self.new ≡ self.old) }
     {
         self.change_list_as(directory, user, name, n, ListChange::Insert(entry))
@@ -150,8 +150,8 @@ impl<T: Marked + Drop> Buffers<T> {
         name: &Name,
         n: usize,
     ) -> Result<(), EntriesFault>
-        ensures answer { let b = (marked_at name.now self.old).buffer in ChangeAnswers result (has_buffer name.now self.old) (mask_decision directory.now b user.now 262144) n (length b.entries) }
-        ensures ok { OnOk result (self.new ≡ change_first (marked_named name.now) (marked_list_set (remove (marked_at name.now self.old).buffer.entries n)) self.old) }
+        ensures answer { EntriesAnswer self.old directory.now user.now name.now Delete n result }
+        ensures ok { OnOk result (self.new ≡ entries_changed name.now Delete n self.old) }
         ensures err { OnErr result (self.new ≡ self.old) }
     {
         self.change_list_as(directory, user, name, n, ListChange::Delete)
@@ -170,8 +170,8 @@ impl<T: Marked + Drop> Buffers<T> {
         n: usize,
         entry: Entry,
     ) -> Result<(), EntriesFault>
-        ensures answer { let b = (marked_at name.now self.old).buffer in ChangeAnswers result (has_buffer name.now self.old) (mask_decision directory.now b user.now 262144) n (length b.entries) }
-        ensures ok { OnOk result (self.new ≡ change_first (marked_named name.now) (marked_list_set (slice_set (marked_at name.now self.old).buffer.entries n entry)) self.old) }
+        ensures answer { EntriesAnswer self.old directory.now user.now name.now (Replace entry) n result }
+        ensures ok { OnOk result (self.new ≡ entries_changed name.now (Replace entry) n self.old) }
         ensures err { OnErr result (self.new ≡ self.old) }
     {
         self.change_list_as(directory, user, name, n, ListChange::Replace(entry))
@@ -188,7 +188,7 @@ impl<T: Marked + Drop> Buffers<T> {
         name: &Name,
         owner: Name,
     ) -> Result<(), OwnersFault>
-        ensures answer { OwnerAnswers result (has_buffer name.now self.old) (mask_decision directory.now (marked_at name.now self.old).buffer user.now 524288) (is_among owner directory.now.users) }
+        ensures answer { OwnerAnswers result (has_buffer name.now self.old) (owners_decision self.old directory.now user.now name.now) (is_among owner directory.now.users) }
         ensures ok { OnOk result (self.new ≡ change_first (marked_named name.now) (marked_owners_set (ToUser owner)) self.old) }
         ensures err { OnErr result (self.new ≡ self.old) }
     {
@@ -218,7 +218,7 @@ impl<T: Marked + Drop> Buffers<T> {
         name: &Name,
         group: Option<Name>,
     ) -> Result<(), OwnersFault>
-        ensures answer { GroupAnswers result (has_buffer name.now self.old) (mask_decision directory.now (marked_at name.now self.old).buffer user.now 524288) (is_group_known directory.now group) }
+        ensures answer { GroupAnswers result (has_buffer name.now self.old) (owners_decision self.old directory.now user.now name.now) (is_group_known directory.now group) }
         ensures ok { OnOk result (self.new ≡ change_first (marked_named name.now) (marked_owners_set (ToGroup group)) self.old) }
         ensures err { OnErr result (self.new ≡ self.old) }
     {
