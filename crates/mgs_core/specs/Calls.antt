@@ -4,6 +4,8 @@ use Rattle.mgs_model.specs.Access.{Directory}
 use Rattle.mgs_model.specs.World.{World, Buffer, Session, State, has_id, find_session}
 use Rattle.mgs_laws.specs.Apart.{may_differ}
 use Rattle.mgs_model.specs.Apply.{remove_first}
+use Rattle.mgs_model.specs.declared.message.Message.{Message}
+use Rattle.mgs_model.specs.declared.message.Message.TheVariants.{Silent}
 use Rattle.mgs_model.specs.declared.touched.Touched.{Touched}
 use Rattle.mgs_model.specs.Events.{Open, Byte, step, can_open, open_fault, event_saves, with_state}
 use Rattle.mgs_laws.specs.Refusals.{refused_act, may_be_refused}
@@ -64,6 +66,15 @@ pub record OpenedBy (old new : World) (user : List ℕ) (rows cols : ℕ) (resul
 -- CLOSING: the world without the session of an id
 abbrev pub closed : World → ℕ → World
 closed w id = record w { sessions = remove_first (has_id id) w.sessions }
+
+-- WHAT IS TOLD OF A SESSION, where there is one: whose it is, and its echo line
+abbrev pub user_in : Option Session → Option (List ℕ)
+user_in None = None
+user_in (Some x) = Some x.user
+
+abbrev pub echo_in : Option Session → Message
+echo_in None = Silent
+echo_in (Some x) = x.state.echo
 
 -- WHAT MAY DIFFER after an event of a session that touched this: the screen of the session at a place
 

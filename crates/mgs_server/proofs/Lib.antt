@@ -4,5 +4,5 @@ mod Logins
 mod First
 mod Moving
 mod Reading
-mod Running
+pub mod Running
 mod Turning

@@ -120,6 +120,13 @@ impl<E: Served + Drop, C: Clock + Drop> Server<E, C> {
         })
     }
 
+    /// What it serves.
+    pub fn sessions(&self) -> &E
+        ensures { result.now ≡ self.now.serving }
+    {
+        &self.sessions
+    }
+
     /// The port that it listens on.
     pub fn port(&self) -> u16
         ensures { result ≡ self.now.port }
