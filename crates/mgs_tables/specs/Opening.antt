@@ -1,0 +1,47 @@
+-- An open of the tables' file.
+use Rattle.std.specs.Prelude.{◌≡◌, ◌⊎◌, [], ℤ, pos}
+use Rattle.sqlite_disk.specs.declared.Disk as disk
+use Rattle.sqlite.specs.Store.{Ghosts}
+use Rattle.sqlite.specs.declared.FileStore.{FileStore}
+use Rattle.sqlite.specs.declared.error.Error.{Error}
+use Rattle.sqlite.specs.declared.error.Error.TheVariants.{SqliteFailure}
+use Rattle.sqlite.specs.declared.error.ErrorCode.TheVariants as code
+use Rattle.sqlite.specs.Held.{Held, state}
+use Rattle.sqlite.specs.Files.{file_state, over_files, IsOpened}
+use Rattle.sqlite.specs.Recovery.{Image}
+use Rattle.sqlite.specs.Start.{FindsIn}
+use Rattle.mgs_tables.specs.declared.opening.OpenFault.{OpenFault}
+use Rattle.mgs_tables.specs.declared.opening.OpenFault.TheVariants as fault
+use Rattle.mgs_tables.specs.Texts.{select_version, count_objects, count_tables, table_texts}
+use Rattle.mgs_tables.specs.Making.{HasMade}
+use Rattle.mgs_tables.specs.Reading.{ShowsNumber}
+
+-- an error of SQLite's own is one of the disk, the file or the memory, and any other tells of other tables
+abbrev pub fault_of : Error → OpenFault
+fault_of (SqliteFailure code.NotADatabase) = fault.Damaged
+fault_of (SqliteFailure code.DatabaseCorrupt) = fault.Damaged
+fault_of (SqliteFailure code.DatabaseBusy) = fault.Locked
+fault_of (SqliteFailure code.OutOfMemory) = fault.OutOfMemory
+fault_of (SqliteFailure code.DiskFull) = fault.DiskFull
+fault_of (SqliteFailure _) = fault.System
+fault_of _ = fault.Foreign
+
+-- the file says version 1, and has the three tables as they are made
+pub record IsOurs {S : Type 0} (g : Ghosts S) (old new : Held S) : Type 0 where
+  pub mid : Held S
+  pub version : ShowsNumber select_version [] (state g old) (state g mid) (pos 1)
+  pub tables : ShowsNumber count_tables table_texts (state g mid) (state g new) (pos 3)
+
+-- the file had nothing and was given the tables, or it had something, which was found to be these tables
+pub record IsReady {S : Type 0} (g : Ghosts S) (old new : Held S) : Type 0 where
+  pub mid : Held S
+  pub count : ℤ
+  pub objects : ShowsNumber count_objects [] (state g old) (state g mid) count
+  pub tables : ((count ≡ pos 0) × HasMade g mid (state g new).committed) ⊎ IsOurs g mid new
+
+-- it is what the file held that was found, and then made ready
+pub record IsOpen {D : Type 0} {g : disk.Ghosts D} (start : Image) (now : Held (FileStore D g)) : Type 0 where
+  pub was : Held (FileStore D g)
+  pub opened : IsOpened was
+  pub found : FindsIn start (file_state was)
+  pub ready : IsReady over_files was now

@@ -1,0 +1,51 @@
+-- The texts of the statements.
+use Rattle.std.specs.Prelude.{ℕ, List, [], ◌∷◌, ◌++◌, codes}
+use Rattle.sqlite.specs.declared.types.Value.TheVariants.{Text}
+use Rattle.sqlite.specs.Order.{Row}
+
+abbrev pub insert_buffer : List ℕ
+insert_buffer = codes "INSERT INTO buffer (name, owner, owning_group, entries) VALUES (?1, ?2, ?3, ?4)"
+
+abbrev pub update_buffer : List ℕ
+update_buffer = codes "UPDATE buffer SET owner = ?2, owning_group = ?3, entries = ?4 WHERE name = ?1"
+
+abbrev pub delete_buffer : List ℕ
+delete_buffer = codes "DELETE FROM buffer WHERE name = ?1"
+
+abbrev pub insert_event : List ℕ
+insert_event = codes "INSERT INTO event (at, user, what, buffer, detail) VALUES (?1, ?2, ?3, ?4, ?5)"
+
+abbrev pub select_newest : List ℕ
+select_newest = codes "SELECT coalesce(max(number), 0) FROM event"
+
+abbrev pub select_rights : List ℕ
+select_rights = codes "SELECT name, owner, owning_group, entries FROM buffer ORDER BY id"
+
+abbrev pub select_events : List ℕ
+select_events = codes "SELECT number, at, user, what, buffer, detail FROM event WHERE number > ?1 ORDER BY number LIMIT ?2"
+
+abbrev pub select_version : List ℕ
+select_version = codes "SELECT version FROM format"
+
+abbrev pub count_objects : List ℕ
+count_objects = codes "SELECT count(*) FROM sqlite_schema"
+
+abbrev pub count_tables : List ℕ
+count_tables = codes "SELECT count(*) FROM sqlite_schema WHERE sql = ?1 OR sql = ?2 OR sql = ?3"
+
+abbrev pub create_format : List ℕ
+create_format = codes "CREATE TABLE format (version INTEGER NOT NULL) STRICT"
+
+abbrev pub create_buffer : List ℕ
+create_buffer = codes "CREATE TABLE buffer (id INTEGER PRIMARY KEY, name TEXT NOT NULL UNIQUE, owner TEXT NOT NULL, owning_group TEXT NOT NULL, entries TEXT NOT NULL) STRICT"
+
+abbrev pub create_event : List ℕ
+create_event = codes "CREATE TABLE event (number INTEGER PRIMARY KEY, at INTEGER NOT NULL, user TEXT NOT NULL, what TEXT NOT NULL, buffer TEXT NOT NULL, detail TEXT NOT NULL) STRICT"
+
+-- the three texts as the values of a statement's parameters
+abbrev pub table_texts : Row
+table_texts = Text create_format ∷ Text create_buffer ∷ Text create_event ∷ []
+
+-- all statements that make the tables and say their version
+abbrev pub make_tables : List ℕ
+make_tables = create_format ++ codes "; " ++ create_buffer ++ codes "; " ++ create_event ++ codes "; INSERT INTO format (version) VALUES (1)"

@@ -1,0 +1,93 @@
+//! The table of what happened.
+
+ghost use Rattle.std.specs.Prelude.{◌≡◌, false, [], ◌∷◌, map, IsTrue, IfOk, OnOk, OnErr};
+ghost use Rattle.sqlite.specs.State.{HasCleanDisk, Survives, KeepsCommit, Executes, ExecutesInside, CommitsBy, CommitsShowing};
+ghost use Rattle.sqlite.specs.Held.{state};
+ghost use Rattle.mgs_tables.specs.Texts.{insert_event, select_newest};
+ghost use Rattle.mgs_tables.specs.Rows.{event_values};
+ghost use Rattle.mgs_tables.specs.Both.{IsUndone};
+ghost use Rattle.mgs_tables.specs.Events.{RunAll, RanAll};
+ghost use Rattle.mgs_tables.specs.Reading.{ShowsNumber};
+
+use crate::rows::EventRow;
+use sqlite::{Alter, Connection, Error, ErrorCode, Transaction, params};
+
+/// Adds an event, which gets the next number, and says how many rows that are: one. By itself it is a transaction of its own, and in one
+/// that is open a part of it. It is refused where SQLite refuses or fails, and then nothing is changed.
+pub fn put_event<S: Alter>(conn: &mut Connection<S>, event: &EventRow<'_>) -> Result<usize, Error>
+    ensures runs { HasCleanDisk (state S.Store conn.new)
+        → Executes insert_event (event_values event.now) (state S.Store conn.old) (state S.Store conn.new) result }
+    ensures survives { Survives (state S.Store conn.old) (state S.Store conn.new)
+        (CommitsBy insert_event (event_values event.now) (state S.Store conn.old)) }
+{
+    conn.execute(
+        "INSERT INTO event (at, user, what, buffer, detail) VALUES (?1, ?2, ?3, ?4, ?5)",
+        params![event.at, event.user, event.what, event.buffer, event.detail],
+    )
+}
+
+/// Adds an event within a transaction, which alone commits it.
+pub(crate) fn put_event_within<S: Alter>(
+    tx: &mut Transaction<'_, S>,
+    event: &EventRow<'_>,
+) -> Result<usize, Error>
+    ensures same_reference { tx.new.conn.ghost_name ≡ tx.old.conn.ghost_name }
+    ensures runs { HasCleanDisk (state S.Store tx.new.conn.now) → IsTrue (state S.Store tx.old.conn.now).in_transaction
+        → ExecutesInside 0 insert_event (event_values event.now) (state S.Store tx.old.conn.now) (state S.Store tx.new.conn.now) result }
+    ensures survives { Survives (state S.Store tx.old.conn.now) (state S.Store tx.new.conn.now) (λ _. ⊥) }
+{
+    tx.execute(
+        "INSERT INTO event (at, user, what, buffer, detail) VALUES (?1, ?2, ?3, ?4, ?5)",
+        params![event.at, event.user, event.what, event.buffer, event.detail],
+    )
+}
+
+// Adds each of the events within a transaction, in their order.
+fn put_all<S: Alter>(tx: &mut Transaction<'_, S>, events: &[EventRow<'_>]) -> Result<(), Error>
+    ensures same_reference { tx.new.conn.ghost_name ≡ tx.old.conn.ghost_name }
+    ensures all { HasCleanDisk (state S.Store tx.new.conn.now) → IsTrue (state S.Store tx.old.conn.now).in_transaction
+        → OnOk result (RunAll S.Store (map event_values events.now) tx.old.conn.now tx.new.conn.now) }
+    ensures inside { HasCleanDisk (state S.Store tx.new.conn.now) → IsTrue (state S.Store tx.old.conn.now).in_transaction
+        → OnOk result (IsTrue (state S.Store tx.new.conn.now).in_transaction) }
+    ensures kept { HasCleanDisk (state S.Store tx.new.conn.now) → IsTrue (state S.Store tx.old.conn.now).in_transaction
+        → KeepsCommit (state S.Store tx.old.conn.now) (state S.Store tx.new.conn.now) }
+    ensures survives { Survives (state S.Store tx.old.conn.now) (state S.Store tx.new.conn.now) (λ _. ⊥) }
+{
+    for event in events {
+        put_event_within(tx, event)?;
+    }
+    Ok(())
+}
+
+/// Adds the events in their order, all of them or none, in one transaction.
+///
+/// # Errors
+///
+/// `TransactionState` where a transaction is open, and what SQLite refuses or fails by. Nothing is changed then.
+pub fn put_events<S: Alter>(conn: &mut Connection<S>, events: &[EventRow<'_>]) -> Result<(), Error>
+    ensures all { HasCleanDisk (state S.Store conn.new)
+        → OnOk result (RanAll S.Store (map event_values events.now) conn.old (state S.Store conn.new).committed) }
+    ensures none { HasCleanDisk (state S.Store conn.new) → IsTrue (state S.Store conn.new).is_open
+        → OnErr result (IsUndone (state S.Store conn.old) (state S.Store conn.new)) }
+    ensures mode { (state S.Store conn.old).in_transaction ≡ false → (state S.Store conn.new).in_transaction ≡ false }
+    ensures crash { Survives (state S.Store conn.old) (state S.Store conn.new)
+        (λ trees. (db : _) × RanAll S.Store (map event_values events.now) conn.old db × (trees ≡ db.trees)) }
+{
+    if !conn.is_autocommit() {
+        return Err(Error::SqliteFailure(ErrorCode::TransactionState));
+    }
+    let mut tx = conn.transaction();
+    put_all(&mut tx, events)?;
+    tx.commit()?;
+    Ok(())
+}
+
+/// The newest event's number, 0 where there is none. It fails where SQLite refuses or fails.
+pub fn newest<S: Alter>(conn: &mut Connection<S>) -> Result<i64, Error>
+    ensures shown { HasCleanDisk (state S.Store conn.new)
+        → IfOk result (ShowsNumber select_newest [] (state S.Store conn.old) (state S.Store conn.new)) }
+    ensures survives { Survives (state S.Store conn.old) (state S.Store conn.new) (CommitsShowing select_newest [] (state S.Store conn.old)) }
+{
+    conn.query_row("SELECT coalesce(max(number), 0) FROM event", &[])?
+        .get(0)
+}

@@ -1,0 +1,122 @@
+// Calls that say nothing, so that the proof of a test does not carry the state of each.
+use mgs_tables::{EventRow, Fault, RightsRow};
+use sqlite::{Alter, Connection, Error};
+use std::alloc::Global;
+
+// The rights of a buffer with these entries.
+fn rights<'a>(name: &'a str, entries: &'a str) -> RightsRow<'a> {
+    RightsRow {
+        name,
+        owner: "ann",
+        owning_group: "staff",
+        entries,
+    }
+}
+
+// An event about a buffer.
+fn event<'a>(what: &'a str, buffer: &'a str) -> EventRow<'a> {
+    EventRow {
+        at: 1_700_000_000,
+        user: "ann",
+        what,
+        buffer,
+        detail: "",
+    }
+}
+
+/// Makes the tables.
+pub(crate) fn make<S: Alter>(conn: &mut Connection<S>) -> Result<(), Error> {
+    mgs_tables::make(conn)
+}
+
+/// The version of the tables.
+pub(crate) fn version<S: Alter>(conn: &mut Connection<S>) -> Result<i64, Error> {
+    mgs_tables::version(conn)
+}
+
+/// Adds a buffer, and an event `create`.
+pub(crate) fn add<S: Alter>(
+    conn: &mut Connection<S>,
+    name: &str,
+    entries: &str,
+) -> Result<(), Fault> {
+    mgs_tables::add_buffer(conn, &rights(name, entries), &event("create", name))
+}
+
+/// Gives a buffer other entries, and adds an event `list`.
+pub(crate) fn set<S: Alter>(
+    conn: &mut Connection<S>,
+    name: &str,
+    entries: &str,
+) -> Result<(), Fault> {
+    mgs_tables::set_buffer(conn, &rights(name, entries), &event("list", name))
+}
+
+/// Takes a buffer out, and adds an event `kill`.
+pub(crate) fn drop_one<S: Alter>(conn: &mut Connection<S>, name: &str) -> Result<(), Fault> {
+    mgs_tables::drop_buffer(conn, name, &event("kill", name))
+}
+
+/// Adds an event by itself.
+pub(crate) fn put<S: Alter>(conn: &mut Connection<S>, what: &str) -> Result<usize, Error> {
+    mgs_tables::put_event(conn, &event(what, ""))
+}
+
+/// Adds two events at once.
+pub(crate) fn put_two<S: Alter>(
+    conn: &mut Connection<S>,
+    first: &str,
+    second: &str,
+) -> Result<(), Error> {
+    mgs_tables::put_events(conn, &[event(first, ""), event(second, "")])
+}
+
+/// The newest event's number.
+pub(crate) fn newest<S: Alter>(conn: &mut Connection<S>) -> Result<i64, Error> {
+    mgs_tables::newest(conn)
+}
+
+/// Runs a statement.
+pub(crate) fn run<S: Alter>(conn: &mut Connection<S>, sql: &str) -> Result<usize, Error> {
+    conn.execute(sql, &[])
+}
+
+/// All rights: of each buffer its name, its owner, its owning group and its entries, with a slash after each.
+pub(crate) fn all_rights<S: Alter>(
+    conn: &mut Connection<S>,
+    alloc: Global,
+) -> Result<String, Error> {
+    let mut text = String::new(alloc);
+    for rights in mgs_tables::read_rights(conn, alloc)? {
+        for part in [
+            &rights.name,
+            &rights.owner,
+            &rights.owning_group,
+            &rights.entries,
+        ] {
+            text.push_str(part.as_str())?;
+            text.push('/')?;
+        }
+    }
+    Ok(text)
+}
+
+/// A page of at most so many events: of each its number, what was done and the buffer, with a slash after each.
+pub(crate) fn page<S: Alter>(
+    conn: &mut Connection<S>,
+    alloc: Global,
+    after: i64,
+    most: u32,
+) -> Result<String, Error> {
+    let mut text = String::new(alloc);
+    for event in mgs_tables::read_events(conn, alloc, after, most)? {
+        let line = format!(in alloc;
+            "{} {} {}/",
+            event.number,
+            event.what.as_str(),
+            event.buffer.as_str()
+        )?;
+        text.push_str(line.as_str())?;
+    }
+    Ok(text)
+}
