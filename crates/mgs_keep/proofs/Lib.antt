@@ -1,0 +1,4 @@
+mod Rules
+mod Running
+mod Tellings
+mod Walks
