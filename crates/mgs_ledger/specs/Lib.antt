@@ -1,0 +1,4 @@
+pub mod Keeping
+pub mod Reading
+pub mod Spelling
+pub mod Telling

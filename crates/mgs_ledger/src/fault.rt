@@ -1,0 +1,52 @@
+// Why the ledger does not go on.
+use mgs_tables::Fault;
+use sqlite::Error as SqliteError;
+use std::alloc::{AllocError, AllocFailed};
+use thiserror::Error;
+
+/// Why the ledger does not go on.
+#[derive(Debug, Drop, Error)]
+pub enum LedgerFault {
+    /// What is kept of the buffer of this name is no rights: its name, its owner, its owning group or an entry of its list does not read.
+    #[error("buffer {0}: not as it was kept")]
+    Row(String),
+    /// The tables refuse it or fail.
+    #[error("{0}")]
+    Tables(Fault),
+    /// There are as many buffers as there is room for.
+    #[error("too many buffers")]
+    Full,
+    /// The rights are of another buffer than the one at the place.
+    #[error("another buffer")]
+    Other,
+    /// The clock does not tell the time.
+    #[error("no time")]
+    Clock,
+    /// Memory was refused.
+    #[error("no memory")]
+    Short,
+}
+
+impl From<AllocError> for LedgerFault {
+    fn from(_error: AllocError) -> LedgerFault {
+        LedgerFault::Short
+    }
+}
+
+impl<T: Drop> From<AllocFailed<T>> for LedgerFault {
+    fn from(_error: AllocFailed<T>) -> LedgerFault {
+        LedgerFault::Short
+    }
+}
+
+impl From<Fault> for LedgerFault {
+    fn from(fault: Fault) -> LedgerFault {
+        LedgerFault::Tables(fault)
+    }
+}
+
+impl From<SqliteError> for LedgerFault {
+    fn from(error: SqliteError) -> LedgerFault {
+        LedgerFault::Tables(Fault::Sqlite(error))
+    }
+}

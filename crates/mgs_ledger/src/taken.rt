@@ -1,0 +1,72 @@
+// The names that users took.
+ghost use Rattle.std.specs.Prelude.{◌≡◌};
+ghost use Rattle.mgs_model.specs.Access.{is_among};
+
+use crate::fault::LedgerFault;
+use mgs_model::Name;
+use mgs_tables::{Event, read_events};
+use sqlite::{Alter, Connection};
+use std::alloc::Global;
+
+/// How many events are read at once.
+const PAGE: u32 = 256;
+
+/// Whether a name is one of these.
+pub(crate) fn has_name(names: &[Name], name: &Name) -> bool
+    ensures { result ≡ is_among name.now names.now }
+{
+    names.iter().any(|other| *name == *other)
+}
+
+/// Takes a name out, if it is there.
+pub(crate) fn free(names: &mut Vec<Name>, name: &Name) {
+    if let Some(at) = names.iter().position(|other| *name == *other) {
+        let _ = names.remove(at);
+    }
+}
+
+// A name is taken by a user, or free again.
+fn note(names: &mut Vec<Name>, name: Name, is_by_user: bool) -> Result<(), LedgerFault> {
+    free(names, &name);
+    if is_by_user {
+        names.push(name)?;
+    }
+    Ok(())
+}
+
+// What an event does to the names that are taken: a user takes one by making or killing a buffer, and who makes the server frees it so.
+fn note_event(names: &mut Vec<Name>, event: &Event) -> Result<(), LedgerFault> {
+    if event.what.as_str() != "create" && event.what.as_str() != "kill" {
+        return Ok(());
+    }
+    match Name::read(event.buffer.as_str()) {
+        Some(name) => note(names, name, event.user.as_str() != "-"),
+        None => Ok(()),
+    }
+}
+
+// Notes all events of a page, and says the number of the last of all.
+fn note_page(names: &mut Vec<Name>, events: &[Event], mut last: i64) -> Result<i64, LedgerFault> {
+    for event in events {
+        note_event(names, event)?;
+        last = event.number;
+    }
+    Ok(last)
+}
+
+/// The names whose last buffer a user made or killed, by the events of the tables.
+pub(crate) fn read_taken<S: Alter>(
+    conn: &mut Connection<S>,
+    alloc: Global,
+) -> Result<Vec<Name>, LedgerFault> {
+    let mut names = Vec::new(alloc);
+    let mut last = 0;
+    for _ in 0..u64::MAX {
+        let events = read_events(conn, alloc, last, PAGE)?;
+        if events.is_empty() {
+            return Ok(names);
+        }
+        last = note_page(&mut names, events.as_slice(), last)?;
+    }
+    Ok(names)
+}

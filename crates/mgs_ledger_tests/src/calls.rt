@@ -1,0 +1,139 @@
+// Calls that say nothing, so that the proof of a test does not carry the state of each.
+use crate::desk::Desk;
+use mgs_acl::{List, print_entry, read_entry};
+use mgs_buffers::Rights;
+use mgs_journal::{Journal, Told};
+use mgs_model::{Name, Owners};
+use std::alloc::{AllocError, Global};
+use std::test::Fail;
+
+/// The name that is written so.
+pub(crate) fn name(text: &str) -> Result<Name, Fail> {
+    Ok(Name::read(text).ok_or("no name")?)
+}
+
+fn group(text: &str) -> Result<Option<Name>, Fail> {
+    if text == "-" {
+        return Ok(None);
+    }
+    Ok(Some(name(text)?))
+}
+
+fn list(entries: &str) -> Result<List, Fail> {
+    let mut list = List::new();
+    for entry in entries.split(';') {
+        let entry = read_entry(entry).ok().ok_or("no entry")?;
+        list.insert(list.len(), entry).ok().ok_or("no room")?;
+    }
+    Ok(list)
+}
+
+fn owners(owner: &str, owning_group: &str) -> Result<Owners, Fail> {
+    Ok(Owners {
+        owner: name(owner)?,
+        group: group(owning_group)?,
+    })
+}
+
+/// Adds a buffer that ann made. `-` is no group, and a semicolon parts entries.
+pub(crate) fn add(
+    desk: &mut Desk<'_>,
+    buffer: &str,
+    owner: &str,
+    owning_group: &str,
+    entries: &str,
+) -> Result<(), Fail> {
+    let buffer = name(buffer)?;
+    let owners = owners(owner, owning_group)?;
+    let list = list(entries)?;
+    let rights = Rights {
+        name: &buffer,
+        owners: &owners,
+        list: &list,
+    };
+    desk.add(Some(&name("ann")?), &rights)?;
+    Ok(())
+}
+
+/// Has ann give the first buffer these rights, and says whether the ledger took that.
+pub(crate) fn set(
+    desk: &mut Desk<'_>,
+    buffer: &str,
+    owner: &str,
+    owning_group: &str,
+    entries: &str,
+) -> Result<bool, Fail> {
+    if desk.rights(0).is_none() {
+        return Err(Fail::new("no buffer"));
+    }
+    let buffer = name(buffer)?;
+    let owners = owners(owner, owning_group)?;
+    let list = list(entries)?;
+    let rights = Rights {
+        name: &buffer,
+        owners: &owners,
+        list: &list,
+    };
+    Ok(desk.set(Some(&name("ann")?), 0, &rights).is_ok())
+}
+
+/// Has nobody kill the first buffer.
+pub(crate) fn remove(desk: &mut Desk<'_>) -> Result<(), Fail> {
+    if desk.rights(0).is_none() {
+        return Err(Fail::new("no buffer"));
+    }
+    desk.remove(None, 0)?;
+    Ok(())
+}
+
+/// Tells that bob came, so many times.
+pub(crate) fn come(desk: &mut Desk<'_>, times: u32) -> Result<(), Fail> {
+    for _ in 0..times {
+        desk.tell(Told::Came(name("bob")?))?;
+    }
+    Ok(())
+}
+
+/// Tells this.
+pub(crate) fn tell(desk: &mut Desk<'_>, told: Told) -> Result<(), Fail> {
+    desk.tell(told)?;
+    Ok(())
+}
+
+/// What is gathered for so long that it is due is kept.
+pub(crate) fn tick(desk: &mut Desk<'_>) -> Result<(), Fail> {
+    desk.tick()?;
+    Ok(())
+}
+
+fn push_name(text: &mut String, name: &Name) -> Result<(), AllocError> {
+    for byte in name.as_bytes() {
+        text.push(char::from(*byte))?;
+    }
+    text.push(' ')
+}
+
+fn push_rights(text: &mut String, rights: &Rights<'_>) -> Result<(), AllocError> {
+    push_name(text, rights.name)?;
+    push_name(text, &rights.owners.owner)?;
+    match &rights.owners.group {
+        Some(group) => push_name(text, group)?,
+        None => text.push_str("- ")?,
+    }
+    for entry in rights.list.as_slice() {
+        text.push_str(print_entry(entry).as_str())?;
+        text.push(';')?;
+    }
+    text.push('/')
+}
+
+/// The rights that are kept: of each buffer its name, its owner, its owning group and its entries, each with a semicolon, and then a slash.
+pub(crate) fn kept(alloc: Global, desk: &Desk<'_>) -> Result<String, Fail> {
+    let mut text = String::new(alloc);
+    for i in 0..256 {
+        if let Some(rights) = desk.rights(i) {
+            push_rights(&mut text, &rights)?;
+        }
+    }
+    Ok(text)
+}

@@ -1,0 +1,116 @@
+// What comes back of rights.
+use crate::calls::{add, kept, remove, set};
+use crate::desk::{Desk, Dial, begin, resume, tables};
+use mgs_tables::{EventRow, RightsRow};
+use sqlite::{Connection, MemStore};
+use std::alloc::Global;
+use std::test::Fail;
+
+// What a ledger keeps that goes on with the tables of this one.
+fn kept_again(alloc: Global, dial: &Dial, desk: Desk<'_>) -> Result<String, Fail> {
+    kept(alloc, &resume(alloc, desk.close()?, dial)?)
+}
+
+// Puts a row into the tables as it is.
+fn insert(
+    conn: &mut Connection<MemStore>,
+    owner: &str,
+    owning_group: &str,
+    entries: &str,
+) -> Result<(), Fail> {
+    let rights = RightsRow {
+        name: "notes",
+        owner,
+        owning_group,
+        entries,
+    };
+    let event = EventRow {
+        at: 0,
+        user: "ann",
+        what: "create",
+        buffer: "notes",
+        detail: "",
+    };
+    mgs_tables::add_buffer(conn, &rights, &event)?;
+    Ok(())
+}
+
+// What is said of tables with this row.
+fn fault_of(alloc: Global, owner: &str, owning_group: &str, entries: &str) -> Result<String, Fail> {
+    let dial = Dial::new();
+    let mut conn = tables(alloc)?;
+    insert(&mut conn, owner, owning_group, entries)?;
+    match resume(alloc, conn, &dial) {
+        Ok(_) => Ok(String::new(alloc)),
+        Err(fault) => Ok(format!(in alloc; "{fault}")?),
+    }
+}
+
+#[test]
+fn rights_of_all_kinds_come_back(rt: HostRuntime) -> Result<(), Fail> {
+    let dial = Dial::new();
+    let mut desk = begin(rt.alloc(), &dial)?;
+    add(
+        &mut desk,
+        "notes",
+        "ann",
+        "staff",
+        "ALLOW OWNER@ rwatdcCo;DENY GROUP@ w;ALLOW EVERYONE@ r;DENY bob C;ALLOW group:staff rw",
+    )?;
+    add(&mut desk, "*scratch*", "bob", "-", "ALLOW OWNER@ rw")?;
+    let before = kept(rt.alloc(), &desk)?;
+    let after = kept_again(rt.alloc(), &dial, desk)?;
+    assert_eq!(rt;
+        after.as_str(),
+        "notes ann staff ALLOW OWNER@ rwatdcCo;DENY GROUP@ w;ALLOW EVERYONE@ r;DENY bob C;\
+         ALLOW group:staff rw;/*scratch* bob - ALLOW OWNER@ rw;/"
+    );
+    assert!(rt; before.as_str() == after.as_str());
+    Ok(())
+}
+
+#[test]
+fn what_was_set_and_killed_stays_so(rt: HostRuntime) -> Result<(), Fail> {
+    let dial = Dial::new();
+    let mut desk = begin(rt.alloc(), &dial)?;
+    add(&mut desk, "notes", "ann", "staff", "ALLOW EVERYONE@ r")?;
+    add(&mut desk, "todo", "ann", "-", "ALLOW OWNER@ rw")?;
+    assert!(rt; set(&mut desk, "notes", "bob", "-", "DENY ann r")?);
+    let after = kept(rt.alloc(), &desk)?;
+    assert_eq!(rt;
+        after.as_str(),
+        "notes bob - DENY ann r;/todo ann - ALLOW OWNER@ rw;/"
+    );
+    remove(&mut desk)?;
+    let after = kept_again(rt.alloc(), &dial, desk)?;
+    assert_eq!(rt; after.as_str(), "todo ann - ALLOW OWNER@ rw;/");
+    Ok(())
+}
+
+#[test]
+fn rights_of_another_name_change_nothing(rt: HostRuntime) -> Result<(), Fail> {
+    let dial = Dial::new();
+    let mut desk = begin(rt.alloc(), &dial)?;
+    add(&mut desk, "notes", "ann", "-", "ALLOW OWNER@ rw")?;
+    assert!(rt; !set(&mut desk, "todo", "bob", "-", "ALLOW OWNER@ r")?);
+    let after = kept_again(rt.alloc(), &dial, desk)?;
+    assert_eq!(rt; after.as_str(), "notes ann - ALLOW OWNER@ rw;/");
+    Ok(())
+}
+
+#[test]
+fn a_row_that_is_no_rights_is_refused_by_name(rt: HostRuntime) -> Result<(), Fail> {
+    for &(owner, owning_group, entries) in &[
+        ("ann", "", "ALOW bob r\n"),
+        ("ann", "", "ALLOW bob r"),
+        ("ann", "", "ALLOW bob r\n\n"),
+        ("Ann", "", "ALLOW bob r\n"),
+        ("ann", "@", "ALLOW bob r\n"),
+    ] {
+        let fault = fault_of(rt.alloc(), owner, owning_group, entries)?;
+        assert_eq!(rt; fault.as_str(), "buffer notes: not as it was kept");
+    }
+    let fault = fault_of(rt.alloc(), "ann", "staff", "ALLOW bob r\n")?;
+    assert_eq!(rt; fault.as_str(), "");
+    Ok(())
+}

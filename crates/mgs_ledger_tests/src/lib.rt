@@ -1,0 +1,14 @@
+//! Tests of the ledger over tables in memory: what comes back of rights, what is told of changes, when what is gathered is committed, and
+//! which lines an audit prints.
+#![tactic(auto)]
+
+#[cfg(test)]
+mod calls;
+#[cfg(test)]
+mod changes;
+#[cfg(test)]
+mod desk;
+#[cfg(test)]
+mod gathered;
+#[cfg(test)]
+mod kept;
