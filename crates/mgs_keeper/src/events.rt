@@ -1,0 +1,87 @@
+// The events that the journal tells.
+ghost use Rattle.std.specs.Prelude.{◌≢◌};
+
+use crate::arguments::Wanted;
+use crate::folder::journal_path;
+use crate::status::{FAILED, IN_USE, PRINTED};
+use jiff::Timestamp;
+use jiff::civil::Date;
+use jiff::tz::TimeZone;
+use mgs_command::tell;
+use mgs_ledger::{Filter, audit};
+use mgs_tables::{OpenFault, open};
+use std::{fs, io};
+
+/// What a time is that is none.
+const NO_TIME: &str = "--since: not a time as 2026-11-29 or 2026-11-29T01:22:33Z";
+
+// The letters of a day, as 2026-11-29. A day's reading takes a time behind it, and leaves that out.
+const DAY_LENGTH: usize = 10;
+
+// The seconds since 1970 of a time in UTC, or of the start of a day.
+fn seconds_of(text: &str) -> Option<i64> {
+    if let Ok(time) = text.parse::<Timestamp>() {
+        return Some(time.as_second());
+    }
+    if text.len() != DAY_LENGTH {
+        return None;
+    }
+    let day = text.parse::<Date>().ok()?;
+    let start = day.to_zoned(TimeZone::UTC).ok()?;
+    Some(start.timestamp().as_second())
+}
+
+/// The program's status where the file of the journal is not opened, which is told.
+pub(crate) fn end_open<R: Eprint>(rt: &R, fault: OpenFault) -> u8
+    ensures { result ≢ 0 }
+{
+    let _ = eprintln!(rt; "journal: {fault}");
+    match fault {
+        OpenFault::Locked => IN_USE,
+        _ => FAILED,
+    }
+}
+
+// Prints the events of an open journal.
+fn print_from(rt: &HostRuntime, path: &str, filter: &Filter<'_>) -> u8 {
+    let mut conn = match open(rt, path) {
+        Ok(conn) => conn,
+        Err(fault) => return end_open(rt, fault),
+    };
+    let mut out = io::writer(rt);
+    match audit(&mut conn, rt.alloc(), filter, &mut out) {
+        Ok(()) => PRINTED,
+        Err(fault) => {
+            tell(rt, fault);
+            FAILED
+        }
+    }
+}
+
+/// Prints the events of the journal in a folder, oldest first, those that are wanted. It makes no file.
+pub(crate) fn print_events(rt: &HostRuntime, folder: &str, wanted: &Wanted) -> u8 {
+    let since = match &wanted.since {
+        None => None,
+        Some(text) => match seconds_of(text.as_str()) {
+            Some(seconds) => Some(seconds),
+            None => {
+                tell(rt, NO_TIME);
+                return FAILED;
+            }
+        },
+    };
+    let Ok(path) = journal_path(rt, folder) else {
+        tell(rt, "no memory");
+        return FAILED;
+    };
+    if !matches!(fs::exists(rt, path.as_str()), Ok(true)) {
+        let _ = eprintln!(rt; "{path}: there is no journal");
+        return FAILED;
+    }
+    let filter = Filter {
+        user: wanted.user.as_deref(),
+        buffer: wanted.buffer.as_deref(),
+        since,
+    };
+    print_from(rt, path.as_str(), &filter)
+}

@@ -1,0 +1,36 @@
+// The folder of the journal.
+use std::alloc::AllocError;
+use std::fs::{self, Files, OpenOptions};
+use std::io;
+use std::os::unix::fs::{MetadataExt, OpenOptionsExt, PermissionsExt};
+
+// The bits that let group and others read, write and enter.
+const OTHERS: u32 = 0o077;
+
+// The mode of the journal's file: its owner's alone.
+const PRIVATE: u32 = 0o600;
+
+// What the system tells of this process, with the number of its user.
+const SELF: &str = "/proc/self";
+
+/// Whether a path is that of a folder, and no link to one, of the user who runs this, with no right for group and others.
+pub(crate) fn is_private_folder<R: Files>(rt: &R, path: &str) -> io::Result<bool> {
+    let own = fs::metadata(rt, SELF)?.uid();
+    let folder = fs::symlink_metadata(rt, path)?;
+    Ok(folder.is_dir() && folder.uid() == own && folder.mode() & OTHERS == 0)
+}
+
+/// The path of the journal's file in a folder.
+pub(crate) fn journal_path<R: AllocGlobal>(rt: &R, folder: &str) -> Result<String, AllocError> {
+    let mut path = String::new(rt.alloc());
+    path.push_str(folder)?;
+    path.push_str("/journal.sqlite3")?;
+    Ok(path)
+}
+
+/// Makes an empty file for the journal, which only its owner may read and write, where there is none. SQLite gives its log the same mode.
+pub(crate) fn make_private<R: Files>(rt: &R, path: &str) {
+    let mut how = OpenOptions::new();
+    how.write(true).create_new(true).mode(PRIVATE);
+    let _ = how.open(rt, path);
+}

@@ -1,0 +1,13 @@
+//! What `mgd-keep` does: it serves a configuration with a journal of rights and events in a folder, and prints what the journal tells.
+#![tactic(auto)]
+
+mod arguments;
+mod events;
+mod folder;
+mod program;
+mod service;
+mod status;
+mod turns;
+
+pub use program::run;
+pub use status::{FAILED, IN_USE, JOURNAL_FAILED, NO_SOCKETS, PRINTED, WRONG_ARGUMENTS};

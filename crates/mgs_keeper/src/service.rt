@@ -1,0 +1,316 @@
+// A configuration that is served with a journal.
+ghost use Rattle.std.specs.Prelude.{◌≡◌, ◌≢◌, ◌<◌, IfErr, IfSome, length};
+ghost use Rattle.mgs_buffers.specs.MarkedBuffer.{AreUnmarked};
+
+use crate::arguments::Mending;
+use crate::events::end_open;
+use crate::folder::{is_private_folder, journal_path, make_private};
+use crate::status::{FAILED, JOURNAL_FAILED};
+use crate::turns::serve_kept;
+use mgs_buffers::{Buffers, Rights};
+use mgs_command::{NO_MEMORY, tell};
+use mgs_config::{BufferFile, Config};
+use mgs_core::Core;
+use mgs_disk::{DiskFiles, FileStore, load_config};
+use mgs_engine::Engine;
+use mgs_gap::GapText;
+use mgs_journal::{Journal, JournalFault, are_same};
+use mgs_keep::Kept;
+use mgs_ledger::Ledger;
+use mgs_model::{Name, Owners, Short};
+use mgs_policy::Directory;
+use mgs_resume::join;
+use mgs_store::Store;
+use mgs_tables::open;
+use sqlite::{FileFrom, FileStore as TableStore, Wary};
+use std::alloc::Global;
+use std::fmt::Display;
+use std::io::{self, Printer};
+use std::sync::Wait;
+
+/// The journal of this program: its file, the system's clock and standard output.
+type FileLedger<'a> = Ledger<TableStore<FileFrom<Wary>>, &'a HostRuntime, Printer<'a, HostRuntime>>;
+
+/// What is served: an engine whose texts are saved in the files of the disk, and the journal.
+type KeptEngine<'a> = Kept<GapText, FileStore<DiskFiles<'a, HostRuntime>>, FileLedger<'a>>;
+
+// Tells a cause, and gives the status of what is refused.
+fn refuse<R: Eprint, E: Display + Drop>(rt: &R, cause: E) -> u8
+    ensures { result ≡ FAILED }
+{
+    tell(rt, cause);
+    FAILED
+}
+
+// The place among what is kept of the buffer of this name.
+fn place_kept<J: Journal>(journal: &J, name: &[u8]) -> Option<usize>
+    ensures { IfSome result (λ i. i < length (J.kept journal.now)) }
+{
+    let mut i: usize = 0;
+    while let Some(rights) = journal.rights(i) {
+        if rights.name.as_bytes() == name {
+            return Some(i);
+        }
+        i = i.checked_add(1)?;
+    }
+    None
+}
+
+// Why what the journal keeps is not mended.
+#[derive(Drop)]
+enum MendFault<'a> {
+    // It keeps no buffer of that name.
+    NoBuffer(&'a str),
+    // It is no name.
+    NoName(&'a str),
+    // It did not take the change.
+    Journal,
+}
+
+// Gives the buffer at a place another owner.
+fn give<J: Journal>(journal: &mut J, i: usize, owner: Name) -> Result<(), JournalFault>
+    requires { i < length (J.kept journal.old) }
+{
+    let Some(rights) = journal.rights(i) else {
+        return Ok(());
+    };
+    let name = *rights.name;
+    let owners = Owners {
+        owner,
+        group: rights.owners.group,
+    };
+    let list = rights.list.copy();
+    let given = Rights {
+        name: &name,
+        owners: &owners,
+        list: &list,
+    };
+    journal.set(None, i, &given)
+}
+
+// The owner of a buffer is this user from now on.
+fn mend_owner<'a, J: Journal>(
+    journal: &mut J,
+    buffer: &'a str,
+    owner: &'a str,
+) -> Result<(), MendFault<'a>> {
+    let Some(i) = place_kept(journal, buffer.as_bytes()) else {
+        return Err(MendFault::NoBuffer(buffer));
+    };
+    match Name::read(owner) {
+        Some(name) if name.is_user_name() => match give(journal, i, name) {
+            Ok(()) => Ok(()),
+            Err(JournalFault) => Err(MendFault::Journal),
+        },
+        _ => Err(MendFault::NoName(owner)),
+    }
+}
+
+// What is kept of a buffer goes, and its name is free for the configuration.
+fn forget<'a>(ledger: &mut FileLedger<'_>, buffer: &'a str) -> Result<(), MendFault<'a>> {
+    let Some(name) = Name::read(buffer) else {
+        return Err(MendFault::NoBuffer(buffer));
+    };
+    if !ledger.is_taken(&name) && place_kept(ledger, buffer.as_bytes()).is_none() {
+        return Err(MendFault::NoBuffer(buffer));
+    }
+    match ledger.forget(&name) {
+        Ok(()) => Ok(()),
+        Err(_) => Err(MendFault::Journal),
+    }
+}
+
+// Mends what the journal keeps of one buffer.
+fn mend<'a>(ledger: &mut FileLedger<'_>, mending: &'a Mending) -> Result<(), MendFault<'a>> {
+    match mending {
+        Mending::Forget(buffer) => forget(ledger, buffer.as_str()),
+        Mending::Owner(buffer, owner) => mend_owner(ledger, buffer.as_str(), owner.as_str()),
+    }
+}
+
+// The program's status where what is kept was not mended, which is told.
+fn end_mending<R: Eprint>(rt: &R, fault: MendFault<'_>) -> u8
+    ensures { result ≢ 0 }
+{
+    match fault {
+        MendFault::NoBuffer(name) => {
+            let _ = eprintln!(rt; "buffer {name}: the journal does not have it");
+            FAILED
+        }
+        MendFault::NoName(name) => {
+            let _ = eprintln!(rt; "{name}: no name of a user");
+            FAILED
+        }
+        MendFault::Journal => {
+            tell(rt, JournalFault);
+            JOURNAL_FAILED
+        }
+    }
+}
+
+// Mends what the journal keeps: the program's status where that fails.
+fn mend_all<R: Eprint>(rt: &R, ledger: &mut FileLedger<'_>, mendings: &[Mending]) -> Result<(), u8>
+    ensures { IfErr result (λ status. status ≢ 0) }
+{
+    for mending in mendings {
+        match mend(ledger, mending) {
+            Ok(()) => {}
+            Err(fault) => return Err(end_mending(rt, fault)),
+        }
+    }
+    Ok(())
+}
+
+fn tell_of<R: Eprint>(rt: &R, name: &Name, what: &str) {
+    if let Ok(name) = str::from_utf8(name.as_bytes()) {
+        let _ = eprintln!(rt; "buffer {name}: {what}");
+    }
+}
+
+// What is told of a buffer of the configuration, where it is not served as it stands there.
+fn difference<J: Journal>(journal: &J, configured: &Rights<'_>) -> Option<&'static str> {
+    if journal.is_taken(configured.name) {
+        return Some("a user made or killed it, so CONFIG's is not taken");
+    }
+    let at = place_kept(journal, configured.name.as_bytes())?;
+    let kept = journal.rights(at)?;
+    if are_same(configured, &kept) {
+        return None;
+    }
+    Some("as the journal has it, not as CONFIG")
+}
+
+// Tells of each buffer of the configuration that is not served as it stands there.
+fn tell_differences<R: Eprint, J: Journal>(rt: &R, config: &Buffers<GapText>, journal: &J) {
+    for i in 0..config.len() {
+        if let Some(configured) = config.rights(i) {
+            if let Some(what) = difference(journal, &configured) {
+                tell_of(rt, configured.name, what);
+            }
+        }
+    }
+}
+
+// The ledger of the journal in a folder.
+fn open_ledger<'a>(rt: &'a HostRuntime, folder: &str) -> Result<FileLedger<'a>, u8>
+    ensures { IfErr result (λ status. status ≢ 0) }
+{
+    if !matches!(is_private_folder(rt, folder), Ok(true)) {
+        let _ = eprintln!(rt; "{folder}: not a folder of yours with mode 0700");
+        return Err(FAILED);
+    }
+    let Ok(path) = journal_path(rt, folder) else {
+        return Err(refuse(rt, NO_MEMORY));
+    };
+    make_private(rt, path.as_str());
+    let conn = match open(rt, path.as_str()) {
+        Ok(conn) => conn,
+        Err(fault) => return Err(end_open(rt, fault)),
+    };
+    match Ledger::resume(conn, rt.alloc(), rt, io::writer(rt)) {
+        Ok(ledger) => Ok(ledger),
+        Err(fault) => {
+            let _ = eprintln!(rt; "journal: {fault}");
+            Err(FAILED)
+        }
+    }
+}
+
+// The store of these files on the system's disk.
+fn open_store<'a>(
+    rt: &'a HostRuntime,
+    files: Vec<BufferFile>,
+) -> Result<FileStore<DiskFiles<'a, HostRuntime>>, u8>
+    ensures { IfErr result (λ status. status ≢ 0) }
+{
+    let Ok(disk) = DiskFiles::new(rt) else {
+        return Err(refuse(rt, NO_MEMORY));
+    };
+    match FileStore::new(rt.alloc(), disk, files) {
+        Ok(store) => Ok(store),
+        Err(_) => Err(refuse(rt, NO_MEMORY)),
+    }
+}
+
+fn open_engine<S: Store + Drop>(
+    alloc: Global,
+    directory: Directory,
+    buffers: Buffers<GapText>,
+    store: S,
+) -> Result<Engine<GapText, S>, Short>
+    requires { AreUnmarked buffers }
+{
+    let core = Core::new(alloc, directory, buffers, store)?;
+    Engine::new(alloc, core)
+}
+
+// What is served: the world of a configuration, by the access that the journal keeps.
+fn keep<'a>(
+    rt: &'a HostRuntime,
+    ledger: FileLedger<'a>,
+    directory: Directory,
+    configured: Buffers<GapText>,
+    files: Vec<BufferFile>,
+) -> Result<KeptEngine<'a>, u8>
+    ensures { IfErr result (λ status. status ≢ 0) }
+{
+    let buffers = match join(rt.alloc(), &directory, &configured, &ledger) {
+        Ok(buffers) => buffers,
+        Err(fault) => return Err(refuse(rt, fault)),
+    };
+    let store = open_store(rt, files)?;
+    let Ok(engine) = open_engine(rt.alloc(), directory, buffers, store) else {
+        return Err(refuse(rt, NO_MEMORY));
+    };
+    match Kept::new(engine, ledger) {
+        Ok(kept) => Ok(kept),
+        Err(fault) => {
+            tell(rt, fault);
+            Err(JOURNAL_FAILED)
+        }
+    }
+}
+
+// What is served with the journal in a folder, mended before: or the program's status, with its cause told.
+fn open_kept<'a>(
+    rt: &'a HostRuntime,
+    folder: &str,
+    mendings: &[Mending],
+    directory: Directory,
+    configured: Buffers<GapText>,
+    files: Vec<BufferFile>,
+) -> Result<KeptEngine<'a>, u8>
+    ensures { IfErr result (λ status. status ≢ 0) }
+{
+    let mut ledger = open_ledger(rt, folder)?;
+    mend_all(rt, &mut ledger, mendings)?;
+    tell_differences(rt, &configured, &ledger);
+    keep(rt, ledger, directory, configured, files)
+}
+
+/// Serves the configuration in a file on a port of the loopback address, with the journal in a folder, which is mended before. It returns
+/// where that cannot be begun, or not gone on with, and tells why on standard error. Turns are taken by a handle that waits.
+pub(crate) fn serve<W: Print + Eprint + Wait>(
+    rt: &HostRuntime,
+    wait: &W,
+    folder: &str,
+    config: &str,
+    port: u16,
+    mendings: &[Mending],
+) -> u8
+    ensures { result ≢ 0 }
+{
+    let Config {
+        directory,
+        tickets,
+        buffers,
+        files,
+    } = match load_config(rt, config) {
+        Ok(config) => config,
+        Err(fault) => return refuse(rt, fault),
+    };
+    match open_kept(rt, folder, mendings, directory, buffers, files) {
+        Ok(kept) => serve_kept(rt, wait, port, kept, tickets, rt),
+        Err(status) => status,
+    }
+}
