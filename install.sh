@@ -1,6 +1,6 @@
 #!/bin/sh
 # Installs mgd: ./install.sh PREFIX, as ./install.sh /usr/local. With DESTDIR set it is put below that folder.
-# What is installed is the proved program, so it refuses where there is none of these sources. All files are written under other names
+# What is installed are the proved programs, so it refuses where there are none of these sources. All files are written under other names
 # first, so that either all of them take their places or none does.
 set -eu
 umask 022
@@ -32,8 +32,8 @@ need_plain PREFIX "$prefix"
 need_plain DESTDIR "${DESTDIR-}"
 case $("$top/mgd" --state) in
 proved) ;;
-older) fail 'the proved program was built of older sources; ./mgd prove proves these' ;;
-other) fail 'the program is not as it was built; ./mgd prove builds it' ;;
+older) fail 'the proved programs were built of older sources; ./mgd prove proves these' ;;
+other) fail 'a program is not as it was built; ./mgd prove builds it' ;;
 *) fail 'nothing is proved and built yet; ./mgd prove does it' ;;
 esac
 
@@ -95,10 +95,12 @@ put_text() {
 }
 
 put 0755 "$to/bin/mgd" < "$top/crates/mgd/out/mgd"
+put 0755 "$to/bin/mgd-keep" < "$top/crates/mgd_keep/out/mgd_keep"
 put 0755 "$to/bin/mgd-join" < "$top/join"
 put 0755 "$to/bin/mgd-check" < "$top/contrib/mgd-check"
 put 0755 "$to/bin/mgd-ops" < "$top/contrib/mgd-ops"
 put_text "$top/man/mgd.1" "$man/man1/mgd.1"
+put_text "$top/man/mgd-keep.1" "$man/man1/mgd-keep.1"
 put_text "$top/man/mgd-join.1" "$man/man1/mgd-join.1"
 put_text "$top/man/mgd-check.1" "$man/man1/mgd-check.1"
 put_text "$top/man/mgd-ops.1" "$man/man1/mgd-ops.1"
@@ -108,6 +110,7 @@ for file in "$top"/examples/*; do
     put 0644 "$to/share/doc/mgd/examples/${file##*/}" < "$file"
 done
 put_text "$top/contrib/mgd.service" "$to/share/doc/mgd/mgd.service"
+put_text "$top/contrib/mgd-keep.service" "$to/share/doc/mgd/mgd-keep.service"
 put_text "$top/contrib/mgd.rc" "$to/share/doc/mgd/mgd.rc"
 put 0644 "$to/share/doc/mgd/LICENSE" < "$top/LICENSE"
 "$top/mgd" --version > "$text"

@@ -1,12 +1,13 @@
 #!/usr/bin/env bash
-# Tries install.sh: bench/try_install.sh [PROGRAM]
+# Tries install.sh: bench/try_install.sh [PROGRAM [KEEPING]]
 #
-# It makes a copy of what install.sh reads, with PROGRAM (or crates/mgd/out/mgd, or a stand-in) as a program that passes for proved, and
-# installs it in folders of its own. It is started by hand and ends with status 0 if all is as it should be.
+# It makes a copy of what install.sh reads, with PROGRAM and KEEPING (or crates/mgd/out/mgd and crates/mgd_keep/out/mgd_keep, or stand-ins)
+# as programs that pass for proved, and installs it in folders of its own. It is started by hand and ends with status 0 if all is as it should be.
 top=$(dirname "$(dirname "$(readlink -f "${BASH_SOURCE[0]}")")")
 work=$(mktemp -d)
 trap 'rm -rf "$work"' EXIT
 program=${1:-$top/crates/mgd/out/mgd}
+keep_program=${2:-$top/crates/mgd_keep/out/mgd_keep}
 failed=0
 
 expect() {
@@ -29,24 +30,32 @@ contents() {
     (cd "$1" && find . -printf '%p %m %l\n' | LC_ALL=C sort)
 }
 
-mkdir -p "$work/tree/crates/mgd/out"
+# Takes a program, or a stand-in where there is none: the program, the place, what the stand-in says.
+take() {
+    if [ -x "$1" ]; then
+        cp "$1" "$2"
+    else
+        printf '#!/bin/sh\necho "usage: %s" >&2\nexit 2\n' "$3" > "$2"
+        chmod +x "$2"
+    fi
+}
+
+mkdir -p "$work/tree/crates/mgd/out" "$work/tree/crates/mgd_keep/out"
 cp -r "$top"/{mgd,join,install.sh,LICENSE,crates.txt,contrib,examples,man} "$work/tree/"
 built=$work/tree/crates/mgd/out
-if [ -x "$program" ]; then
-    cp "$program" "$built/mgd"
-else
-    printf '#!/bin/sh\necho "usage: mgd replay | mgd serve CONFIG PORT" >&2\nexit 2\n' > "$built/mgd"
-    chmod +x "$built/mgd"
-fi
+kept=$work/tree/crates/mgd_keep/out
+take "$program" "$built/mgd" "mgd replay | mgd serve CONFIG PORT"
+expect "without the program that keeps nothing is installed" "$(install "$work/a")" "1 install.sh: nothing is proved and built yet; ./mgd prove does it"
+take "$keep_program" "$kept/mgd_keep" "mgd-keep serve FOLDER CONFIG PORT | mgd-keep audit FOLDER"
 
-expect "what was never proved is refused" "$(install "$work/a")" "1 install.sh: the proved program was built of older sources; ./mgd prove proves these"
+expect "what was never proved is refused" "$(install "$work/a")" "1 install.sh: the proved programs were built of older sources; ./mgd prove proves these"
 # As the launcher keeps them.
 (
     # shellcheck disable=SC2034
-    top=$work/tree program=$built/mgd
-    eval "$(sed -n '/^crates_below()/,/^}/p; /^sum_of_sources()/,/^}/p; /^sum_of_program()/,/^}/p' "$work/tree/mgd")"
+    top=$work/tree program=$built/mgd keep_program=$kept/mgd_keep
+    eval "$(sed -n '/^crates_below()/,/^}/p; /^sum_of_sources()/,/^}/p; /^sums_of_programs()/,/^}/p' "$work/tree/mgd")"
     (sum_of_sources) > "$built/mgd.sources"
-    sum_of_program > "$built/mgd.sum"
+    sums_of_programs > "$built/mgd.sum"
 )
 expect "the sums are the launcher's" "$("$work/tree/mgd" --state)" proved
 
@@ -67,16 +76,20 @@ expect "a prefix that leads back" "${got%%:*} $(grep -c 'leads back' "$work/said
 (umask 077 && "$work/tree/install.sh" "$work/a" > "$work/said" 2>&1)
 expect "it installs" "$?" 0
 expect "it prints each file" "$(sort "$work/said")" "$(find "$work/a" -type f | sort)"
-expect "four programs" "$(cd "$work/a/bin" && echo *)" "mgd mgd-check mgd-join mgd-ops"
-expect "pages" "$(cd "$work/a/share/man" && echo */*)" "man1/mgd-check.1 man1/mgd-join.1 man1/mgd-ops.1 man1/mgd.1 man5/mgd.toml.5 man7/mgd-keys.7"
+expect "five programs" "$(cd "$work/a/bin" && echo *)" "mgd mgd-check mgd-join mgd-keep mgd-ops"
+expect "pages" "$(cd "$work/a/share/man" && echo */*)" "man1/mgd-check.1 man1/mgd-join.1 man1/mgd-keep.1 man1/mgd-ops.1 man1/mgd.1 man5/mgd.toml.5 man7/mgd-keys.7"
 expect "folders are open to all to read" "$(find "$work/a" -type d ! -perm 755)" ""
 expect "files too" "$(find "$work/a" -type f ! -perm 644 ! -perm 755)" ""
 expect "programs can be run" "$(find "$work/a/bin" -type f ! -perm 755)" ""
 expect "no name is left of what is installed elsewhere" "$(grep -rl /usr/local "$work/a/share")" ""
 expect "the unit names the program" "$(grep -c "$work/a/bin/mgd serve" "$work/a/share/doc/mgd/mgd.service")" 1
+expect "so does the other" "$(grep -c "$work/a/bin/mgd-keep serve" "$work/a/share/doc/mgd/mgd-keep.service")" 1
 expect "the program is that which was built" "$(cmp "$built/mgd" "$work/a/bin/mgd" && echo same)" same
+expect "so is the one that keeps" "$(cmp "$kept/mgd_keep" "$work/a/bin/mgd-keep" && echo same)" same
 expect "its version is kept" "$("$work/a/bin/mgd-check" --version)" "$("$work/tree/mgd" --version)"
-expect "with the sum of the program" "$(grep -c "$(sha256sum < "$work/a/bin/mgd" | cut -d ' ' -f 1)" "$work/a/share/doc/mgd/version")" 1
+for name in mgd mgd-keep; do
+    expect "with the sum of $name" "$(grep -c "$name sha256 $(sha256sum < "$work/a/bin/$name" | cut -d ' ' -f 1)" "$work/a/share/doc/mgd/version")" 1
+done
 before=$(contents "$work/a")
 expect "again it installs" "$(install "$work/a" | cut -d ' ' -f 1)" 0
 expect "and nothing else is there then" "$(contents "$work/a")" "$before"
@@ -106,7 +119,7 @@ got=$(install "$work/d")
 expect "through the link of a folder it does not go" "${got%%,*}" "1 install.sh: $work/d/share/man is a link"
 expect "and nothing was put there" "$(find "$work/d" "$work/elsewhere" -type f)" ""
 ln -s "$work/e" "$work/link"
-expect "a prefix may be one" "$(install "$work/link" | cut -d ' ' -f 1) $(find "$work/e/bin" -type f | wc -l)" "0 4"
+expect "a prefix may be one" "$(install "$work/link" | cut -d ' ' -f 1) $(find "$work/e/bin" -type f | wc -l)" "0 5"
 
 # Nothing is half installed.
 mkdir -p "$work/f/share/doc/mgd/version" "$work/f/bin"
@@ -118,9 +131,13 @@ mv "$work/tree/contrib/mgd.rc" "$work/kept"
 expect "so it is where a source is gone" "$(install "$work/g" | cut -c 1) $(find "$work/g" -type f)" "2 "
 mv "$work/kept" "$work/tree/contrib/mgd.rc"
 
-expect "DESTDIR" "$(DESTDIR=$work/h install /usr | cut -d ' ' -f 1) $(find "$work/h/usr/bin" -type f | wc -l) $(grep -c 'ExecStart=/usr/bin/mgd serve' "$work/h/usr/share/doc/mgd/mgd.service")" "0 4 1"
-echo >> "$built/mgd"
-expect "a program that was changed is refused" "$(install "$work/i")" "1 install.sh: the program is not as it was built; ./mgd prove builds it"
+expect "DESTDIR" "$(DESTDIR=$work/h install /usr | cut -d ' ' -f 1) $(find "$work/h/usr/bin" -type f | wc -l) $(grep -c 'ExecStart=/usr/bin/mgd serve' "$work/h/usr/share/doc/mgd/mgd.service")" "0 5 1"
+cp "$built/mgd" "$work/kept"
+for changed in "$built/mgd" "$kept/mgd_keep"; do
+    echo >> "$changed"
+    expect "a program that was changed is refused: ${changed##*/}" "$(install "$work/i")" "1 install.sh: a program is not as it was built; ./mgd prove builds it"
+    cp "$work/kept" "$built/mgd"
+done
 rm "$built/mgd"
 expect "no program" "$(install "$work/i")" "1 install.sh: nothing is proved and built yet; ./mgd prove does it"
 

@@ -1,0 +1,933 @@
+#!/usr/bin/env python3
+"""Tries over sockets what a journal keeps: python3 bench/try_keep.py [--rounds N] [PROGRAM]
+
+It starts the program that stands in crates/mgd_keep/out/mgd_keep (or PROGRAM) over folders of its own, changes lists, owners, groups and
+buffers as people do, kills it at N random moments (100), damages what it left, and looks at what the next start shows, what `audit`
+prints, and what SQLite finds. It is started by hand and ends with status 0 if all is as it should be. As root it also tries a full disk and
+a folder of another user; otherwise it says that it leaves them out.
+"""
+import argparse, os, random, re, resource, shutil, signal, socket, sqlite3, struct, subprocess, sys, tempfile, time
+from datetime import datetime, timezone
+
+from try_server import TOP, Terminal
+
+IS_ROOT = os.geteuid() == 0
+NOBODY = 65534
+ROWS, COLS = 24, 80
+USAGE = ("usage: mgd-keep serve FOLDER CONFIG PORT [--forget BUFFER] [--owner BUFFER NAME] | "
+         "mgd-keep audit FOLDER [--user U] [--buffer B] [--since WHEN]\n")
+TICKETS = {"ann": "apple", "bob": "birch", "cat": "cedar", "eve": "elder"}
+GROUPS = {"staff": ["ann", "bob"], "desk": ["cat"]}
+SECRET = "The door code is 4711."
+OWNERS_LIST = "ALLOW OWNER@ rwatdcCo"
+NOTES = ["ALLOW ann rwatcC", "ALLOW EVERYONE@ rwat"]
+PAGE = ["ALLOW ann rwatdcCo", "ALLOW EVERYONE@ rt"]
+EVENT = re.compile(r"\d{4}-\d\d-\d\dT\d\d:\d\d:\d\dZ\t(\d+)\t(\S+)\t(\S+)\t(\S+)\t(.+)")
+# What a line of a denial has for its buffer.
+NO_BUFFER = "-"
+# How long anything is waited for.
+PATIENCE = 20
+
+program = os.path.join(TOP, "crates", "mgd_keep", "out", "mgd_keep")
+passed = failed = 0
+
+
+def expect(what, is_so, seen=""):
+    global passed, failed
+    print(("ok    " if is_so else "FAILED ") + what + ("" if is_so else f": {seen!r}"), flush=True)
+    passed += bool(is_so)
+    failed += not is_so
+
+
+def wait_for(is_so, most=PATIENCE):
+    end = time.time() + most
+    while not is_so() and time.time() < end:
+        time.sleep(0.002)
+    return is_so()
+
+
+def user(name):
+    return f'[[user]]\nname = "{name}"\nticket = "{TICKETS[name]}"\n'
+
+
+def group(name):
+    members = ", ".join(f'"{member}"' for member in GROUPS[name])
+    return f'[[group]]\nname = "{name}"\nmembers = [{members}]\n'
+
+
+def buffer(name, entries, owner="ann", text="", more=""):
+    listed = ", ".join(f'"{entry}"' for entry in entries)
+    return f'[[buffer]]\nname = "{name}"\nowner = "{owner}"\n{more}list = [{listed}]\ntext = "{text}\\n"\n'
+
+
+def config(*buffers, users=("ann", "bob", "cat")):
+    return "".join([user(name) for name in users] + [group(name) for name in GROUPS] + list(buffers))
+
+
+PLAIN = config(buffer("notes", NOTES, text=SECRET), buffer("page", PAGE, text="A page."))
+
+
+class Desk:
+    """A folder with a configuration and the folder of a journal."""
+
+    def __init__(self, text=PLAIN, folder=None):
+        self.path = os.path.realpath(tempfile.mkdtemp(prefix="mgd-keep-"))
+        os.chmod(self.path, 0o755)
+        self.folder = folder or self.at("journal")
+        if folder is None:
+            os.mkdir(self.folder, 0o700)
+        self.write(text)
+        self.starts = 0
+
+    def __enter__(self):
+        return self
+
+    def __exit__(self, *_):
+        shutil.rmtree(self.path, ignore_errors=True)
+
+    def at(self, name):
+        return os.path.join(self.path, name)
+
+    def write(self, text):
+        with open(self.at("served.toml"), "w") as file:
+            file.write(text)
+
+    @property
+    def base(self):
+        return os.path.join(self.folder, "journal.sqlite3")
+
+    def copy(self):
+        """A copy of the journal's folder, which SQLite may write in."""
+        to = tempfile.mkdtemp(prefix="copy-", dir=self.path)
+        for name in os.listdir(self.folder):
+            shutil.copy(os.path.join(self.folder, name), os.path.join(to, name))
+        return to
+
+    def ask(self, sql):
+        """What SQLite answers over a copy."""
+        to = self.copy()
+        base = sqlite3.connect(os.path.join(to, "journal.sqlite3"))
+        try:
+            return base.execute(sql).fetchall()
+        except sqlite3.Error as error:
+            return str(error)
+        finally:
+            base.close()
+            shutil.rmtree(to)
+
+    def is_sound(self):
+        """Whether sqlite3 finds the files sound, Python's module or the program where that is installed."""
+        if shutil.which("sqlite3") is None:
+            return self.ask("PRAGMA integrity_check") == [("ok",)]
+        to = self.copy()
+        said = subprocess.run(["sqlite3", os.path.join(to, "journal.sqlite3"), "PRAGMA integrity_check"], capture_output=True, text=True)
+        shutil.rmtree(to)
+        return said.stdout == "ok\n"
+
+    def settle(self):
+        """Has SQLite take the log over into the file, as it is."""
+        base = sqlite3.connect(self.base)
+        base.execute("PRAGMA wal_checkpoint(TRUNCATE)").fetchall()
+        base.close()
+
+    def contents(self):
+        found = {}
+        for name in os.listdir(self.folder):
+            with open(os.path.join(self.folder, name), "rb") as file:
+                found[name] = file.read()
+        return found
+
+    def audit(self, *words):
+        done = subprocess.run([program, "audit", self.folder, *words], capture_output=True, text=True, timeout=PATIENCE)
+        return done.returncode, done.stdout, done.stderr
+
+    def events(self, *words):
+        """What an audit prints, without times and numbers."""
+        return [fields(line) for line in self.audit(*words)[1].splitlines()]
+
+
+def fields(line):
+    """User, what, buffer and detail of a line."""
+    return tuple(line.split("\t")[2:])
+
+
+class Server:
+    """A server over a desk. Where it does not listen, its port is None."""
+
+    def __init__(self, desk, *options, before=None):
+        desk.starts += 1
+        self.desk = desk
+        self.paths = [desk.at(f"{name}-{desk.starts}") for name in ("out", "err")]
+        with open(self.paths[0], "wb") as out, open(self.paths[1], "wb") as err:
+            self.process = subprocess.Popen([program, "serve", desk.folder, desk.at("served.toml"), "0", *options], stdin=subprocess.DEVNULL,
+                                            stdout=out, stderr=err, preexec_fn=before)
+        wait_for(lambda: self.listening() or self.process.poll() is not None)
+        found = self.listening()
+        self.port = int(found[1]) if found else None
+
+    def said(self):
+        with open(self.paths[0]) as file:
+            return file.read()
+
+    def told(self):
+        with open(self.paths[1]) as file:
+            return file.read()
+
+    def listening(self):
+        return re.search(r"^listening 127\.0\.0\.1:(\d+)\n", self.said(), re.M)
+
+    def lines(self):
+        return [line for line in self.said().splitlines() if not line.startswith("listening ")]
+
+    def ended(self):
+        """Status and standard error of one that ends by itself."""
+        try:
+            return self.process.wait(PATIENCE), self.told()
+        except subprocess.TimeoutExpired:
+            self.kill()
+            return None, self.told()
+
+    def kill(self):
+        self.process.kill()
+        self.process.wait()
+
+    def join(self, name):
+        one = Terminal(self.port, f"{name} {TICKETS[name]}", ROWS, COLS)
+        one.read_until(lambda seen: seen.shows(ROWS - 1).startswith("-"), PATIENCE)
+        return one
+
+
+def serving(desk, *options, **how):
+    server = Server(desk, *options, **how)
+    if server.port is None:
+        expect("it serves", False, server.ended())
+        raise SystemExit(finish())
+    return server
+
+
+def shows(one, words):
+    return any(words in one.shows(row) for row in range(1, ROWS + 1))
+
+
+def see(one, words, most=PATIENCE):
+    """Whether a screen comes to show words."""
+    return shows(one.read_until(lambda seen: shows(seen, words), most), words)
+
+
+def miss(one, words, most=PATIENCE):
+    """Whether a screen comes to show them no more."""
+    return not shows(one.read_until(lambda seen: not shows(seen, words), most), words)
+
+
+def type_in(one, keys):
+    one.send(keys.encode())
+
+
+def command(name, answer, number=None):
+    return ("" if number is None else f"\x15{number}") + f"\x1bx{name}\r" + ("" if answer is None else f"{answer}\r")
+
+
+def go_to(name):
+    return f"\x18b{name}\r"
+
+
+LISTING = "\x18\x02"
+LEAVE = "\x18\x03"
+DENY_BOB = command("acl-insert", "DENY bob rwa", 1)
+DROP_FIRST = command("acl-delete", None, 1)
+
+
+def listed(one):
+    """The rows of the list of buffers that a screen shows: owner and group by name."""
+    found = {}
+    for row in range(1, ROWS - 1):
+        words = one.shows(row).replace("*", " ", 1).split()
+        if len(words) == 3 and words[0].isdigit():
+            owner, _, owning = words[2].partition(":")
+            found[words[1]] = (owner, owning or "-")
+    return found
+
+
+# --- Kills at random moments -------------------------------------------------------------------------------------------------------
+
+class State:
+    """What is to be so: whether bob is denied the notes, owner and group of the page, and the buffers that were made."""
+
+    def __init__(self, denied, page, made):
+        self.denied, self.page, self.made = denied, page, frozenset(made)
+
+    def __eq__(self, other):
+        return vars(self) == vars(other)
+
+    def __repr__(self):
+        return f"{self.denied} {self.page} {sorted(self.made)}"
+
+
+class Watch:
+    """A server with the screens that tell its state: bob's with the notes, and ann's with the list of buffers."""
+
+    def __init__(self, desk):
+        self.server = serving(desk)
+        self.bob, self.list, self.ann = (self.server.join(name) for name in ("bob", "ann", "ann"))
+        type_in(self.bob, go_to("notes"))
+        type_in(self.list, LISTING)
+        see(self.list, "-Buffers")
+        see(self.list, " page ")
+        self.bob.read_until(lambda one: shows(one, SECRET) or shows(one, "[no read"), PATIENCE)
+
+    def state(self):
+        rows = listed(self.list)
+        return State(shows(self.bob, "[no read"), rows.get("page"), [name for name in rows if name.startswith("made")])
+
+    def kill(self, after):
+        """Kills the server, garbage behind its log or not, and takes what it has sent."""
+        time.sleep(after)
+        self.server.kill()
+        for one in (self.bob, self.list):
+            one.read_until(lambda seen: seen.ended, 5)
+        state = self.state()
+        for one in (self.bob, self.list, self.ann):
+            one.close()
+        return state
+
+
+def change_of(state, chance, number):
+    """A change that ann makes: its keys, the state after it, and the event that tells it."""
+    kind = chance.choice(["list", "list", "owner", "group", "create", "kill"])
+    if kind == "list":
+        denied, plain = "; ".join(["DENY bob rwa"] + NOTES), "; ".join(NOTES)
+        details = f"{denied} -> {plain}" if state.denied else f"{plain} -> {denied}"
+        keys = go_to("notes") + (DROP_FIRST if state.denied else DENY_BOB)
+        return keys, State(not state.denied, state.page, state.made), ("ann", "list", "notes", details)
+    owner, owning = state.page
+    if kind == "owner":
+        new = chance.choice([name for name in ("ann", "bob", "cat") if name != owner])
+        return go_to("page") + command("set-owner", new), State(state.denied, (new, owning), state.made), ("ann", "owner", "page", f"{owner} -> {new}")
+    if kind == "group":
+        new = chance.choice([name for name in ("staff", "desk", "-") if name != owning])
+        keys = go_to("page") + command("set-group", "" if new == "-" else new)
+        return keys, State(state.denied, (owner, new), state.made), ("ann", "group", "page", f"{owning} -> {new}")
+    if kind == "kill" and state.made:
+        name = chance.choice(sorted(state.made))
+        return f"\x18k{name}\r", State(state.denied, state.page, state.made - {name}), ("ann", "kill", name, "-")
+    name = f"made{number}"
+    return go_to(name), State(state.denied, state.page, state.made | {name}), ("ann", "create", name, "-")
+
+
+def try_kills(rounds, seed):
+    chance = random.Random(seed)
+    wrong, unsound, shown_changes, lost = [], 0, 0, 0
+    happened = []
+    with Desk() as desk:
+        state = State(False, ("ann", "-"), [])
+        admitted, event = [state], None
+        for number in range(rounds + 1):
+            watch = Watch(desk)
+            found = watch.state()
+            if found not in admitted:
+                wrong.append((number, event, found, admitted))
+            if event is not None and found == admitted[0]:
+                happened.append(event)
+            state = found
+            keys, after, event = change_of(state, chance, number)
+            type_in(watch.ann, keys)
+            seen = watch.kill(chance.choice([0, 0.001, 0.003, 0.01, 0.03]) * chance.random() * 2)
+            is_shown = seen == after
+            shown_changes += is_shown
+            lost += not is_shown
+            admitted = [after] if is_shown else [after, state]
+            if chance.random() < 0.4:
+                with open(desk.base + "-wal", "ab") as log:
+                    log.write(chance.randbytes(chance.randrange(1, 9000)))
+            unsound += not desk.is_sound()
+        Watch(desk).kill(0)
+        told = [line for line in desk.events() if line[0] != "-" and line[1] in ("list", "owner", "group", "create", "kill")]
+        numbers = [int(line.split("\t")[1]) for line in desk.audit()[1].splitlines()]
+    expect(f"killed {rounds + 1} times, each change that a screen had shown held ({shown_changes} were shown, {lost} were not)", not wrong, wrong[:3])
+    expect("some were shown, and some not", rounds < 20 or (shown_changes > 0 and lost > 0), (shown_changes, lost))
+    expect("SQLite finds the files sound each time", unsound == 0, unsound)
+    expect("an audit tells each change that held, once and in order", told[:len(happened)] == happened and len(told) <= len(happened) + 1,
+           (len(told), len(happened), [pair for pair in zip(told, happened) if pair[0] != pair[1]][:2]))
+    expect("its numbers go up by one", numbers == list(range(1, len(numbers) + 1)), numbers[:20])
+
+
+def try_shown_then_killed():
+    """A kill right after bob's screen shows that he is shut out."""
+    with Desk() as desk:
+        server = serving(desk)
+        ann, bob = server.join("ann"), server.join("bob")
+        expect("bob reads the notes", see(bob, SECRET), bob.shows(1))
+        type_in(ann, DENY_BOB)
+        expect("ann shuts him out", see(bob, "[no read: entry 1]"), bob.shows(1))
+        server.kill()
+        server = serving(desk)
+        bob = server.join("bob")
+        expect("after kill -9 and a start he is shut out", see(bob, "[no read: entry 1]") and not shows(bob, SECRET), bob.shows(1))
+        expect("and the start says that the list is the journal's", server.told() == "buffer notes: as the journal has it, not as CONFIG\n", server.told())
+        cat = server.join("cat")
+        expect("others read on", see(cat, SECRET), cat.shows(1))
+        server.kill()
+
+
+# --- What is refused at a start ----------------------------------------------------------------------------------------------------
+
+def sums_of(page):
+    """The two sums that SQLite's cksumvfs puts at the end of a page."""
+    one = two = 0
+    for first, second in struct.iter_unpack("<II", page[:-8]):
+        one = (one + first + two) & 0xFFFFFFFF
+        two = (two + second + one) & 0xFFFFFFFF
+    return struct.pack("<II", one, two)
+
+
+def seal(path):
+    """Gives each page of a file its sums again, where it has them."""
+    with open(path, "r+b") as file:
+        data = file.read()
+        size = struct.unpack(">H", data[16:18])[0]
+        size = 65536 if size == 1 else size
+        if data[20] != 8:
+            return
+        for at in range(0, len(data), size):
+            file.seek(at + size - 8)
+            file.write(sums_of(data[at:at + size]))
+
+
+def refused(desk, what, status, words, *options):
+    """A start that is refused, and leaves the file. Its log, which has nothing that is to be taken over, may get another head."""
+    before = desk.contents()["journal.sqlite3"]
+    server = Server(desk, *options)
+    got = server.ended() if server.port is None else ("serves", server.kill())
+    expect(f"{what} is refused", got == (status, words), got)
+    expect("and left as it is", desk.contents()["journal.sqlite3"] == before)
+
+
+def made_journal(desk):
+    """A journal with a list of its own, in the file and not in its log."""
+    server = serving(desk)
+    ann, bob = server.join("ann"), server.join("bob")
+    type_in(ann, DENY_BOB)
+    see(bob, "[no read: entry 1]")
+    server.kill()
+    desk.settle()
+
+
+def try_damage():
+    damaged = "journal: the file is damaged or no database\n"
+    with Desk() as desk:
+        made_journal(desk)
+        whole = desk.contents()["journal.sqlite3"]
+        places = [match.start() for match in re.finditer(b"DENY bob", whole)]
+        expect("the list stands in the file", bool(places))
+        for name, at in [("a letter of a list", places[0] + 5), ("a letter of the head", 3), ("the last byte", len(whole) - 1)]:
+            with open(desk.base, "wb") as file:
+                file.write(whole[:at] + bytes([whole[at] ^ 1]) + whole[at + 1:])
+            refused(desk, f"{name}, changed,", 1, damaged)
+            got = desk.audit()
+            expect("its audit too", got == (1, "", damaged), got)
+        with open(desk.base, "wb") as file:
+            file.write(whole[:len(whole) // 2 + 100])
+        refused(desk, "a half of the file", 1, damaged)
+        with open(desk.base, "wb") as file:
+            file.write(b"no database at all, but a text of some length\n" * 100)
+        refused(desk, "a text", 1, damaged)
+
+
+def try_foreign():
+    with Desk() as desk:
+        base = sqlite3.connect(desk.base)
+        base.executescript("CREATE TABLE guest(name TEXT); INSERT INTO guest VALUES ('ann');")
+        base.close()
+        os.chmod(desk.base, 0o600)
+        refused(desk, "a database with other tables", 1, "journal: the file is a database with other tables\n")
+    with Desk() as desk:
+        made_journal(desk)
+        base = sqlite3.connect(desk.base)
+        base.execute("UPDATE format SET version = version + 1")
+        base.commit()
+        base.execute("PRAGMA wal_checkpoint(TRUNCATE)").fetchall()
+        base.close()
+        seal(desk.base)
+        refused(desk, "a later version", 1, "journal: the file is of a later version\n")
+    with Desk() as desk:
+        made_journal(desk)
+        base = sqlite3.connect(desk.base)
+        base.execute("UPDATE buffer SET entries = 'DENY nobody' WHERE name = 'notes'")
+        base.commit()
+        base.execute("PRAGMA wal_checkpoint(TRUNCATE)").fetchall()
+        base.close()
+        seal(desk.base)
+        refused(desk, "a list that does not read", 1, "journal: buffer notes: not as it was kept\n")
+
+
+def try_folders():
+    def is_refused(desk, what):
+        words = f"{desk.folder}: not a folder of yours with mode 0700\n"
+        got = Server(desk).ended()
+        expect(f"{what} is refused", got == (1, words), got)
+
+    with Desk() as desk:
+        for mode in (0o755, 0o750, 0o701, 0o770):
+            os.chmod(desk.folder, mode)
+            is_refused(desk, f"a folder of mode {mode:o}")
+        os.rmdir(desk.folder)
+        is_refused(desk, "no folder")
+        got = desk.audit()
+        expect("and has no audit", got == (1, "", f"{desk.base}: there is no journal\n"), got)
+        with open(desk.folder, "w"):
+            pass
+        os.chmod(desk.folder, 0o700)
+        is_refused(desk, "a file")
+        os.remove(desk.folder)
+        os.mkdir(desk.at("other"), 0o700)
+        os.symlink("other", desk.folder)
+        is_refused(desk, "a link to a folder")
+        got = desk.audit()
+        expect("an audit of a folder without a journal makes none", got[0] == 1 and os.listdir(desk.at("other")) == [], got)
+    if IS_ROOT:
+        with Desk() as desk:
+            os.chown(desk.folder, NOBODY, NOBODY)
+            is_refused(desk, "a folder of somebody else")
+    else:
+        print("left out: a folder of somebody else, which only root can make")
+    with Desk() as desk:
+        serving(desk).kill()
+        modes = {name: oct(os.lstat(os.path.join(desk.folder, name)).st_mode & 0o777) for name in os.listdir(desk.folder)}
+        expect("the files are for their owner alone", set(modes.values()) == {"0o600"} and "journal.sqlite3" in modes, modes)
+
+
+def try_links():
+    with Desk() as desk:
+        with open(desk.at("mine"), "w") as file:
+            file.write("mine\n")
+        os.symlink(desk.at("mine"), desk.base)
+        got = Server(desk).ended()
+        with open(desk.at("mine")) as file:
+            text = file.read()
+        expect("a link to a text in the place of the file is refused, and the text stays", got[0] == 1 and text == "mine\n", (got, text))
+
+
+def try_second():
+    with Desk() as desk:
+        server = serving(desk)
+        words = "journal: another process has the file open\n"
+        got = Server(desk).ended()
+        expect("a second server on the folder is refused", got == (5, words), got)
+        got = desk.audit()
+        expect("and so is an audit while one serves", got == (5, "", words), got)
+        ann = server.join("ann")
+        type_in(ann, "still here ")
+        expect("the first one goes on", see(ann, "still here"), ann.shows(1))
+        server.kill()
+        got = desk.audit()
+        expect("once it has ended, an audit is printed", got[0] == 0 and got[2] == "", got)
+
+
+def try_words():
+    rows = [(), ("serve",), ("serve", "f"), ("serve", "f", "c"), ("serve", "f", "c", "65536"), ("serve", "f", "c", "0", "x"),
+            ("serve", "f", "c", "0", "--forget"), ("serve", "f", "c", "0", "--owner", "b"), ("audit",), ("audit", "f", "x"),
+            ("audit", "f", "--since"), ("replay",)]
+    for words in rows:
+        done = subprocess.run([program, *words], capture_output=True, text=True, timeout=PATIENCE, stdin=subprocess.DEVNULL)
+        got = done.returncode, done.stdout, done.stderr
+        expect(f"{words} is answered by the usage line", got == (2, "", USAGE), got)
+    for time_of in ("monday", "2026-13-01", "2026-11-29T01:22"):
+        done = subprocess.run([program, "audit", "f", "--since", time_of], capture_output=True, text=True, timeout=PATIENCE)
+        got = done.returncode, done.stdout, done.stderr
+        expect(f"{time_of} is no time", got == (1, "", "--since: not a time as 2026-11-29 or 2026-11-29T01:22:33Z\n"), got)
+
+
+def try_configurations():
+    with Desk("= 1") as desk:
+        got = Server(desk).ended()
+        expect("a configuration is refused as by mgd", got == (1, "top 0: Toml\n"), got)
+    with Desk() as desk, socket.socket() as taken:
+        taken.bind(("127.0.0.1", 0))
+        taken.listen()
+        done = subprocess.run([program, "serve", desk.folder, desk.at("served.toml"), str(taken.getsockname()[1])], capture_output=True,
+                              text=True, timeout=PATIENCE)
+        expect("a port in use", (done.returncode, done.stderr) == (3, "listening failed\n"), (done.returncode, done.stderr))
+
+
+# --- What a start takes from where -------------------------------------------------------------------------------------------------
+
+def try_owner_left():
+    with Desk(config(buffer("notes", NOTES, text=SECRET), buffer("page", PAGE, text="A page."), users=TICKETS)) as desk:
+        server = serving(desk)
+        ann = server.join("ann")
+        type_in(ann, go_to("page") + command("set-owner", "eve") + LISTING)
+        expect("ann gives the page to eve", see(ann, " page eve"), ann.shows(2))
+        server.kill()
+        desk.write(PLAIN)
+        got = Server(desk).ended()
+        expect("an owner who is no user any more is refused", got[0] == 1 and got[1].endswith("buffer page: owner eve is no user\n"), got)
+        got = Server(desk, "--owner", "page", "No Name").ended()
+        expect("nor can it be given to what is no name", got == (1, "No Name: no name of a user\n"), got)
+        got = Server(desk, "--owner", "none", "ann").ended()
+        expect("nor can a buffer that the journal does not have", got == (1, "buffer none: the journal does not have it\n"), got)
+        got = Server(desk, "--owner", "page", "eve").ended()
+        expect("and cannot be given it again", got[0] == 1, got)
+        server = serving(desk, "--owner", "page", "bob")
+        ann = server.join("ann")
+        type_in(ann, LISTING)
+        expect("until the start gives it to another", see(ann, " page bob"), [ann.shows(row) for row in (1, 2, 3)])
+        server.kill()
+        server = serving(desk)
+        ann = server.join("ann")
+        type_in(ann, LISTING)
+        expect("who has it at the next start too", see(ann, " page bob"), [ann.shows(row) for row in (1, 2, 3)])
+        server.kill()
+
+
+def try_otherwise():
+    with Desk() as desk:
+        made_journal(desk)
+        desk.write(config(buffer("notes", NOTES[:1], text=SECRET), buffer("page", PAGE, text="A page."), buffer("new", NOTES, text="A new one.")))
+        server = serving(desk)
+        expect("where CONFIG says otherwise, the start tells it", server.told() == "buffer notes: as the journal has it, not as CONFIG\n", server.told())
+        cat = server.join("cat")
+        expect("and what the journal has holds", see(cat, SECRET), cat.shows(1))
+        bob = server.join("bob")
+        type_in(bob, go_to("new"))
+        expect("a buffer that CONFIG has anew is there", see(bob, "A new one."), bob.shows(1))
+        server.kill()
+        server = serving(desk, "--forget", "notes")
+        expect("with --forget nothing is told", server.told() == "", server.told())
+        cat = server.join("cat")
+        type_in(cat, go_to("notes"))
+        expect("and CONFIG's list holds", see(cat, "Denied: no entry grants READ_ATTRIBUTES") and not shows(cat, SECRET), cat.shows(1))
+        server.kill()
+        server = serving(desk)
+        cat = server.join("cat")
+        type_in(cat, go_to("notes"))
+        expect("at the next start too", see(cat, "Denied: no entry grants READ_ATTRIBUTES") and server.told() == "", cat.shows(ROWS))
+        server.kill()
+
+
+def try_names_of_others():
+    """A buffer that somebody made under a name is not the one that CONFIG has under it later, or had under it before."""
+    with Desk() as desk:
+        server = serving(desk)
+        bob = server.join("bob")
+        type_in(bob, go_to("plans") + "mine")
+        see(bob, "mine")
+        server.kill()
+        desk.write(config(buffer("notes", NOTES, text=SECRET), buffer("page", PAGE, text="A page."), buffer("plans", ["ALLOW ann rwatc"], text="Only for ann.")))
+        server = Server(desk)
+        if server.port is None:
+            got = server.ended()
+            expect("a name that somebody took before CONFIG did is refused by name", got[0] == 1 and "plans" in got[1], got)
+        else:
+            bob = server.join("bob")
+            type_in(bob, go_to("plans"))
+            see(bob, "-plans-")
+            expect("whoever took a name before CONFIG did is not shown CONFIG's text", not shows(bob, "Only for ann"), bob.shows(1))
+            server.kill()
+    with Desk(config(buffer("notes", NOTES, text=SECRET), buffer("page", ["ALLOW ann rwatcC", "ALLOW bob td"], text="Only for ann."))) as desk:
+        server = serving(desk)
+        bob = server.join("bob")
+        type_in(bob, "\x18kpage\r" + go_to("page"))
+        see(bob, "-page-")
+        server.kill()
+        server = Server(desk)
+        if server.port is None:
+            got = server.ended()
+            expect("a name that was killed and taken is refused by name", got[0] == 1 and "page" in got[1], got)
+        else:
+            bob = server.join("bob")
+            type_in(bob, go_to("page"))
+            see(bob, "-page-")
+            expect("whoever killed a text and took its name is not shown it at the next start", not shows(bob, "Only for ann"), bob.shows(1))
+            server.kill()
+    with Desk(config(buffer("notes", NOTES[:1] + ["ALLOW EVERYONE@ rwatd"], text=SECRET), buffer("page", PAGE, text="A page."))) as desk:
+        server = serving(desk)
+        ann, bob = server.join("ann"), server.join("bob")
+        type_in(ann, DENY_BOB)
+        see(bob, "[no read")
+        cat = server.join("cat")
+        type_in(cat, "\x18knotes\r" + LISTING)
+        see(cat, " page ")
+        miss(cat, " notes ")
+        server.kill()
+        server = serving(desk)
+        bob = server.join("bob")
+        type_in(bob, go_to("notes"))
+        see(bob, "-notes-")
+        expect("a kill lets nobody in whom the list had shut out", not shows(bob, SECRET), bob.shows(1))
+        server.kill()
+
+
+# --- When the journal fails --------------------------------------------------------------------------------------------------------
+
+def change_until_failed(server, most):
+    """ann changes the list of the notes until the journal fails. How many changes bob's screen has shown, and whether he is shut out there."""
+    ann, bob = server.join("ann"), server.join("bob")
+    see(bob, "-notes-")
+    is_denied = shows(bob, "[no read")
+    for number in range(most):
+        type_in(ann, DROP_FIRST if is_denied else DENY_BOB)
+        wanted = SECRET if is_denied else "[no read"
+        bob.read_until(lambda one: shows(one, wanted), PATIENCE)
+        if not shows(bob, wanted):
+            return number, is_denied
+        is_denied = not is_denied
+    return most, is_denied
+
+
+def holds_after_failure(desk, number, is_denied, what):
+    server = serving(desk)
+    bob = server.join("bob")
+    see(bob, "[no read" if is_denied else SECRET, 3)
+    kept = shows(bob, "[no read")
+    server.kill()
+    changes = [line for line in desk.events() if line[0] == "ann" and line[1] == "list"]
+    # The change that failed was shown to nobody, and may have been kept or not.
+    expect(f"{what}: what was shown holds after the next start", len(changes) in (number, number + 1) and kept == (len(changes) % 2 == 1),
+           (number, len(changes), is_denied, kept))
+
+
+def try_size_limit():
+    def limit(size, is_set_aside):
+        def before():
+            if is_set_aside:
+                signal.signal(signal.SIGXFSZ, signal.SIG_IGN)
+            resource.setrlimit(resource.RLIMIT_FSIZE, (size, size))
+        return before
+
+    for is_set_aside in (True, False):
+        with Desk() as desk:
+            serving(desk).kill()
+            server = serving(desk, before=limit(150_000, is_set_aside))
+            number, is_denied = change_until_failed(server, 3000)
+            got = server.ended()
+            if not is_set_aside and got[0] == -signal.SIGXFSZ:
+                print("left out: without the signal set aside a limit of size ends the program by SIGXFSZ, as the manual page says")
+            else:
+                expect("a limit of size ends it with 4", got == (4, "journal failed\n"), (number, got))
+            expect("after some changes", 0 < number < 3000, number)
+            expect("SQLite finds the files sound", desk.is_sound())
+            holds_after_failure(desk, number, is_denied, "a limit of size")
+
+
+def try_full_disk():
+    with Desk() as desk:
+        small = desk.at("small")
+        os.mkdir(small)
+        if not IS_ROOT or subprocess.run(["mount", "-t", "tmpfs", "-o", "size=400k", "tmpfs", small], stderr=subprocess.DEVNULL).returncode:
+            print("left out: a full disk, since no small file system can be mounted here")
+            return
+        try:
+            desk.folder = os.path.join(small, "journal")
+            os.mkdir(desk.folder, 0o700)
+            server = serving(desk)
+            number, is_denied = change_until_failed(server, 5000)
+            got = server.ended()
+            expect("a full disk ends it with 4", got == (4, "journal failed\n"), (number, got))
+            expect("after some changes", 0 < number < 5000, number)
+            got = Server(desk)
+            if got.port is None:
+                status = got.ended()
+                expect("a start on the full disk is refused by words", status == (1, "journal: the disk is full\n"), status)
+            else:
+                got.kill()
+            subprocess.run(["mount", "-o", "remount,size=4m", small], check=True)
+            expect("SQLite finds the files sound", desk.is_sound())
+            holds_after_failure(desk, number, is_denied, "a full disk")
+        finally:
+            subprocess.run(["umount", small], check=False)
+
+
+# --- What is told ------------------------------------------------------------------------------------------------------------------
+
+def played(server):
+    """A quarter of an hour of three people, each thing done once the one before is seen: what an audit is to say of it, and whose
+    session is open at the end."""
+    done = []
+
+    def note(*line):
+        done.append(line)
+
+    def does(one, keys, is_seen, *lines):
+        type_in(one, keys)
+        expect(f"played: {lines or keys.encode()}", is_seen(), [one.shows(row) for row in (1, 2, ROWS - 1, ROWS)])
+        done.extend(lines)
+
+    def denied(name, one, keys, echo, detail):
+        does(one, keys, lambda: see(one, echo), (name, "denied", NO_BUFFER, detail))
+        # A motion that is granted, or a word that is given up, empties the echo row.
+        type_in(one, "\x07")
+        see(one, "Quit")
+
+    ann = server.join("ann")
+    note("ann", "login", "-", "-")
+    bob = server.join("bob")
+    note("bob", "login", "-", "-")
+    cat = server.join("cat")
+    note("cat", "login", "-", "-")
+    notes, page = "; ".join(NOTES), "; ".join(PAGE)
+    does(bob, "Hello ann. ", lambda: see(ann, "Hello ann."))
+    does(ann, DENY_BOB, lambda: see(bob, "[no read: entry 1]"), ("ann", "list", "notes", f"{notes} -> DENY bob rwa; {notes}"))
+    denied("bob", bob, "x", "Denied: entry 1 denies APPEND_DATA", "APPEND_DATA entry 1")
+    denied("bob", bob, "\x02", "Denied: entry 1 denies READ_DATA", "READ_DATA entry 1")
+    denied("bob", bob, command("acl-insert", "ALLOW bob r", 1), "Denied: no entry grants WRITE_ACL", "WRITE_ACL no entry")
+    does(cat, go_to("page"), lambda: see(cat, "A page."))
+    denied("cat", cat, "x", "Denied: no entry grants WRITE_DATA", "WRITE_DATA no entry")
+    denied("cat", cat, "\x18kpage\r", "Denied: no entry grants DELETE", "DELETE no entry")
+    does(ann, go_to("page") + command("set-group", "desk") + LISTING, lambda: see(ann, " page ann:desk"), ("ann", "group", "page", "- -> desk"))
+    does(ann, go_to("page") + command("set-owner", "cat") + LISTING, lambda: see(ann, " page cat:desk"), ("ann", "owner", "page", "ann -> cat"))
+    denied("cat", cat, command("set-owner", "bob"), "Denied: no entry grants WRITE_OWNER", "WRITE_OWNER no entry")
+    does(ann, go_to("page") + command("acl-replace", "ALLOW EVERYONE@ rwt", 2) + command("acl-list", None), lambda: see(ann, "2 ALLOW EVERYONE@ rwt"),
+         ("ann", "list", "page", f"{page} -> {PAGE[0]}; ALLOW EVERYONE@ rwt"))
+    does(ann, go_to("page"), lambda: see(ann, "A page."))
+    does(cat, "Now ", lambda: see(ann, "Now A page."))
+    does(bob, go_to("draft") + "mine", lambda: see(bob, "-draft-"), ("bob", "create", "draft", "-"))
+    denied("ann", ann, go_to("draft"), "Denied: no entry grants READ_ATTRIBUTES", "READ_ATTRIBUTES no entry")
+    does(bob, command("acl-insert", "ALLOW ann rt") + command("acl-list", None), lambda: see(bob, "2 ALLOW ann rt"), ("bob", "list", "draft", f"{OWNERS_LIST} -> {OWNERS_LIST}; ALLOW ann rt"))
+    does(ann, go_to("draft"), lambda: see(ann, "mine"))
+    denied("ann", ann, "\x18kdraft\r", "Denied: no entry grants DELETE", "DELETE no entry")
+    does(bob, "\x18kdraft\r", lambda: miss(ann, "mine"), ("bob", "kill", "draft", "-"))
+    does(ann, go_to("page") + command("set-group", "") + LISTING, lambda: miss(ann, "cat:desk"), ("ann", "group", "page", "desk -> -"))
+    does(ann, go_to("notes") + DROP_FIRST, lambda: True, ("ann", "list", "notes", f"DENY bob rwa; {notes} -> {notes}"))
+    does(bob, go_to("notes"), lambda: see(bob, "Hello ann."))
+    type_in(cat, LEAVE)
+    cat.read_until(lambda one: one.ended, PATIENCE)
+    expect("played: cat leaves", cat.ended)
+    note("cat", "end", "-", "quit")
+    bob.close()
+    note("bob", "end", "-", "closed")
+    time.sleep(0.3)
+    cat = server.join("cat")
+    note("cat", "login", "-", "-")
+    does(ann, command("acl-insert", "DENY cat r", 1), lambda: see(cat, "[no read: entry 1]"), ("ann", "list", "notes", f"{notes} -> DENY cat r; {notes}"))
+    type_in(ann, LEAVE)
+    ann.read_until(lambda one: one.ended, PATIENCE)
+    note("ann", "end", "-", "quit")
+    return done, cat
+
+
+def try_audit():
+    with Desk() as desk:
+        begun = int(time.time())
+        server = serving(desk)
+        done, last = played(server)
+        expect("what is gathered comes within two seconds", wait_for(lambda: len(server.lines()) > 0 and fields(server.lines()[-1]) == done[-1], 2), server.lines()[-2:])
+        lines = server.lines()
+        server.kill()
+        last.close()
+        ended = int(time.time()) + 1
+        status, text, told = desk.audit()
+        expect("an audit ends with 0 and no words of faults", (status, told) == (0, ""), (status, told))
+        expect("its lines are those of standard output", text.splitlines() == lines, (len(text.splitlines()), len(lines)))
+        wrong = [line for line in text.splitlines() if not EVENT.fullmatch(line)]
+        expect("each has the form of one", not wrong, wrong[:3])
+        numbers = [int(line.split("\t")[1]) for line in text.splitlines()]
+        expect("they are numbered from 1", numbers == list(range(1, len(numbers) + 1)), numbers)
+        times = [datetime.strptime(line.split("\t")[0], "%Y-%m-%dT%H:%M:%SZ").replace(tzinfo=timezone.utc).timestamp() for line in text.splitlines()]
+        expect("at the times when it was", times == sorted(times) and begun <= times[0] and times[-1] <= ended, (begun, times[0], times[-1], ended))
+        events = desk.events()
+        first = [line for line in events if line[0] == "-"]
+        expect("first come the buffers of CONFIG", first == events[:2] == [("-", "create", "notes", "-"), ("-", "create", "page", "-")], events[:3])
+        rest = events[len(first):]
+        expect(f"then each of {len(done)} things that were done, line by line", rest == done, [pair for pair in zip(rest, done) if pair[0] != pair[1]][:3])
+        expect("--user has the user's", desk.events("--user", "bob") == [line for line in events if line[0] == "bob"], desk.events("--user", "bob")[:3])
+        expect("--buffer has the buffer's", desk.events("--buffer", "page") == [line for line in events if line[2] == "page"], desk.events("--buffer", "page")[:3])
+        both = desk.events("--user", "ann", "--buffer", "page")
+        expect("both together have those of both", both == [line for line in events if line[0] == "ann" and line[2] == "page"], both[:3])
+        today = datetime.fromtimestamp(begun, timezone.utc)
+        expect("--since a day has those from its start on", desk.events("--since", today.strftime("%Y-%m-%d")) == events)
+        expect("--since a second too", desk.events("--since", today.strftime("%Y-%m-%dT%H:%M:%SZ")) == events)
+        expect("--since a later day has none", desk.audit("--since", "2999-01-01") == (0, "", ""), desk.audit("--since", "2999-01-01"))
+        middle = text.splitlines()[len(numbers) // 2].split("\t")[0]
+        later = [fields(line) for line in text.splitlines() if line.split("\t")[0] >= middle]
+        expect("--since the middle has those from there on", desk.events("--since", middle) == later, middle)
+        rows = desk.ask("SELECT user, what, buffer, detail FROM event ORDER BY number")
+        plain = [tuple(word or "-" for word in row) for row in rows] if isinstance(rows, list) else rows
+        expect("sqlite3 reads the same", plain == events, plain[:3])
+        expect("and no text of a buffer", not any(word in data for data in desk.contents().values() for word in (b"door code", b"Hello ann", b"mine")))
+        kept = desk.folder
+        desk.folder = desk.copy()
+        os.chmod(desk.folder, 0o700)
+        expect("an audit of a copy says the same", desk.audit()[1] == text)
+        desk.folder = kept
+
+
+def try_gathered():
+    """A crash loses no more than the last second of what is gathered."""
+    with Desk() as desk:
+        server = serving(desk)
+        bob = server.join("bob")
+        type_in(bob, go_to("page") + "x")
+        see(bob, "Denied")
+        time.sleep(1.5)
+        server.kill()
+        events = desk.events("--user", "bob")
+        expect("what was gathered for a second outlasts a kill", events == [("bob", "login", "-", "-"), ("bob", "denied", NO_BUFFER, "WRITE_DATA no entry")], events)
+        server = serving(desk)
+        cat = server.join("cat")
+        type_in(cat, go_to("page") + "x" * 600)
+        see(cat, "Denied")
+        time.sleep(1.5)
+        server.kill()
+        denials = [line for line in desk.events("--user", "cat") if line[1] == "denied"]
+        expect("each of 600 denials is told", len(denials) == 600, len(denials))
+
+
+def try_closed_pipe():
+    """Where nobody takes the lines of standard output, it serves on, and the journal has them."""
+    with Desk() as desk:
+        server = subprocess.Popen([program, "serve", desk.folder, desk.at("served.toml"), "0"], stdout=subprocess.PIPE, stderr=subprocess.DEVNULL)
+        line = b""
+        while not line.startswith(b"listening ") and server.poll() is None:
+            line = server.stdout.readline()
+        port = int(line.decode().rpartition(":")[2])
+        server.stdout.close()
+        ann = Terminal(port, "ann apple", ROWS, COLS)
+        bob = Terminal(port, "bob birch", ROWS, COLS)
+        see(bob, SECRET)
+        type_in(ann, DENY_BOB)
+        is_seen = see(bob, "[no read: entry 1]")
+        server.kill()
+        server.wait()
+        told = [line[:3] for line in desk.events("--user", "ann")]
+        expect("with standard output closed a change is shown, and kept", is_seen and ("ann", "list", "notes") in told, (is_seen, told))
+
+
+def finish():
+    print(f"{passed} passed, {failed} failed")
+    return 1 if failed else 0
+
+
+def main():
+    global program
+    parser = argparse.ArgumentParser(description=__doc__.splitlines()[0])
+    parser.add_argument("--rounds", type=int, default=100, help="how often it is killed at a random moment")
+    parser.add_argument("--seed", type=int, default=random.randrange(1 << 30), help="what the moments are drawn from")
+    parser.add_argument("program", nargs="?", default=program)
+    options = parser.parse_args()
+    program = os.path.abspath(options.program)
+    if not os.access(program, os.X_OK):
+        print(f"there is no program {program}; ./mgd prove builds one")
+        return 1
+    try_words()
+    try_configurations()
+    try_folders()
+    try_links()
+    try_second()
+    try_shown_then_killed()
+    try_audit()
+    try_gathered()
+    try_closed_pipe()
+    try_owner_left()
+    try_otherwise()
+    try_names_of_others()
+    try_damage()
+    try_foreign()
+    try_size_limit()
+    try_full_disk()
+    print(f"seed {options.seed}")
+    try_kills(options.rounds, options.seed)
+    return finish()
+
+
+if __name__ == "__main__":
+    sys.exit(main())
