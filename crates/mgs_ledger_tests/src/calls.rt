@@ -137,3 +137,14 @@ pub(crate) fn kept(alloc: Global, desk: &Desk<'_>) -> Result<String, Fail> {
     }
     Ok(text)
 }
+
+/// Whether a user made or killed the last buffer of this name.
+pub(crate) fn is_taken(desk: &Desk<'_>, buffer: &str) -> Result<bool, Fail> {
+    Ok(desk.is_taken(&name(buffer)?))
+}
+
+/// The name is free again.
+pub(crate) fn forget(desk: &mut Desk<'_>, buffer: &str) -> Result<(), Fail> {
+    desk.forget(&name(buffer)?)?;
+    Ok(())
+}

@@ -12,3 +12,5 @@ mod desk;
 mod gathered;
 #[cfg(test)]
 mod kept;
+#[cfg(test)]
+mod taken;
