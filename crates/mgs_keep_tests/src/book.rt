@@ -1,4 +1,6 @@
 // A journal of tests: what it is told is written down in words, and after so many calls it fails.
+ghost use Rattle.std.specs.Prelude.{◌≡◌};
+
 use mgs_acl::List;
 use mgs_buffers::Rights;
 use mgs_journal::{Journal, JournalFault, Told};

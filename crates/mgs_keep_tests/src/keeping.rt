@@ -77,8 +77,9 @@ fn press(server: &mut Server, id: SessionId, keys: &[u8]) -> Keyed {
 const STEPS: [(bool, &[u8], &str); 8] = [
     (true, b"x", ""),
     (false, b"y", "bob is denied WRITE_DATA\n"),
-    (true, b"\x1bxacl-delete\r", "ann changes notes\n"),
-    (false, b"y", "bob is denied WRITE_DATA\n"),
+    (true, b"\x152\x1bxacl-delete\r", "ann changes notes\n"),
+    // Who may not read types at the text's end.
+    (false, b"y", "bob is denied APPEND_DATA\n"),
     (true, b"\x18bplan\r", "ann makes plan\n"),
     (true, b"\x18knotes\r", "ann kills notes\n"),
     (true, b"\x1bxset-owner\rbob\r", "ann changes plan\n"),
