@@ -1,4 +1,5 @@
 pub mod Blocks
+pub mod Copies
 pub mod FeedEdits
 pub mod FeedLines
 pub mod FeedLists

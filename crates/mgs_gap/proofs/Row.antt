@@ -23,12 +23,12 @@ module _ {M : Type 1} {𝓤 : Ura M} (𝓛 : Logic 𝓤) (b : ℕ) where
   abbrev Row : ℕ → List (Option ℕ) → Fml
   Row = slots b
 
-  cut : (xs ys : List (Option ℕ)) (o at : ℕ) → at ≡ length xs * 4 + o → ent 𝓤 (sem 𝓛 (Row o (xs ++ ys))) (sep 𝓤 (sem 𝓛 (Row o xs)) (sem 𝓛 (Row at ys)))
+  pub cut : (xs ys : List (Option ℕ)) (o at : ℕ) → at ≡ length xs * 4 + o → ent 𝓤 (sem 𝓛 (Row o (xs ++ ys))) (sep 𝓤 (sem 𝓛 (Row o xs)) (sem 𝓛 (Row at ys)))
   cut [] ys o at e = qed 𝓛 (‵ (Row o ys) ∷ []) ∵ rewrite ! 0 (λ (k : ℕ). ‵ (Row k ys)) {x = at} (omega (arith, zero-mul 4)) refl $ nothing ! $ done !
   cut (x ∷ xs) ys o at e = let more : at ≡ suc (length xs) * 4 + o = e in qed 𝓛 (‵ (Row o (x ∷ xs ++ ys)) ∷ []) ∵ fsplit ! $ move ! (1 ∷ []) $
       use1 𝓛 (‵ (Row (o + 4) xs) ⊛ ‵ (Row at ys)) (cut xs ys (o + 4) at (omega (arith, suc-mul (length xs) 4))) $ split ! $ move ! (2 ∷ 0 ∷ []) $ fjoin ! $ done !
 
-  glue : (xs ys : List (Option ℕ)) (o at : ℕ) → at ≡ length xs * 4 + o → ent 𝓤 (sep 𝓤 (sem 𝓛 (Row o xs)) (sem 𝓛 (Row at ys))) (sem 𝓛 (Row o (xs ++ ys)))
+  pub glue : (xs ys : List (Option ℕ)) (o at : ℕ) → at ≡ length xs * 4 + o → ent 𝓤 (sep 𝓤 (sem 𝓛 (Row o xs)) (sem 𝓛 (Row at ys))) (sem 𝓛 (Row o (xs ++ ys)))
   glue [] ys o at e = qed 𝓛 (‵ ftrue ∷ ‵ (Row at ys) ∷ []) ∵ skip ! $ rewrite ! 0 (λ (k : ℕ). ‵ (Row k ys)) {x = o} (omega (arith, zero-mul 4)) refl $ done !
   glue (x ∷ xs) ys o at e = let more : at ≡ suc (length xs) * 4 + o = e in qed 𝓛 (‵ (Row o (x ∷ xs)) ∷ ‵ (Row at ys) ∷ []) ∵ fsplit ! $ move ! (1 ∷ 2 ∷ []) $
       use2 𝓛 (‵ (Row (o + 4) (xs ++ ys))) (glue xs ys (o + 4) at (omega (arith, suc-mul (length xs) 4))) $ move ! (1 ∷ 0 ∷ []) $ fjoin ! $ done !

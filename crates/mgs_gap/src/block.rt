@@ -55,14 +55,18 @@ impl Block {
         }
         match Cells::allocate(&alloc, gap) {
             None => Err(Short),
-            Some((cells, right)) => Ok(Block {
-                cells,
-                right,
-                alloc,
-                before: 0,
-                gap,
-                after: 0,
-            }),
+            Some((cells, right)) => {
+                let mut right = right;
+                right.starts();
+                Ok(Block {
+                    cells,
+                    right,
+                    alloc,
+                    before: 0,
+                    gap,
+                    after: 0,
+                })
+            }
         }
     }
 
@@ -115,7 +119,7 @@ impl Block {
         ensures { self.new ≡ gapped (take a self.old.front) self.old.gap (drop a self.old.front ++ self.old.back) }
     {
         let n = self.before - a;
-        self.cells.slide_up(a, a + self.gap, n);
+        self.cells.raise(a, self.gap, n);
         self.before = a;
         self.after += n;
     }
@@ -125,8 +129,7 @@ impl Block {
         requires { n ≤ length self.old.back }
         ensures { self.new ≡ gapped (self.old.front ++ take n self.old.back) self.old.gap (drop n self.old.back) }
     {
-        self.cells
-            .slide_down(self.before + self.gap, self.before, n);
+        self.cells.lower(self.before, self.gap, n);
         self.before += n;
         self.after -= n;
     }

@@ -1,14 +1,14 @@
 // A row of places in one block of memory, each empty or holding a character. Only these functions touch pointers.
-ghost use Rattle.std.specs.Prelude.{◌≡◌, ℕ, ◌<◌, ◌^◌, List, Option, Some, None, length, replicate, slice_set, IfSome};
+ghost use Rattle.std.specs.Prelude.{◌≡◌, ℕ, ◌+◌, ◌<◌, ◌≤◌, ◌^◌, List, Option, Some, None, length, replicate, slice_set, IfSome};
 ghost use base.Fml.{ftrue};
-ghost use denote.RawPtr.{Ptr};
+ghost use denote.RawPtr.{Ptr, count_of};
 ghost use Rattle.mgs_gap.specs.Ownership.{cells_own, cells_lent, block_type};
-ghost use Rattle.mgs_gap.specs.Places.{IsRun, ShowsRun};
+ghost use Rattle.mgs_gap.specs.Places.{IsCopied, IsRun, ShowsRun};
 
-use std::alloc::Allocator;
+use std::alloc::{Allocator, Global};
 use std::marker::{Model, PhantomData};
 use std::mem::{align_of, size_of};
-use std::slice;
+use std::{ptr, slice};
 
 // The owner of the places.
 pub(crate) struct Cells {
@@ -35,6 +35,13 @@ impl<A: Allocator> Model for FreeRight<A> {
     ghost also_owns = { λ r. A.dealloc_token r.alloc (block_type r.len) r.at };
 
     ghost also_shares = { λ _ _ _. ftrue };
+}
+
+impl FreeRight<Global> {
+    // A block of the heap is given back by its first byte. It takes nothing when it runs.
+    pub(crate) fn starts(&mut self)
+        ensures { (self.new ≡ self.old) × (count_of self.new.at ≡ 0) }
+    {}
 }
 
 impl Cells {
@@ -66,6 +73,15 @@ impl Cells {
         ensures { (self.new.at ≡ self.old.at) × (self.new.slots ≡ slice_set self.old.slots index (Some c)) }
     {
         unsafe { self.at.add(index).write(c) }
+    }
+
+    // The `n` characters from the place `from` on go to the places from `to` on, by one copy in the machine. The places
+    // between, and those that they leave, are empty.
+    pub(crate) fn copy(&mut self, from: usize, to: usize, n: usize)
+        requires { (count_of self.old.at ≡ 0) × IsRun self.old.slots from n × (to + n ≤ length self.old.slots) }
+        ensures { (self.new.at ≡ self.old.at) × IsCopied self.old.slots self.new.slots from to n }
+    {
+        unsafe { ptr::copy(self.at.add(from) as *const char, self.at.add(to), n) }
     }
 
     // The `len` characters from the place `from` on.

@@ -1,8 +1,7 @@
 // A text over a block with a gap. A mark is a raw place of the block: its number there, the gap counted.
 ghost use Rattle.std.specs.Prelude.{◌≡◌, ℕ, ◌+◌, ◌-◌, ◌<◌, ◌≤◌, ◌++◌, [], Option, Some, None, length, slice_range, IfOk};
 ghost use Rattle.mgs_marks.specs.Marks.{position_in};
-ghost use Rattle.std.specs.Vec.{vec_capacity};
-ghost use Rattle.mgs_gap.specs.Feeds.{AreFeeds};
+ghost use Rattle.mgs_gap.specs.Feeds.{AreFeeds, HasRoom};
 ghost use Rattle.mgs_gap.specs.Gapped.{text_of};
 ghost use Rattle.mgs_gap.specs.RawPlaces.{text_place, IsRaw, marks_at};
 
@@ -27,7 +26,7 @@ pub struct GapText {
     feeds: Feeds,
     places: Slab<usize>,
     alloc: Global,
-    ghost lines: { (AreFeeds feeds.before.items feeds.after.items block.front block.back) × (length feeds.before.items + length feeds.after.items ≤ vec_capacity feeds.before) },
+    ghost lines: { (AreFeeds feeds.before.items feeds.after.items block.front block.back) × HasRoom feeds },
     ghost raw: { (i : ℕ) → IsRaw (length block.front) block.gap (position_in places.slots i) },
     ghost within: { (i : ℕ) → text_place (length block.front) block.gap (position_in places.slots i) ≤ length (text_of block) },
 }

@@ -1,7 +1,6 @@
 // A block and its line feeds, which are edited together.
 ghost use Rattle.std.specs.Prelude.{◌≡◌, ◌+◌, ◌-◌, ◌≤◌, ◌++◌, [], length, take, drop, OnOk, OnErr};
-ghost use Rattle.std.specs.Vec.{vec_capacity};
-ghost use Rattle.mgs_gap.specs.Feeds.{AreFeeds};
+ghost use Rattle.mgs_gap.specs.Feeds.{AreFeeds, HasRoom};
 ghost use Rattle.mgs_gap.specs.Gapped.{text_of};
 
 use crate::block::Block;
@@ -12,12 +11,12 @@ use std::alloc::Global;
 // The gap moves to the text's end. It takes no memory.
 pub(crate) fn gather_lined(block: &mut Block, feeds: &mut Feeds)
     requires feeds { AreFeeds feeds.old.before.items feeds.old.after.items block.old.front block.old.back }
-    requires room { length feeds.old.before.items + length feeds.old.after.items ≤ vec_capacity feeds.old.before }
+    requires room { HasRoom feeds.old }
     ensures front { block.new.front ≡ text_of block.old }
     ensures gap { block.new.gap ≡ block.old.gap }
     ensures back { block.new.back ≡ [] }
     ensures feeds { AreFeeds feeds.new.before.items feeds.new.after.items block.new.front block.new.back }
-    ensures room { length feeds.new.before.items + length feeds.new.after.items ≤ vec_capacity feeds.new.before }
+    ensures room { HasRoom feeds.new }
 {
     // The block's size bounds every place in it.
     let _size = block.after();
@@ -45,7 +44,7 @@ pub(crate) fn edit_lined(
     ensures gap { length put.now ≤ block.old.gap → OnOk result (block.new.gap ≡ block.old.gap + (b - a) - length put.now) }
     ensures feeds { AreFeeds feeds.new.before.items feeds.new.after.items block.new.front block.new.back }
     ensures err { OnErr result (block.new ≡ block.old) }
-    ensures room { length feeds.old.before.items + length feeds.old.after.items ≤ vec_capacity feeds.old.before → length feeds.new.before.items + length feeds.new.after.items ≤ vec_capacity feeds.new.before }
+    ensures room { HasRoom feeds.old → HasRoom feeds.new }
 {
     // The block's size bounds every place in it.
     let _size = block.after();

@@ -1,5 +1,5 @@
 // Columns of a line, counted character by character.
-ghost use Rattle.std.specs.Prelude.{◌≡◌, ◌+◌, ◌-◌, ◌*◌, ◌<◌, ◌≤◌, ◌^◌, length, slice_range, true, All};
+ghost use Rattle.std.specs.Prelude.{◌≡◌, ◌+◌, ◌-◌, ◌*◌, ◌<◌, ◌≤◌, ◌^◌, length, slice_range, take, true, All};
 ghost use Rattle.mgs_model.specs.Cells.{cells_from, IsPrintable};
 
 use crate::width;
@@ -44,6 +44,16 @@ fn column_behind(column: usize, chars: &[char]) -> usize
     at
 }
 
+// The column behind the first `count` characters of a piece, of which the first begins in a column.
+fn column_in(column: usize, piece: &[char], count: usize) -> usize
+    requires within { count ≤ length piece.now }
+    requires short { column + 12 * count < 2 ^ 64 }
+    ensures value { result ≡ column + length (cells_from column (take count piece.now)) }
+    ensures few { result ≤ column + 12 * count }
+{
+    column_behind(column, &piece[..count])
+}
+
 /// The column of a position `p`, counted from one before it on: `from`, which is in the column `column`.
 pub fn column_from<T: Text>(text: &T, from: usize, column: usize, p: usize) -> usize
     requires order { from ≤ p }
@@ -57,7 +67,7 @@ pub fn column_from<T: Text>(text: &T, from: usize, column: usize, p: usize) -> u
     while i < p {
         let piece = text.piece(i);
         let count = piece.len().min(p - i).min(RUN);
-        at = column_behind(at, &piece[..count]);
+        at = column_in(at, piece, count);
         i += count;
     }
     at

@@ -1,4 +1,4 @@
-use Rattle.std.proofs.Common.{◌≡◌, ◌+◌, ℕ, List, ◌++◌, length, length-take, take, ap, sym, arith, ◌∙◌}
+use Rattle.std.proofs.Common.{◌≡◌, ◌+◌, ℕ, List, ◌++◌, length, take, ap, sym, arith, ◌∙◌}
 use Rattle.std.specs.Prelude.{slice_range}
 use Rattle.mgs_model.specs.Cells.{cells_from}
 use Rattle.mgs_lines.proofs.Counted.{behind_begin, range_piece}
@@ -15,8 +15,8 @@ loop-i-preserved g c =
     record {
       order = omega arith;
       from = omega arith;
-      value = behind_begin at c.column_behind-at.result (take count piece) (slice_range xs (i + count) c.args.p) c.column_behind-at.ensures.value
+      value = behind_begin at c.column_in-at.result (take count piece) (slice_range xs (i + count) c.args.p) c.column_in-at.ensures.value
           ∙ ap (λ (l : List ℕ). at + length (cells_from at l)) (sym cut)
           ∙ c.loop-i.invariant.value;
-      few = omega (arith, c.column_behind-at.ensures.few, c.loop-i.invariant.few, c.loop-i.invariant.from, length-take count piece);
+      few = omega (arith, c.column_in-at.ensures.few, c.loop-i.invariant.few, c.loop-i.invariant.from);
     }
