@@ -11,3 +11,4 @@ pub mod Placing
 pub mod Permitting
 mod Updates
 pub mod Spelled
+mod Failures

@@ -4,7 +4,8 @@ use Rattle.mgs_model.specs.Names.{is_group_or_none, is_name, is_user_name}
 use Rattle.mgs_model.specs.Access.{owners_of}
 use Rattle.mgs_model.specs.declared.owners.Owners.{Owners}
 use Rattle.mgs_model.specs.declared.entry.Entry.{Entry}
-use Rattle.mgs_buffers.specs.MarkedBuffer.{MarkedBuffer, has_buffer, marked_new}
+use Rattle.mgs_laws.specs.Apart.{Rules}
+use Rattle.mgs_buffers.specs.MarkedBuffer.{MarkedBuffer, has_buffer, marked_new, marked_restored}
 use Rattle.mgs_buffers.specs.declared.fault.AddFault.{AddFault}
 use Rattle.mgs_buffers.specs.declared.fault.AddFault.TheVariants.{Name, Twice, Full, Long, Short}
 
@@ -24,6 +25,10 @@ add_fault name owner group size ks =
 -- the buffer that is added: no edit of it is recorded, and it has no marks
 abbrev pub marked_added : List ℕ → List ℕ → Option (List ℕ) → List Entry → List ℕ → Bool → MarkedBuffer
 marked_added name owner group entries text file = marked_new name (owners_of owner group) entries text file
+
+-- the buffer that comes back where these rules were kept
+abbrev pub kept_buffer : Rules → List ℕ → Bool → Bool → MarkedBuffer
+kept_buffer rules text file modified = marked_restored rules.name rules.owners rules.entries text file modified
 
 -- each fault exactly where it is due, and out of memory only where none is
 abbrev pub IsAddDue : AddFault → Option AddFault → Type 0

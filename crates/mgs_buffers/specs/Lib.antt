@@ -9,4 +9,5 @@ pub mod Permitting
 pub mod Placing
 pub mod Rules
 pub mod Saving
+pub mod Searched
 pub mod Told

@@ -24,6 +24,14 @@ marked_new name owners entries text file =
       marks = [];
     }
 
+-- a buffer that was kept, modified since it was written or not: no edit of it is recorded, and it has no marks
+abbrev pub marked_restored : List ℕ → Owners → List Entry → List ℕ → Bool → Bool → MarkedBuffer
+marked_restored name owners entries text file modified =
+    record {
+      buffer = record { name = name; owners = owners; entries = entries; text = text; items = []; serial = 0; modified = modified; file = file };
+      marks = [];
+    }
+
 -- a buffer that was created, as the model has it, and no marks
 abbrev pub marked_created : List ℕ → List ℕ → MarkedBuffer
 marked_created name owner = record { buffer = new_buffer name owner; marks = [] }

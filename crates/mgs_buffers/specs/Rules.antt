@@ -1,6 +1,7 @@
 -- What is answered where a user changes the access list or the owners of a buffer: that there is one is judged first, then the rights.
-use Rattle.std.specs.Prelude.{◌≡◌, ◌≢◌, ℕ, ◌<◌, ◌≤◌, Bool, true, false, List, Option, None, Some, Result, Ok, Err, insert, remove, slice_set, length}
-use Rattle.mgs_model.specs.Access.{Directory, is_group_named}
+use Rattle.std.specs.Prelude.{◌≡◌, ◌≢◌, ℕ, ◌<◌, ◌≤◌, Bool, true, false, List, Option, None, Some, Result, Ok, Err}
+use Rattle.std.specs.Prelude.{insert, remove, slice_set, length}
+use Rattle.mgs_model.specs.Access.{Directory, is_among, is_group_named}
 use Rattle.mgs_model.specs.declared.entry.Decision.{Decision}
 use Rattle.mgs_model.specs.declared.entry.Decision.TheVariants.{Granted}
 use Rattle.mgs_model.specs.declared.entry.Entry.{Entry}
@@ -48,7 +49,6 @@ ListAnswers (Insert e) answer there due n len = InsertAnswers answer there due n
 ListAnswers Delete answer there due n len = ChangeAnswers answer there due n len
 ListAnswers (Replace e) answer there due n len = ChangeAnswers answer there due n len
 
--- the decision on changing the access list of the buffer of this name, and on giving it to another
 -- the bits of WRITE_ACL and of WRITE_OWNER
 abbrev pub WRITE_ACL : ℕ
 WRITE_ACL = 262144
@@ -56,6 +56,7 @@ WRITE_ACL = 262144
 abbrev pub WRITE_OWNER : ℕ
 WRITE_OWNER = 524288
 
+-- the decision on changing the access list of the buffer of this name, and on giving it to another
 abbrev pub list_decision : List MarkedBuffer → Directory → List ℕ → List ℕ → Decision
 list_decision ks directory user name = mask_decision directory (marked_at name ks).buffer user WRITE_ACL
 
@@ -89,3 +90,12 @@ GroupAnswers (Err owners.NoBuffer) there due known = there ≡ false
 GroupAnswers (Err (owners.Denied decision)) there due known = (there ≡ true) × (due ≡ decision) × (decision ≢ Granted)
 GroupAnswers (Err owners.NoSuchUser) there due known = ⊥
 GroupAnswers (Err owners.NoSuchGroup) there due known = (there ≡ true) × (due ≡ Granted) × (known ≡ false)
+
+-- a user gives the buffer of this name to a user, or to a group or none
+abbrev pub OwnerAnswer : List MarkedBuffer → Directory → List ℕ → List ℕ → List ℕ → Result (Unit {0}) OwnersFault → Type 0
+OwnerAnswer ks directory user name owner answer =
+    OwnerAnswers answer (has_buffer name ks) (owners_decision ks directory user name) (is_among owner directory.users)
+
+abbrev pub GroupAnswer : List MarkedBuffer → Directory → List ℕ → List ℕ → Option (List ℕ) → Result (Unit {0}) OwnersFault → Type 0
+GroupAnswer ks directory user name group answer =
+    GroupAnswers answer (has_buffer name ks) (owners_decision ks directory user name) (is_group_known directory group)

@@ -1,10 +1,11 @@
 // What is kept of one buffer beside its name.
-ghost use Rattle.std.specs.Prelude.{◌≡◌, ◌≢◌, ℕ, ◌-◌, ◌<◌, ◌≤◌, ◌^◌, ◌∷◌, [], List, Some, None, length, IsSome, OnOk, OnErr, IfOk};
+ghost use Rattle.std.specs.Prelude.{◌≡◌, ◌≢◌, ℕ, ◌-◌, ◌<◌, ◌≤◌, ◌^◌, ◌∷◌, [], List, Some, None, length};
+ghost use Rattle.std.specs.Prelude.{IsSome, OnOk, OnErr, IfOk};
 ghost use Rattle.mgs_model.specs.Access.{decider, decision, decision_by};
 ghost use Rattle.mgs_model.specs.Apply.{first_entries};
 ghost use Rattle.mgs_model.specs.World.{may};
 ghost use Rattle.mgs_marks.specs.Marks.{mark_in};
-ghost use Rattle.mgs_buffers.specs.MarkedBuffer.{marked_new, marked_edited, marked_placed};
+ghost use Rattle.mgs_buffers.specs.MarkedBuffer.{marked_restored, marked_edited, marked_placed};
 ghost use Rattle.mgs_buffers.specs.Contents.{Changed, ChangedMarks, marked_of};
 ghost use Rattle.mgs_buffers.specs.Judging.{StaysRight};
 ghost use Rattle.mgs_buffers.specs.Permitting.{PermitAnswers};
@@ -12,6 +13,7 @@ ghost use Rattle.mgs_buffers.specs.Placing.{CanStand, marked_placed_if};
 ghost use Rattle.mgs_cache.specs.Kept.{AreRight};
 
 use crate::judging::judged;
+use crate::searched_text::SearchedText;
 use mgs_acl::{Entry, EntryType, Who};
 use mgs_cache::Judge;
 use mgs_marks::Marked;
@@ -29,7 +31,7 @@ pub struct Buffer<T: Marked + Drop> {
     /// Who has which right on the buffer.
     pub list: mgs_acl::List,
     /// The text, with its marks.
-    pub text: T,
+    pub text: SearchedText<T>,
     /// The latest edits of the text.
     pub record: Record,
     /// Whether the buffer was edited since it was made or last written to its file.
@@ -64,25 +66,26 @@ pub(crate) fn owners_list() -> mgs_acl::List
     list
 }
 
-/// A buffer with a text that was not edited: it has no marks, no edit is recorded, and its serial is 0. It takes its
-/// memory from `alloc`. `Short`: memory was refused.
+/// A buffer with a text of which no edit is recorded: it has no marks, and its serial is 0. It takes its memory from `alloc`.
+/// `Short`: memory was refused.
 pub fn new_buffer<T: Marked + Drop>(
     alloc: Global,
     owners: Owners,
     list: mgs_acl::List,
     text: &[char],
     has_file: bool,
+    modified: bool,
 ) -> Result<Buffer<T>, Short>
-    ensures { IfOk result (λ s. (name : List ℕ) → marked_of T.text T.marks name s ≡ marked_new name owners list text.now has_file) }
+    ensures { IfOk result (λ s. (name : List ℕ) → marked_of T.text T.marks name s ≡ marked_restored name owners list text.now has_file modified) }
 {
-    let text = T::of(alloc, text)?;
+    let text = SearchedText::of(alloc, text)?;
     let record = Record::new(alloc)?;
     Ok(Buffer {
         owners,
         list,
         text,
         record,
-        modified: false,
+        modified,
         has_file,
     })
 }
@@ -226,7 +229,7 @@ impl<T: Marked + Drop> Buffer<T> {
         if a == b && put.is_empty() {
             return Ok(());
         }
-        let removed = self.text.copy(a, b)?;
+        let removed = self.text.text().copy(a, b)?;
         self.text.replace(a, b, put)?;
         let _ = self.record.push(Edit {
             at: a,

@@ -1,5 +1,6 @@
 // All buffers, by name and in order of creation.
-ghost use Rattle.std.specs.Prelude.{◌≡◌, ◌+◌, ◌-◌, ◌<◌, ◌≤◌, ◌∷◌, [], ◌++◌, List, map, find, length, OnOk, OnErr, IfOk, IfSome, None, false, count_by, is_some, slice_get};
+ghost use Rattle.std.specs.Prelude.{◌≡◌, ◌+◌, ◌-◌, ◌<◌, ◌≤◌, ◌∷◌, [], ◌++◌, List, map, find, length, None, false, count_by, is_some, slice_get};
+ghost use Rattle.std.specs.Prelude.{OnOk, OnErr, IfOk, IfSome};
 ghost use Rattle.std.specs.Option.{option_copied, option_map};
 ghost use Rattle.mgs_undo.specs.History.{has_serial};
 ghost use Rattle.mgs_undo.specs.Numbered.{item_of};
@@ -10,7 +11,7 @@ ghost use Rattle.mgs_model.specs.Apply.{change_first};
 ghost use Rattle.mgs_model.specs.Completion.{completion};
 ghost use Rattle.mgs_mini.specs.Narrowing.{granted_names};
 ghost use Rattle.mgs_model.specs.World.{may};
-ghost use Rattle.mgs_buffers.specs.Adding.{add_fault, AddAnswers, NamesToAdd, marked_added};
+ghost use Rattle.mgs_buffers.specs.Adding.{add_fault, AddAnswers, NamesToAdd, kept_buffer, marked_added};
 ghost use Rattle.mgs_buffers.specs.Completed.{IsWithinName};
 ghost use Rattle.mgs_buffers.specs.Contents.{marked_of};
 ghost use Rattle.mgs_buffers.specs.Judging.{AreJudged, IsRuled, rules_kept};
@@ -18,7 +19,7 @@ ghost use Rattle.mgs_buffers.specs.Permitting.{PermitAnswers, mask_decision, rig
 ghost use Rattle.mgs_buffers.specs.Placing.{CanStand, placed_if};
 ghost use Rattle.mgs_buffers.specs.Told.{attributes_read, attributes_found};
 ghost use Rattle.mgs_buffers.specs.MarkedBuffer.{AreUnmarked, AreWithinLimit, HasBuffer, IsMark, MarkAdded, MarkDropped};
-ghost use Rattle.mgs_buffers.specs.MarkedBuffer.{has_buffer, mark_at, marked_at, marked_created, marked_named, marked_new, marked_placed};
+ghost use Rattle.mgs_buffers.specs.MarkedBuffer.{has_buffer, mark_at, marked_at, marked_created, marked_named, marked_placed, marked_restored};
 
 use crate::buffer::{Buffer, new_buffer, owners_list};
 use crate::completing::completion;
@@ -148,14 +149,14 @@ impl<T: Marked + Drop> Buffers<T> {
             Ok(names) => names,
             Err(fault) => return Err(fault),
         };
-        match self.add_last(name, owners, list, text, has_file) {
+        match self.add_last(name, owners, list, text, has_file, false) {
             Ok(()) => Ok(()),
             Err(Short) => Err(AddFault::Short),
         }
     }
 
-    /// Adds a buffer as the last, as `add` does, whose owners and access list were kept. That the owner is a user of the directory is for
-    /// the caller to see.
+    /// Adds a buffer as the last, as `add` does, whose owners and access list were kept, and whether it was modified since it was last
+    /// written to its file. That the owner is a user of the directory is for the caller to see.
     ///
     /// The faults, checked in this order: `Twice`, `Full`, `Long` and `Short`, as of `add`. They change nothing.
     pub fn restore(
@@ -163,8 +164,9 @@ impl<T: Marked + Drop> Buffers<T> {
         rights: &Rights<'_>,
         text: &[char],
         has_file: bool,
+        modified: bool,
     ) -> Result<(), AddFault>
-        ensures ok { OnOk result (self.new ≡ self.old ++ marked_new rights.now.name rights.now.owners rights.now.entries text.now has_file ∷ []) }
+        ensures ok { OnOk result (self.new ≡ self.old ++ kept_buffer rights.now text.now has_file modified ∷ []) }
         ensures err { OnErr result (self.new ≡ self.old) }
         ensures unmarked { AreUnmarked self.old → AreUnmarked self.new }
     {
@@ -183,6 +185,7 @@ impl<T: Marked + Drop> Buffers<T> {
             rights.list.copy(),
             text,
             has_file,
+            modified,
         ) {
             Ok(()) => Ok(()),
             Err(Short) => Err(AddFault::Short),
@@ -198,7 +201,7 @@ impl<T: Marked + Drop> Buffers<T> {
         ensures err { OnErr result (self.new ≡ self.old) }
     {
         let owners = Owners { owner, group: None };
-        self.add_last(name, owners, owners_list(), &[], false)
+        self.add_last(name, owners, owners_list(), &[], false, false)
     }
 
     // Adds a buffer as the last. `Short`: memory was refused, and all is as it was.
@@ -209,13 +212,14 @@ impl<T: Marked + Drop> Buffers<T> {
         list: mgs_acl::List,
         text: &[char],
         has_file: bool,
+        modified: bool,
     ) -> Result<(), Short>
         requires free { has_buffer name self.old ≡ false }
         requires room { length text.now ≤ 1048576 }
-        ensures ok { OnOk result (self.new ≡ self.old ++ marked_new name owners list text.now has_file ∷ []) }
+        ensures ok { OnOk result (self.new ≡ self.old ++ marked_restored name owners list text.now has_file modified ∷ []) }
         ensures err { OnErr result (self.new ≡ self.old) }
     {
-        let buffer = new_buffer(self.alloc, owners, list, text, has_file)?;
+        let buffer = new_buffer(self.alloc, owners, list, text, has_file, modified)?;
         put_last(&mut self.all, name, buffer)
     }
 
@@ -435,7 +439,7 @@ impl<T: Marked + Drop> Buffers<T> {
     {
         // Tells the prover that each text is within the limit.
         let _count = self.len();
-        self.buffer(name).text.len()
+        self.buffer(name).text.text().len()
     }
 
     /// The serial of the buffer's last edit: 0 where there was none.
@@ -477,7 +481,7 @@ impl<T: Marked + Drop> Buffers<T> {
         ensures value { result ≡ mark_at name.now self.now id }
         ensures within { result ≤ length (marked_at name.now self.now).buffer.text }
     {
-        self.buffer(name).text.pos(id)
+        self.buffer(name).text.text().pos(id)
     }
 
     /// Puts a mark of the buffer at a position.
@@ -537,6 +541,6 @@ impl<T: Marked + Drop> Buffers<T> {
         requires { HasBuffer name.now self.now }
         ensures { result ≡ count_by is_some (marked_at name.now self.now).marks }
     {
-        self.buffer(name).text.mark_count()
+        self.buffer(name).text.text().mark_count()
     }
 }

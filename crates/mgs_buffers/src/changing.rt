@@ -7,7 +7,8 @@ ghost use Rattle.mgs_model.specs.Apply.{change_first};
 ghost use Rattle.mgs_model.specs.declared.owners.NewOwner.TheVariants.{ToUser, ToGroup};
 ghost use Rattle.mgs_buffers.specs.Changing.{marked_updated, update_mask, writes};
 ghost use Rattle.mgs_buffers.specs.Contents.{Changed};
-ghost use Rattle.mgs_buffers.specs.MarkedBuffer.{has_buffer, HasBuffer, marked_at, marked_edited, marked_named, marked_list_set, marked_owners_set, marked_unmodified, without_marked};
+ghost use Rattle.mgs_buffers.specs.MarkedBuffer.{has_buffer, HasBuffer, marked_at, marked_edited, marked_named, without_marked};
+ghost use Rattle.mgs_buffers.specs.MarkedBuffer.{marked_list_set, marked_owners_set, marked_unmodified};
 ghost use Rattle.mgs_buffers.specs.Permitting.{EditAnswers, PermitAnswers, mask_decision};
 
 use crate::buffer::{Buffer, read_and_write};

@@ -141,7 +141,7 @@ impl<'a, T: Marked + Drop> Found<'a, T> {
     {
         // Tells the prover that each text is within the limit.
         let _count = self.buffers.len();
-        &self.buffer().text
+        self.buffer().text.text()
     }
 
     /// The number of characters of the buffer's text.
@@ -158,7 +158,7 @@ impl<'a, T: Marked + Drop> Found<'a, T> {
         ensures value { result ≡ mark_at self.now.name self.now.all id }
         ensures within { result ≤ length (marked_at self.now.name self.now.all).buffer.text }
     {
-        self.buffer().text.pos(id)
+        self.buffer().text.text().pos(id)
     }
 
     /// The serial of the buffer's last edit: 0 where there was none.

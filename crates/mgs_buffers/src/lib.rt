@@ -12,6 +12,8 @@ mod naming;
 mod rights;
 mod rules;
 mod saving;
+mod searched_text;
+mod searching;
 mod telling;
 
 pub use buffers::Buffers;

@@ -1,13 +1,13 @@
 // Changes of a buffer's access list entry by entry, and of its owner and owning group by name: each by a user, whose rights are
 // judged first, and each with its own faults.
 ghost use Rattle.std.specs.Prelude.{◌≡◌, true, OnOk, OnErr, Ok, insert, length, remove, slice_set};
-ghost use Rattle.mgs_model.specs.Access.{is_among};
 ghost use Rattle.mgs_model.specs.Apply.{change_first};
 ghost use Rattle.mgs_model.specs.declared.entry.Decision.TheVariants.{Granted};
 ghost use Rattle.mgs_model.specs.declared.owners.NewOwner.TheVariants.{ToUser, ToGroup};
-ghost use Rattle.mgs_buffers.specs.MarkedBuffer.{has_buffer, marked_named, marked_owners_set};
+ghost use Rattle.mgs_buffers.specs.MarkedBuffer.{marked_named, marked_owners_set};
 ghost use Rattle.mgs_buffers.specs.declared.rules.ListChange.TheVariants.{Insert, Delete, Replace};
-ghost use Rattle.mgs_buffers.specs.Rules.{ChangeAnswers, EntriesAnswer, GroupAnswers, InsertAnswers, ListAnswers, OwnerAnswers, entries_changed, fault_of, is_group_known, list_changed, owners_decision};
+ghost use Rattle.mgs_buffers.specs.Rules.{ChangeAnswers, EntriesAnswer, GroupAnswer, InsertAnswers, ListAnswers, OwnerAnswer};
+ghost use Rattle.mgs_buffers.specs.Rules.{entries_changed, fault_of, is_group_known, list_changed};
 
 use crate::buffers::Buffers;
 use crate::fault::{EntriesFault, OwnersFault};
@@ -188,7 +188,7 @@ impl<T: Marked + Drop> Buffers<T> {
         name: &Name,
         owner: Name,
     ) -> Result<(), OwnersFault>
-        ensures answer { OwnerAnswers result (has_buffer name.now self.old) (owners_decision self.old directory.now user.now name.now) (is_among owner directory.now.users) }
+        ensures answer { OwnerAnswer self.old directory.now user.now name.now owner result }
         ensures ok { OnOk result (self.new ≡ change_first (marked_named name.now) (marked_owners_set (ToUser owner)) self.old) }
         ensures err { OnErr result (self.new ≡ self.old) }
     {
@@ -218,7 +218,7 @@ impl<T: Marked + Drop> Buffers<T> {
         name: &Name,
         group: Option<Name>,
     ) -> Result<(), OwnersFault>
-        ensures answer { GroupAnswers result (has_buffer name.now self.old) (owners_decision self.old directory.now user.now name.now) (is_group_known directory.now group) }
+        ensures answer { GroupAnswer self.old directory.now user.now name.now group result }
         ensures ok { OnOk result (self.new ≡ change_first (marked_named name.now) (marked_owners_set (ToGroup group)) self.old) }
         ensures err { OnErr result (self.new ≡ self.old) }
     {

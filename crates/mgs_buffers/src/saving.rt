@@ -11,6 +11,7 @@ ghost use Rattle.mgs_buffers.specs.declared.fault.SaveFault.TheVariants as fault
 use crate::buffer::{Buffer, read_and_write};
 use crate::buffers::Buffers;
 use crate::fault::SaveFault;
+use crate::searched_text::SearchedText;
 use mgs_marks::Marked;
 use mgs_model::Name;
 use mgs_policy::Directory;
@@ -39,14 +40,18 @@ fn is_stored<S: Store>(store: &mut S, name: &Name, text: &[char]) -> bool
 }
 
 // Hands a text to the store as it lies, and tells whether it was saved.
-fn ask_store<T: Text, S: Store>(text: &mut T, name: &Name, store: &mut S) -> bool
+fn ask_store<T: Marked + Drop, S: Store>(
+    text: &mut SearchedText<T>,
+    name: &Name,
+    store: &mut S,
+) -> bool
     ensures saved { S.accepted store.new ≡ told_more (saves_if result name.now (T.text text.old)) (S.accepted store.old) }
     ensures fault { result ≡ false → IsCounted (S.failed store.old) (S.failed store.new) }
     ensures text { T.text text.new ≡ T.text text.old }
     ensures marks { T.marks text.new ≡ T.marks text.old }
 {
     text.gather();
-    is_stored(store, name, text.whole())
+    is_stored(store, name, text.text().whole())
 }
 
 impl<T: Marked + Drop> Buffer<T> {

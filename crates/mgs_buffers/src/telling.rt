@@ -78,7 +78,7 @@ pub(crate) fn told<T: Marked + Drop>(
         Some(Attributes {
             name: *name,
             modified: buffer.modified,
-            size: buffer.text.len(),
+            size: buffer.text.text().len(),
             owners: buffer.owners,
         })
     } else {

@@ -1,3 +1,4 @@
 mod Matching
 mod Edited
 mod Borders
+pub mod Failures

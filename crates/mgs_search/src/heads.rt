@@ -1,7 +1,7 @@
 // Reading a text once for a pattern: no character of it is looked at again.
-ghost use Rattle.std.specs.Prelude.{◌≡◌, ℕ, ◌+◌, ◌-◌, ◌<◌, ◌≤◌, List, min, length, get_or, true};
+ghost use Rattle.std.specs.Prelude.{◌≡◌, ℕ, ◌+◌, ◌-◌, ◌<◌, ◌≤◌, ◌^◌, ◌++◌, ◌∷◌, [], List, min, length, get_or, true, false};
 ghost use Rattle.mgs_model.specs.Searching.{first_match, last_match_before};
-ghost use Rattle.mgs_search.specs.Borders.{IsBorders, IsFirst, IsHead, IsOther, IsReadBack, IsReadOn, IsStep, IsTail, IsWalk};
+ghost use Rattle.mgs_search.specs.Borders.{char_at, IsBorders, IsFirst, IsHead, IsOther, IsRead, IsReadBack, IsReadOn, IsStep, IsTail, IsWalk};
 
 use arrayvec::ArrayVec;
 use mgs_text::Text;
@@ -33,6 +33,22 @@ pub(crate) fn tail_of(pattern: &[char]) -> ArrayVec<char, 120>
     tail
 }
 
+// Whether none of a head's characters stands.
+fn none_stands(k: usize) -> bool
+    ensures none { result ≡ true → k ≡ 0 }
+    ensures some { result ≡ false → 1 ≤ k }
+{
+    k == 0
+}
+
+// How many of the k first characters of a head that stood are left when the next one differs.
+fn left_of(borders: &[usize], k: usize) -> usize
+    requires { k < length borders.now }
+    ensures { (head : List ℕ) → IsBorders head borders.now → 1 ≤ k → IsRead head (char_at head) 1 k result }
+{
+    borders[k]
+}
+
 // How many of a head's first characters stand when c has come behind q of them.
 fn step(head: &[char], borders: &[usize], q: usize, c: char) -> usize
     requires borders { IsBorders head.now borders.now }
@@ -43,10 +59,10 @@ fn step(head: &[char], borders: &[usize], q: usize, c: char) -> usize
 {
     let mut k = q;
     while head[k] != c {
-        if k == 0 {
+        if none_stands(k) {
             return 0;
         }
-        k = borders[k];
+        k = left_of(borders, k);
     }
     k + 1
 }
@@ -104,6 +120,14 @@ fn passed_back<T: Text>(text: &T, end: usize, first: First) -> usize
     end - left
 }
 
+// One more border: of as many characters as have one.
+fn add_border(borders: &mut ArrayVec<usize, 120>, kept: usize)
+    requires { length borders.old.items < 120 }
+    ensures { borders.new.items ≡ borders.old.items ++ kept ∷ [] }
+{
+    borders.push(kept);
+}
+
 /// The borders of a head.
 pub(crate) fn borders_of(head: &[char]) -> ArrayVec<usize, 120>
     requires some { 0 < length head.now }
@@ -115,7 +139,7 @@ pub(crate) fn borders_of(head: &[char]) -> ArrayVec<usize, 120>
     borders.push(0);
     let mut kept = 0;
     for n in 1..head.len() {
-        borders.push(kept);
+        add_border(&mut borders, kept);
         kept = step(head, borders.as_slice(), kept, head[n]);
     }
     borders
@@ -207,6 +231,24 @@ fn next_read_back<T: Text>(text: &T, tail: &[char], top: usize, i: usize, stands
     i + passed_back(text, top - i, first_of(tail))
 }
 
+// Where a pattern ends at most that begins before `end`.
+fn reach<T: Text>(text: &T, end: usize, pattern: &[char]) -> usize
+    requires some { 0 < end }
+    requires end { end ≤ length (T.text text.now) }
+    ensures value { result ≡ min (length (T.text text.now)) (end - 1 + length pattern.now) }
+    ensures fits { result < 2 ^ 63 }
+{
+    text.len().min(end - 1 + pattern.len())
+}
+
+// The place behind the one where so many characters begin that end at `behind`, but `end` at most.
+fn begun_behind(end: usize, behind: usize, count: usize) -> usize
+    requires { behind < 2 ^ 63 }
+    ensures { result ≡ min end (behind + 1 - count) }
+{
+    end.min((behind + 1).saturating_sub(count))
+}
+
 /// The place behind the last one before `end` where a pattern may stand, since its tail does, or 0. The pattern stands at no
 /// place between.
 pub(crate) fn last_tailed<T: Text>(
@@ -227,7 +269,7 @@ pub(crate) fn last_tailed<T: Text>(
     if end == 0 {
         return 0;
     }
-    let top = text.len().min(end - 1 + pattern.len());
+    let top = reach(text, end, pattern);
     let mut stands = 0;
     let mut i = 0;
     while i < top {
@@ -244,7 +286,7 @@ pub(crate) fn last_tailed<T: Text>(
         i = next + 1;
         if stands == borders.len() {
             let behind = top - (i - stands);
-            return end.min((behind + 1).saturating_sub(pattern.len()));
+            return begun_behind(end, behind, pattern.len());
         }
     }
     0

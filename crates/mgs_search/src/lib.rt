@@ -1,8 +1,9 @@
 //! Searches in a text: a pattern matches whatever the case of its ASCII letters.
 #![tactic(auto)]
 
-ghost use Rattle.std.specs.Prelude.{◌≡◌, ◌+◌, ◌≤◌, length, IfSome, true};
+ghost use Rattle.std.specs.Prelude.{◌≡◌, ℕ, ◌+◌, ◌<◌, ◌≤◌, List, length, IfSome, true};
 ghost use Rattle.std.specs.Char.{eq_ignore_ascii_case};
+ghost use Rattle.mgs_search.specs.Borders.{IsBorders, IsHead};
 ghost use Rattle.mgs_model.specs.Searching.{matches_at, first_match, last_match, last_match_before, match_from, match_past};
 
 mod heads;
@@ -41,6 +42,20 @@ pub fn matches_at<T: Text>(text: &T, p: usize, pattern: &[char]) -> bool
     true
 }
 
+// The first place behind `p` where a head stands, or the end. No pattern that begins so stands at a place between.
+fn next_behind<T: Text>(text: &T, p: usize, head: &[char], borders: &[usize]) -> usize
+    requires inside { p < length (T.text text.now) }
+    requires borders { IsBorders head.now borders.now }
+    requires head { length borders.now ≤ length head.now }
+    requires some { 0 < length borders.now }
+    ensures value { (chars : List ℕ) → IsHead chars head.now → first_match chars (T.text text.now) result ≡ first_match chars (T.text text.now) (p + 1) }
+    ensures order { p < result }
+    ensures within { result ≤ length (T.text text.now) }
+{
+    let _len = text.len();
+    next_headed(text, p + 1, head, borders)
+}
+
 /// The first position from `from` on where a pattern stands.
 pub fn find_forward<T: Text>(text: &T, from: usize, pattern: &[char]) -> Option<usize>
     requires { from ≤ length (T.text text.now) }
@@ -57,7 +72,7 @@ pub fn find_forward<T: Text>(text: &T, from: usize, pattern: &[char]) -> Option<
         if matches_at(text, p, pattern) {
             return Some(p);
         }
-        p = next_headed(text, p + 1, head.as_slice(), borders.as_slice());
+        p = next_behind(text, p, head.as_slice(), borders.as_slice());
     }
     None
 }

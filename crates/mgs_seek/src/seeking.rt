@@ -78,17 +78,18 @@ pub fn start_search<T: Marked + Drop>(
 
 /// A search does a step in the text of its buffer, from the point of a window that shows it, and tells where the point goes.
 fn step_in<T: Marked + Drop>(
-    buffers: &Buffers<T>,
+    buffers: &mut Buffers<T>,
     window_marks: &WindowMarks,
     search: &mut Seeker,
     step: SearchStep,
 ) -> usize
-    requires { AreMarks buffers.now window_marks.now }
-    ensures search { search.new ≡ step_search buffers.now window_marks.now search.old step }
-    ensures value { result ≡ (step_ends buffers.now window_marks.now search.old step).point }
-    ensures plan { IsStep buffers.now window_marks.now search.old step }
-    ensures point { result ≤ length (marked_at window_marks.now.name buffers.now).buffer.text }
-    ensures anchor { search.new.anchor ≤ length (marked_at window_marks.now.name buffers.now).buffer.text }
+    requires { AreMarks buffers.old window_marks.now }
+    ensures buffers { buffers.new ≡ buffers.old }
+    ensures search { search.new ≡ step_search buffers.old window_marks.now search.old step }
+    ensures value { result ≡ (step_ends buffers.old window_marks.now search.old step).point }
+    ensures plan { IsStep buffers.old window_marks.now search.old step }
+    ensures point { result ≤ length (marked_at window_marks.now.name buffers.old).buffer.text }
+    ensures anchor { search.new.anchor ≤ length (marked_at window_marks.now.name buffers.old).buffer.text }
 {
     let name = &window_marks.name;
     let size = buffers.text_len(name);
@@ -97,7 +98,7 @@ fn step_in<T: Marked + Drop>(
         anchor: search.anchor.min(size),
         point: buffers.pos(name, window_marks.point),
     };
-    let after = search.sought.look(buffers.text(name), step, places);
+    let after = buffers.look(name, &mut search.sought, step, places);
     search.anchor = after.anchor;
     after.point
 }

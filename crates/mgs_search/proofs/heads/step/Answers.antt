@@ -1,17 +1,17 @@
-use Rattle.std.proofs.Common.{◌≡◌, ◌≢◌, ◌<◌, length, slice_index_or, arith}
+use Rattle.std.proofs.Common.{◌≡◌, ◌≢◌, ◌<◌, length, arith}
 use Rattle.mgs_search.proofs.Borders.{near_read, near_none, near_grown, near_shorter, same_there, other_there}
 use Rattle.mgs_search.proofs.heads.step.Goals as goal
 
 pub loop-k-init : goal.loop-k-init
 loop-k-init c = record { within = omega arith; near = λ text a i read here. near_read c.args.head.now text a i c.args.q read }
 
-pub returns-then-k-eq0-clause-value : goal.returns-then-k-eq0-clause-value
-returns-then-k-eq0-clause-value c = λ text a i read here.
+pub returns-then-none_stands-clause-value : goal.returns-then-none_stands-clause-value
+returns-then-none_stands-clause-value c = λ text a i read here.
     let ps = c.args.head.now in
     let k = c.loop-k.k in
     let inside : k < length ps = omega (arith, c.loop-k.invariant.within, c.requires.head, c.requires.within) in
     let other : c.index-head-k.result ≢ c.args.c = c.loop-k-test.true in
-    near_none ps text a i k (omega arith) (omega arith) (c.loop-k.invariant.near text a i read here) (other_there ps text i k c.index-head-k.result c.args.c inside c.index-head-k.is here other)
+    near_none ps text a i k (c.none_stands.ensures.none c.if-none_stands.true) (omega arith) (c.loop-k.invariant.near text a i read here) (other_there ps text i k c.index-head-k.result c.args.c inside c.index-head-k.is here other)
 
 pub loop-k-preserved : goal.loop-k-preserved
 loop-k-preserved c =
@@ -19,11 +19,11 @@ loop-k-preserved c =
     let k = c.loop-k.k in
     let inside : k < length ps = omega (arith, c.loop-k.invariant.within, c.requires.head, c.requires.within) in
     let other : c.index-head-k.result ≢ c.args.c = c.loop-k-test.true in
-    let border = c.requires.borders k (omega arith) (omega (arith, c.loop-k.invariant.within, c.requires.within)) in
+    let border = c.left_of-k.ensures ps c.requires.borders (c.none_stands.ensures.some c.if-none_stands.false) in
     record {
       within = omega (arith, border.within, c.loop-k.invariant.within);
       near = λ text a i read here.
-          near_shorter ps text a i k (slice_index_or c.args.borders.now k 0) inside (c.loop-k.invariant.near text a i read here)
+          near_shorter ps text a i k c.left_of-k.result inside (c.loop-k.invariant.near text a i read here)
           (other_there ps text i k c.index-head-k.result c.args.c inside c.index-head-k.is here other) border;
     }
 
