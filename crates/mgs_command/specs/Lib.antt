@@ -1,3 +1,2 @@
-pub mod Works
 pub mod Ports
 pub mod Streams

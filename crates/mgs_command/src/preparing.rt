@@ -1,6 +1,5 @@
 // What is done before the program does its work.
-ghost use Rattle.std.specs.Prelude.{◌≡◌, ◌≢◌, IfOk, IfErr};
-ghost use Rattle.mgs_command.specs.Works.{IsReady};
+ghost use Rattle.std.specs.Prelude.{◌≡◌, ◌≢◌, IfErr};
 
 use crate::arguments::{Task, read_task};
 use crate::streams::{SystemNull, open_closed_streams};
@@ -51,8 +50,7 @@ fn prepare_serving<R: fs::Files<File = File> + AllocGlobal + Eprint>(
     path: &str,
     port: u16,
 ) -> Result<Work, u8>
-    ensures ok { IfOk result IsReady }
-    ensures err { IfErr result (λ status. status ≢ 0) }
+    ensures { IfErr result (λ status. status ≢ 0) }
 {
     if open_closed_streams(&mut SystemNull { rt }).is_err() {
         return refuse(rt, "listening failed", NO_SOCKETS);
@@ -72,8 +70,7 @@ fn prepare_serving<R: fs::Files<File = File> + AllocGlobal + Eprint>(
 /// Where that is refused the cause is told on standard error, and `Err` has the program's status. Before a configuration is read, the
 /// null device is opened as each standard stream that is closed; where it cannot be, nothing is served.
 pub fn prepare<R: Env + fs::Files<File = File> + AllocGlobal + Eprint>(rt: &R) -> Result<Work, u8>
-    ensures ok { IfOk result IsReady }
-    ensures err { IfErr result (λ status. status ≢ 0) }
+    ensures { IfErr result (λ status. status ≢ 0) }
 {
     match read_task(rt) {
         Ok(Task::Replay) => Ok(Work::Replay),

@@ -4,3 +4,4 @@ pub mod Buffers
 pub mod Document
 pub mod Files
 pub mod World
+pub mod Configured

@@ -21,6 +21,7 @@ use mgs_gap::GapText;
 use mgs_model::Tickets;
 use mgs_policy::Directory;
 use std::alloc::{AllocError, Global};
+use std::marker::Model;
 use toml::Value;
 
 /// A buffer that has a file.
@@ -32,7 +33,7 @@ pub struct BufferFile {
     pub path: String,
 }
 
-/// What a server starts with.
+/// What a server starts with. None of its buffers has a mark in use.
 #[derive(Drop)]
 pub struct Config {
     /// The users and the groups.
@@ -43,6 +44,17 @@ pub struct Config {
     pub buffers: Buffers<GapText>,
     /// The buffers that have files.
     pub files: Vec<BufferFile>,
+}
+
+impl Model for Config {
+    ghost use Rattle.mgs_buffers.specs.MarkedBuffer.{AreUnmarked};
+    ghost use Rattle.mgs_config.specs.Configured as given;
+
+    ghost Value = { given.Config };
+
+    ghost view = { λ c. record { directory = c.directory; tickets = c.tickets; buffers = c.buffers; files = c.files } };
+
+    ghost invariant = { λ c. AreUnmarked c.buffers };
 }
 
 // A fault of one of these tables. Out of memory is one of the document, whichever table was read.

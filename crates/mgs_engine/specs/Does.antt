@@ -6,7 +6,7 @@ use Rattle.mgs_model.specs.Events.{step}
 use Rattle.mgs_model.specs.World.{Session, World, find_session}
 use Rattle.mgs_model.specs.Draw.{screen}
 use Rattle.mgs_paint.specs.Painting.{Paints}
-use Rattle.mgs_wire.specs.Calls.{Call, Open, Byte, Close, Took}
+use Rattle.mgs_wire.specs.Calls.{Call, Open, Refuse, Byte, Close, Took}
 use Rattle.mgs_engine.specs.declared.ending.Cause.TheVariants.{Closed}
 use Rattle.mgs_engine.specs.Handled.{Admits, Handles}
 use Rattle.mgs_engine.specs.Painted.{Painted}
@@ -28,6 +28,7 @@ taken_by id n s = record s { queues = change_first (is_queue_of id) (after_takin
 -- a call leads from what is served to what is served then, and its bytes draw the screens
 abbrev pub Does : Serving → Call → Serving → Type 0
 Does old (Open user rows cols answer) new = Admits old new user rows cols answer × OnOk answer (Painted old new) × IfOk answer (IsPaintedWhole new)
+Does old (Refuse name cause) new = new ≡ old
 Does old (Byte id byte answer) new = Handles old new id byte answer × Painted old new
 Does old (Close id) new = (new ≡ ended_by Closed id old) × Painted old new × (new.world ≡ step old.world (events.Close id))
 Does old (Took id n) new = new ≡ taken_by id n old

@@ -1,6 +1,7 @@
 pub mod Serving
 pub mod Painted
 pub mod Served
+pub mod Running
 pub mod Queues
 pub mod Screens
 pub mod Slow

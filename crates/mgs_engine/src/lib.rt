@@ -14,6 +14,7 @@ mod place;
 mod queue;
 mod same;
 mod screen;
+mod served;
 mod sessions;
 mod take;
 mod tape;

@@ -3,7 +3,7 @@ use crate::engine::Engine;
 use mgs_marks::Marked;
 use mgs_model::{Keyed, OpenFault, SessionId};
 use mgs_store::Store;
-use mgs_wire::Sessions;
+use mgs_wire::{Refusal, Sessions};
 
 impl<T: Marked + Drop, S: Store + Drop> Sessions for Engine<T, S> {
     ghost use Rattle.mgs_model.specs.Events.{is_open};
@@ -21,6 +21,9 @@ impl<T: Marked + Drop, S: Store + Drop> Sessions for Engine<T, S> {
     fn open(&mut self, user: &str, rows: usize, cols: usize) -> Result<SessionId, OpenFault> {
         Engine::open(self, user, rows, cols)
     }
+
+    // No session was asked for.
+    fn refused(&mut self, _name: &[u8], _cause: Refusal) {}
 
     fn byte(&mut self, id: SessionId, byte: u8) -> Keyed {
         Engine::byte(self, id, byte)

@@ -4,7 +4,7 @@ use Rattle.mgs_model.specs.Events.{Saved}
 use Rattle.mgs_store.specs.Stores.{store_told}
 use Rattle.mgs_command.specs.declared.preparing.TheConstants.{FAILED, NO_SOCKETS}
 use Rattle.mgs_config.specs.World.{paths_of}
-use Rattle.mgs_config.specs.declared.config.Config.{Config}
+use Rattle.mgs_config.specs.Configured.{Config}
 use Rattle.mgs_written.specs.Steps.{Step}
 use Rattle.mgs_disk.specs.Places.{AreFound}
 use Rattle.mgs_disk.specs.Saving.{places_in, rows_in, steps_of}

@@ -1,6 +1,5 @@
 // What the program does.
 ghost use Rattle.std.specs.Prelude.{◌≡◌};
-ghost use Rattle.mgs_command.specs.Works.{IsReady};
 ghost use Rattle.mgs_program.specs.Endings.{EndsBy, EndsWell};
 
 use crate::script::replay_script;
@@ -21,7 +20,6 @@ fn perform<
     I: Read,
     O: Write,
 >(rt: &R, work: Work, reader: &mut I, writer: &mut O) -> u8
-    requires { IsReady work }
     ensures { EndsBy work (I.remaining reader.old) (I.remaining reader.new) (O.contents writer.old) (O.contents writer.new) result }
 {
     match work {

@@ -1,6 +1,5 @@
 // A configuration that is served.
 ghost use Rattle.std.specs.Prelude.{◌≡◌, ◌≢◌, IfOk};
-ghost use Rattle.mgs_buffers.specs.MarkedBuffer.{AreUnmarked};
 ghost use Rattle.mgs_config.specs.World.{paths_of};
 ghost use Rattle.mgs_disk.specs.Places.{AreFound};
 ghost use Rattle.mgs_disk.specs.Saving.{places_in, rows_in, steps_of};
@@ -56,9 +55,8 @@ fn store_of<D: Finds + Replaces + Drop>(
     FileStore::new(alloc, disk, taken)
 }
 
-/// Listens on a port of the loopback address, on one that the system chooses where it is 0, and serves a configuration, none of whose
-/// buffers has a mark in use, as of one that was read: its users log in by its tickets, its buffers stand as it has them, and each that
-/// has a file is saved there, by this disk. Logins are timed by the clock.
+/// Listens on a port of the loopback address, on one that the system chooses where it is 0, and serves a configuration: its users log in by
+/// its tickets, its buffers stand as it has them, and each that has a file is saved there, by this disk. Logins are timed by the clock.
 ///
 /// # Errors
 ///
@@ -72,7 +70,6 @@ pub fn open_server<R: AllocGlobal + Net, D: Finds + Replaces + Drop, C: Clock + 
     port: u16,
     clock: C,
 ) -> Result<EngineServer<FileStore<D>, C>, StartFault>
-    requires { AreUnmarked config.buffers }
     ensures { IfOk result (ServedOn ⟦<FileStore<D> as Store>⟧.failed ⟦<FileStore<D> as Store>⟧.accepted D.leads D.done disk config port) }
 {
     let alloc = rt.alloc();
@@ -123,9 +120,7 @@ fn open_on_disk<'a, R: AllocGlobal + fs::Files<File = File> + RandomSource + Net
     rt: &'a R,
     config: Config,
     port: u16,
-) -> Result<EngineServer<FileStore<DiskFiles<'a, R>>, &'a R>, StartFault>
-    requires { AreUnmarked config.buffers }
-{
+) -> Result<EngineServer<FileStore<DiskFiles<'a, R>>, &'a R>, StartFault> {
     match DiskFiles::new(rt) {
         Ok(disk) => open_server(rt, disk, config, port, rt),
         Err(_) => Err(no_store()),
@@ -133,14 +128,12 @@ fn open_on_disk<'a, R: AllocGlobal + fs::Files<File = File> + RandomSource + Net
 }
 
 /// Serves a configuration on a port of the loopback address, its texts saved in the files of the system (`open_server`, then `serve`).
-/// None of its buffers has a mark in use, as of one that was read.
 ///
 /// It returns where that cannot be begun, or not gone on with, and tells why on standard error: `FAILED` where memory is refused to the
 /// store of its files, `NO_SOCKETS` where the server does not listen, or where a turn failed.
 pub fn serve_config<
     R: AllocGlobal + fs::Files<File = File> + RandomSource + Net + Clock + Print + Eprint + Wait,
 >(rt: &R, config: Config, port: u16) -> u8
-    requires { AreUnmarked config.buffers }
     ensures { result ≢ 0 }
 {
     match open_on_disk(rt, config, port) {

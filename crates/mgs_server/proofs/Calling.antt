@@ -9,12 +9,11 @@ use Rattle.mgs_wire.specs.declared.pump.PumpedIn.{PumpedIn}
 use Rattle.mgs_wire.specs.declared.pump.PumpedIn.TheVariants.{Took, Idle, Finished, Failed}
 use Rattle.mgs_wire.specs.declared.pump.PumpedOut.{PumpedOut}
 use Rattle.mgs_wire.specs.declared.pump.PumpedOut.TheVariants as out
-use Rattle.mgs_wire.specs.Login.{Opening, line_in, after_line, admission}
-use Rattle.mgs_wire.specs.Calls.{Call, Open, Byte, Close, Typed}
+use Rattle.mgs_wire.specs.Login.{Opening, line_in, after_line, admission, name_in}
+use Rattle.mgs_wire.specs.Calls.{AreMade, Byte, Call, Calls, Close, Open, Refuse, Typed}
 use Rattle.mgs_wire.specs.Calls as wire
-use Rattle.mgs_wire.specs.Connections.{Connection, Logging_in, Serving, Refused, Over, Answered, Enters, Continues, Receives, Ends, Breaks, Writes, is_reading, refused}
+use Rattle.mgs_wire.specs.Connections.{Connection, Logging_in, Serving, Refused, Over, Answered, TurnsAway, Enters, Continues, Receives, Ends, Breaks, Writes, is_reading}
 use Rattle.mgs_wire.specs.Pumps.{PumpsIn, Finishes, Reads, Leaves, WritesFirst}
-use Rattle.mgs_server.specs.Calls.{AreMade, Calls}
 
 module _ {E : Type 0} (does : E → Call → E → Type 0) where
   pub made_then : (old mid new : E) (xs ys : List Call) → AreMade does old xs mid → AreMade does mid ys new → AreMade does old (xs ++ ys) new
@@ -47,17 +46,17 @@ module _ {E : Type 0} (does : E → Call → E → Type 0) where
   calls_answered live (Ok id) rest old new next p = calls_typed live id rest old new p.1
   calls_answered live (Err fault) rest old new next p = none_made old new p.1
 
-  calls_enters : (live : ℕ → E → Bool) (who : Result Opening Refusal) (rest : List ℕ) (old new : E) (next : Connection) → Enters does live who rest old next new → Calls does old new
-  calls_enters live (Ok o) rest old new next p = calls_then old p.1 new (one_made old p.1 (Open o.user o.rows o.cols p.0) p.2) (calls_answered live p.0 rest p.1 new next p.3)
-  calls_enters live (Err r) rest old new next p = none_made old new p.1
+  calls_enters : (live : ℕ → E → Bool) (name : List ℕ) (who : Result Opening Refusal) (rest : List ℕ) (old new : E) (next : Connection) → Enters does live name who rest old next new → Calls does old new
+  calls_enters live name (Ok o) rest old new next p = calls_then old p.1 new (one_made old p.1 (Open o.user o.rows o.cols p.0) p.2) (calls_answered live p.0 rest p.1 new next p.3)
+  calls_enters live name (Err r) rest old new next p = one_made old new (Refuse name r) p.1
 
   calls_continues : (live : ℕ → E → Bool) (tickets : List (List ℕ × List ℕ)) (line : List ℕ) (rest : Option (List ℕ)) (old new : E) (next : Connection) → Continues does live tickets line rest old next new → Calls does old new
   calls_continues live tickets line None old new next p = none_made old new p.1
-  calls_continues live tickets line (Some rest) old new next p = calls_enters live (admission tickets line) rest old new next p
+  calls_continues live tickets line (Some rest) old new next p = calls_enters live (name_in line) (admission tickets line) rest old new next p
 
-  calls_logs_in : (live : ℕ → E → Bool) (tickets : List (List ℕ × List ℕ)) (bytes : List ℕ) (old new : E) (next : Connection) (v : Bool) → MatchBool v (Continues does live tickets (line_in bytes) (after_line bytes) old next new) ((next ≡ refused refusals.Line) × (new ≡ old)) → Calls does old new
+  calls_logs_in : (live : ℕ → E → Bool) (tickets : List (List ℕ × List ℕ)) (bytes : List ℕ) (old new : E) (next : Connection) (v : Bool) → MatchBool v (Continues does live tickets (line_in bytes) (after_line bytes) old next new) (TurnsAway does [] refusals.Line old next new) → Calls does old new
   calls_logs_in live tickets bytes old new next true p = calls_continues live tickets (line_in bytes) (after_line bytes) old new next p
-  calls_logs_in live tickets bytes old new next false p = none_made old new p.1
+  calls_logs_in live tickets bytes old new next false p = one_made old new (Refuse [] refusals.Line) p.1
 
   -- WHAT IS READ, AND HOW THAT ENDS
   calls_receives : (live : ℕ → E → Bool) (tickets : List (List ℕ × List ℕ)) (bytes : List ℕ) (conn next : Connection) (old new : E) → Receives does live tickets bytes conn old next new → Calls does old new
@@ -67,7 +66,7 @@ module _ {E : Type 0} (does : E → Call → E → Type 0) where
   calls_receives live tickets bytes (Over session) next old new p = none_made old new p.1
 
   calls_ends : (conn next : Connection) (old new : E) → Ends does conn old next new → Calls does old new
-  calls_ends (Logging_in line) next old new p = none_made old new p.1
+  calls_ends (Logging_in line) next old new p = one_made old new (Refuse [] refusals.Line) p.1
   calls_ends (Serving id) next old new p = one_made old new (Close id) p.1
   calls_ends (Refused left) next old new p = none_made old new p.1
   calls_ends (Over session) next old new p = none_made old new p.1

@@ -1,8 +1,7 @@
 mod Calling
 mod Due
 mod Logins
-mod First
+pub mod First
 mod Moving
 mod Reading
-pub mod Running
 mod Turning

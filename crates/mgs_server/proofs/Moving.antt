@@ -7,11 +7,10 @@ use Rattle.mgs_wire.specs.declared.pump.PumpedIn.{PumpedIn}
 use Rattle.mgs_wire.specs.declared.pump.PumpedIn.TheVariants.{Took, Idle, Finished, Failed}
 use Rattle.mgs_wire.specs.declared.pump.PumpedOut.{PumpedOut}
 use Rattle.mgs_wire.specs.declared.pump.PumpedOut.TheVariants as out
-use Rattle.mgs_wire.specs.Calls.{Call}
+use Rattle.mgs_wire.specs.Calls.{Call, Calls}
 use Rattle.mgs_wire.specs.Connections.{Connection, Logging_in, Serving, Refused, Over, waiting, is_logging_in, is_reading, stopped, Breaks, Ends, Writes}
 use Rattle.mgs_wire.specs.Pumps.{PumpsIn, Finishes, Leaves, WritesFirst}
 use Rattle.mgs_server.specs.declared.peer.Peer.{Peer}
-use Rattle.mgs_server.specs.Calls.{Calls}
 use Rattle.mgs_server.specs.Peers.{ServerState, server_state, peers_of, under, IsChanged, AreTaken, Taken, Step, Reads, Writes as Writing, Stops, GivesUp, Expires, Move, Comes, Serves, Goes, IsStep, AreSteps, Stepped, IsMove, AreMoves, Moved, IsOverAt, IsUnread, is_closing, is_taking}
 use Rattle.mgs_server.proofs.Calling.{calls_breaks, calls_pumped, calls_then, calls_written, none_made}
 

@@ -2,10 +2,9 @@
 use Rattle.std.proofs.Common.{◌≡◌, ℕ, Bool, List, Option, Result, refl, sym, subst}
 use Rattle.std.specs.declared.io.Error.{Error}
 use Rattle.slab.specs.Slab.{Slab}
-use Rattle.mgs_wire.specs.Calls.{Call}
+use Rattle.mgs_wire.specs.Calls.{AreMade, Call, Calls}
 use Rattle.mgs_wire.specs.Connections.{Connection}
 use Rattle.mgs_server.specs.declared.peer.Peer.{Peer}
-use Rattle.mgs_server.specs.Calls.{AreMade, Calls}
 use Rattle.mgs_server.specs.Listening.{Listening}
 use Rattle.mgs_server.specs.Peers.{ClosesLogins, Moved, ServesReady, peers_of, server_state, server_with, slots_of, under}
 use Rattle.mgs_server.specs.Turns.{Turns}

@@ -1,4 +1,3 @@
-pub mod Calls
 pub mod Listening
 pub mod Peers
 pub mod Turns

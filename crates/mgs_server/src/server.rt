@@ -6,7 +6,6 @@ ghost use Rattle.mgs_server.specs.Listening.{at_first, first_world};
 ghost use Rattle.mgs_server.specs.Turns.{Turns};
 
 use crate::fault::{ListenFault, PollFailed};
-use crate::served::Served;
 use crate::sockets::Sockets;
 use mgs_buffers::Buffers;
 use mgs_config::Config;
@@ -16,7 +15,7 @@ use mgs_gap::GapText;
 use mgs_model::{Short, Tickets};
 use mgs_policy::Directory;
 use mgs_store::Store;
-use mgs_wire::Stream;
+use mgs_wire::{Served, Stream};
 use mio::net::TcpStream;
 use std::alloc::Global;
 use std::marker::Model;
@@ -62,9 +61,9 @@ fn engine_of<S: Store + Drop>(
 }
 
 impl<S: Store + Drop, C: Clock + Drop> Server<Engine<GapText, S>, C> {
-    /// Listens on a port of the loopback address, on one that the system chooses where it is 0, and serves the world of a
-    /// configuration, none of whose buffers has a mark in use, as of one that was read. Its buffers are saved in the store, and its
-    /// logins are timed by the clock. No session is open, and nothing is served before the first `turn`.
+    /// Listens on a port of the loopback address, on one that the system chooses where it is 0, and serves the world of a configuration.
+    /// Its buffers are saved in the store, and its logins are timed by the clock. No session is open, and nothing is served before the first
+    /// `turn`.
     ///
     /// # Errors
     ///
@@ -76,7 +75,6 @@ impl<S: Store + Drop, C: Clock + Drop> Server<Engine<GapText, S>, C> {
         store: S,
         clock: C,
     ) -> Result<EngineServer<S, C>, ListenFault>
-        requires { AreUnmarked config.buffers }
         ensures serving { IfOk result (λ s. s.serving ≡ at_first (first_world config.directory config.buffers) (store_told S.failed S.accepted store)) }
         ensures tickets { IfOk result (λ s. s.tickets ≡ config.tickets) }
         ensures peers { IfOk result (λ s. s.peers ≡ []) }

@@ -1,8 +1,7 @@
 // What is served turn by turn.
 use crate::fault::PollFailed;
-use crate::served::Served;
 use crate::server::Server;
-use mgs_wire::Stream;
+use mgs_wire::{Served, Stream};
 use mio::net::TcpStream;
 use std::time::Clock;
 

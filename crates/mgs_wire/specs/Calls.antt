@@ -4,10 +4,13 @@
 use Rattle.std.specs.Prelude.{◌≡◌, ℕ, ◌<◌, ◌^◌, Bool, false, MatchBool, List, [], ◌∷◌, Option, Some, None, Result}
 use Rattle.mgs_model.specs.declared.errors.OpenFault.{OpenFault}
 use Rattle.mgs_model.specs.declared.errors.Keyed.{Keyed}
+use Rattle.mgs_wire.specs.declared.refusal.Refusal.{Refusal}
 
 pub data Call : Type 0 where
   -- a session of a user, the size of its terminal, and the answer
   Open : (user : List ℕ) → (rows cols : ℕ) → (answer : Result ℕ OpenFault) → Call
+  -- a login was refused before a session was asked for: the name that its line said, none where it was no login line, and why
+  Refuse : (name : List ℕ) → (cause : Refusal) → Call
   -- a byte of a session, and the answer
   Byte : (id byte : ℕ) → (answer : Keyed) → Call
   -- a session ends
@@ -33,3 +36,13 @@ PassesNone pending after next s = (id : ℕ) → id < 2 ^ 64 → after < id → 
 -- and none of them ended and is to be told
 abbrev pub PassesNoEnd : {E : Type 0} → (ℕ → E → Bool) → ℕ → Option ℕ → E → Type 0
 PassesNoEnd is_ended after next s = (id : ℕ) → id < 2 ^ 64 → after < id → IsBefore id next → is_ended id s ≡ false
+
+-- CALLS of a server, one after another
+abbrev pub AreMade : {E : Type 0} → (E → Call → E → Type 0) → E → List Call → E → Type 0
+AreMade does old [] new = new ≡ old
+AreMade {E = E} does old (c ∷ cs) new = (mid : E) × does old c mid × AreMade does mid cs new
+
+-- nothing but calls leads from one state to another
+pub record Calls {E : Type 0} (does : E → Call → E → Type 0) (old new : E) : Type 0 where
+  pub calls : List Call
+  pub made : AreMade does old calls new

@@ -4,8 +4,8 @@ use Rattle.mgs_model.specs.declared.errors.OpenFault.{OpenFault}
 use Rattle.mgs_model.specs.declared.limits.TheConstants.{LOGIN_LIMIT}
 use Rattle.mgs_wire.specs.declared.refusal.Refusal.{Refusal}
 use Rattle.mgs_wire.specs.declared.refusal.Refusal.TheVariants as refusals
-use Rattle.mgs_wire.specs.Login.{Opening, line_in, after_line, admission, refusal_of, refusal_line}
-use Rattle.mgs_wire.specs.Calls.{Call, Open, Close, Took, Typed}
+use Rattle.mgs_wire.specs.Login.{Opening, line_in, after_line, admission, name_in, refusal_of, refusal_line}
+use Rattle.mgs_wire.specs.Calls.{Call, Open, Refuse, Close, Took, Typed}
 
 pub data Connection : Type 0 where
   -- its login line, as far as it was read
@@ -35,16 +35,20 @@ abbrev pub Answered : {E : Type 0} → (E → Call → E → Type 0) → (ℕ �
 Answered does live (Ok id) rest old next new = (next ≡ Serving id) × Typed does live id rest old new
 Answered does live (Err fault) rest old next new = (next ≡ refused (refusal_of fault)) × (new ≡ old)
 
--- a login line is whole, and these bytes stand after it: keys of the session that it opens, or dropped
-abbrev pub Enters : {E : Type 0} → (E → Call → E → Type 0) → (ℕ → E → Bool) → Result Opening Refusal → List ℕ → E → Connection → E → Type 0
-Enters {E = E} does live (Ok o) rest old next new =
+-- a login by this name is refused before a session is asked for
+abbrev pub TurnsAway : {E : Type 0} → (E → Call → E → Type 0) → List ℕ → Refusal → E → Connection → E → Type 0
+TurnsAway does name r old next new = (next ≡ refused r) × does old (Refuse name r) new
+
+-- a login line is whole that says this name, and these bytes stand after it: keys of the session that it opens, or dropped
+abbrev pub Enters : {E : Type 0} → (E → Call → E → Type 0) → (ℕ → E → Bool) → List ℕ → Result Opening Refusal → List ℕ → E → Connection → E → Type 0
+Enters {E = E} does live name (Ok o) rest old next new =
     (answer : Result ℕ OpenFault) × (mid : E) × does old (Open o.user o.rows o.cols answer) mid × Answered does live answer rest mid next new
-Enters does live (Err r) rest old next new = (next ≡ refused r) × (new ≡ old)
+Enters does live name (Err r) rest old next new = TurnsAway does name r old next new
 
 -- the line is whole where a line feed was read
 abbrev pub Continues : {E : Type 0} → (E → Call → E → Type 0) → (ℕ → E → Bool) → List (List ℕ × List ℕ) → List ℕ → Option (List ℕ) → E → Connection → E → Type 0
 Continues does live tickets line None old next new = (next ≡ Logging_in line) × (new ≡ old)
-Continues does live tickets line (Some rest) old next new = Enters does live (admission tickets line) rest old next new
+Continues does live tickets line (Some rest) old next new = Enters does live (name_in line) (admission tickets line) rest old next new
 
 -- these are all bytes since the connection began: a login line of at most 128 bytes before its line feed, and what stands
 -- after it; a longer one is refused as soon as its 129th byte is read
@@ -53,7 +57,7 @@ ReadsLogin does live tickets bytes old next new =
     MatchBool
     (nat_le (length (line_in bytes)) LOGIN_LIMIT)
     (Continues does live tickets (line_in bytes) (after_line bytes) old next new)
-    ((next ≡ refused refusals.Line) × (new ≡ old))
+    (TurnsAway does [] refusals.Line old next new)
 
 -- what these bytes, read of a connection, come to
 abbrev pub Receives : {E : Type 0} → (E → Call → E → Type 0) → (ℕ → E → Bool) → List (List ℕ × List ℕ) → List ℕ → Connection → E → Connection → E → Type 0
@@ -94,7 +98,7 @@ is_over (Over session) = true
 
 -- the reader ended: within the login line that is a refusal, and a session is closed
 abbrev pub Ends : {E : Type 0} → (E → Call → E → Type 0) → Connection → E → Connection → E → Type 0
-Ends does (Logging_in line) old next new = (next ≡ refused refusals.Line) × (new ≡ old)
+Ends does (Logging_in line) old next new = TurnsAway does [] refusals.Line old next new
 Ends does (Serving id) old next new = (next ≡ Over (Some id)) × does old (Close id) new
 Ends does (Refused left) old next new = (next ≡ Refused left) × (new ≡ old)
 Ends does (Over session) old next new = (next ≡ Over session) × (new ≡ old)

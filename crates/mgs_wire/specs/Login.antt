@@ -57,6 +57,14 @@ login_of _ = None
 abbrev pub login_in : List ℕ → Option Login
 login_in line = login_of (words_of (without_return line))
 
+-- the name that it says, none where it is no login
+abbrev pub name_said : Option Login → List ℕ
+name_said None = []
+name_said (Some login) = login.name
+
+abbrev pub name_in : List ℕ → List ℕ
+name_in line = name_said (login_in line)
+
 -- WHO MAY LOG IN
 
 -- the session that is to be opened

@@ -4,7 +4,7 @@ use Rattle.mgs_wire.specs.declared.conn.Stage.{Stage}
 use Rattle.mgs_wire.specs.declared.conn.Stage.TheVariants as code
 use Rattle.mgs_model.specs.declared.errors.OpenFault.{OpenFault}
 use Rattle.mgs_wire.specs.declared.refusal.Refusal.{Refusal}
-use Rattle.mgs_wire.specs.Calls.{Call, Open}
+use Rattle.mgs_wire.specs.Calls.{Call, Open, Refuse}
 use Rattle.mgs_wire.specs.Login.{Opening, refusal_of}
 use Rattle.mgs_wire.specs.LinesRead.{IsLoginLine}
 use Rattle.mgs_wire.specs.Connections.{Connection, Logging_in, Serving, Refused, Over}
@@ -27,7 +27,7 @@ abbrev pub login_answer : Result ℕ OpenFault → Result ℕ Refusal
 login_answer (Ok id) = Ok id
 login_answer (Err fault) = Err (refusal_of fault)
 
--- what an admission gives: a session is opened, or the refusal stands and nothing was asked
-abbrev pub LogsIn : {E : Type 0} → (E → Call → E → Type 0) → Result Opening Refusal → Result ℕ Refusal → E → E → Type 0
-LogsIn does (Ok o) result old new = (answer : Result ℕ OpenFault) × does old (Open o.user o.rows o.cols answer) new × (result ≡ login_answer answer)
-LogsIn does (Err r) result old new = (result ≡ Err r) × (new ≡ old)
+-- what an admission by this name gives: a session is asked for, or the refusal stands
+abbrev pub LogsIn : {E : Type 0} → (E → Call → E → Type 0) → List ℕ → Result Opening Refusal → Result ℕ Refusal → E → E → Type 0
+LogsIn does name (Ok o) result old new = (answer : Result ℕ OpenFault) × does old (Open o.user o.rows o.cols answer) new × (result ≡ login_answer answer)
+LogsIn does name (Err r) result old new = (result ≡ Err r) × does old (Refuse name r) new

@@ -1,13 +1,14 @@
 // Connections.
 ghost use Rattle.std.specs.Prelude.{◌≡◌, ◌++◌, ◌≤◌, true, false, not, [], length, vec_capacity, IfOk};
-ghost use Rattle.mgs_wire.specs.Login.{admission};
+ghost use Rattle.mgs_wire.specs.Login.{admission, name_in};
 ghost use Rattle.mgs_wire.specs.Calls.{Typed};
-ghost use Rattle.mgs_wire.specs.Connections.{Connection, Logging_in, refused, Enters, ReadsLogin, Receives, is_logging_in, is_over, is_reading, session_of, stopped, Ends, Breaks, waiting, Writes};
+ghost use Rattle.mgs_wire.specs.declared.refusal.Refusal.TheVariants.{Line};
+ghost use Rattle.mgs_wire.specs.Connections.{Connection, Logging_in, refused, TurnsAway, Enters, ReadsLogin, Receives, is_logging_in, is_over, is_reading, session_of, stopped, Ends, Breaks, waiting, Writes};
 ghost use Rattle.mgs_wire.specs.Stages.{connection, IsStage, LogsIn};
 ghost use Rattle.mgs_wire.specs.LinesRead.{IsLoginLine};
 
 use crate::line::{LineRead, append, drop_front, read_line};
-use crate::login::admission;
+use crate::login::{admission, name_in};
 use crate::refusal::Refusal;
 use crate::sessions::Sessions;
 use mgs_model::{LOGIN_LIMIT, SessionId, Short, Tickets};
@@ -61,6 +62,17 @@ fn refuse(line: &mut Vec<u8>, refusal: Refusal) -> Stage
     Stage::Refused
 }
 
+// A login line is too long, or its reader ended within it.
+fn turn_away<E: Sessions>(line: &mut Vec<u8>, engine: &mut E) -> Stage
+    requires { LOGIN_LIMIT ≤ vec_capacity line.old }
+    ensures away { TurnsAway E.does [] Line engine.old (connection result line.new.items) engine.new }
+    ensures form { IsStage result line.new.items }
+    ensures room { LOGIN_LIMIT ≤ vec_capacity line.new }
+{
+    engine.refused(&[], Refusal::Line);
+    refuse(line, Refusal::Line)
+}
+
 // Hands bytes to a session, one call each, while it is open.
 #[tactic(auto, using(crate::proofs::Typing::shut))]
 fn type_all<E: Sessions>(engine: &mut E, id: SessionId, bytes: &[u8])
@@ -76,9 +88,15 @@ fn type_all<E: Sessions>(engine: &mut E, id: SessionId, bytes: &[u8])
 
 // Opens the session of a login line, where that is to be done.
 fn log_in<E: Sessions>(engine: &mut E, tickets: &Tickets, line: &[u8]) -> Result<SessionId, Refusal>
-    ensures { LogsIn E.does (admission tickets.now line.now) result engine.old engine.new }
+    ensures { LogsIn E.does (name_in line.now) (admission tickets.now line.now) result engine.old engine.new }
 {
-    let opening = admission(tickets, line)?;
+    let opening = match admission(tickets, line) {
+        Ok(opening) => opening,
+        Err(refusal) => {
+            engine.refused(name_in(line), refusal);
+            return Err(refusal);
+        }
+    };
     match engine.open(opening.user, opening.rows, opening.cols) {
         Ok(id) => Ok(id),
         Err(fault) => Err(Refusal::of(fault)),
@@ -88,7 +106,7 @@ fn log_in<E: Sessions>(engine: &mut E, tickets: &Tickets, line: &[u8]) -> Result
 // A login line is whole: its session, and the bytes after it.
 fn enter<E: Sessions>(line: &mut Vec<u8>, engine: &mut E, tickets: &Tickets, rest: &[u8]) -> Stage
     requires { LOGIN_LIMIT ≤ vec_capacity line.old }
-    ensures enters { Enters E.does E.live (admission tickets.now line.old.items) rest.now engine.old (connection result line.new.items) engine.new }
+    ensures enters { Enters E.does E.live (name_in line.old.items) (admission tickets.now line.old.items) rest.now engine.old (connection result line.new.items) engine.new }
     ensures form { IsStage result line.new.items }
     ensures room { LOGIN_LIMIT ≤ vec_capacity line.new }
 {
@@ -117,7 +135,7 @@ fn log_in_by<E: Sessions>(
     match read_line(line, bytes) {
         LineRead::Part => Stage::Login,
         LineRead::Whole(rest) => enter(line, engine, tickets, rest),
-        LineRead::TooLong => refuse(line, Refusal::Line),
+        LineRead::TooLong => turn_away(line, engine),
     }
 }
 
@@ -222,7 +240,7 @@ impl Conn {
         ensures { Ends E.does self.old engine.old self.new engine.new }
     {
         match self.stage {
-            Stage::Login => self.stage = refuse(&mut self.line, Refusal::Line),
+            Stage::Login => self.stage = turn_away(&mut self.line, engine),
             Stage::Session(id) => {
                 engine.close(id);
                 self.stage = Stage::Over(Some(id));

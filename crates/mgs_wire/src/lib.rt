@@ -10,6 +10,7 @@ mod line;
 mod login;
 mod pump;
 mod refusal;
+mod served;
 mod sessions;
 mod stream;
 
@@ -17,5 +18,6 @@ pub use conn::Conn;
 pub use law::reads_in_pieces;
 pub use pump::{PumpedIn, PumpedOut, pump_in, pump_in_by, pump_out};
 pub use refusal::Refusal;
+pub use served::Served;
 pub use sessions::Sessions;
 pub use stream::Stream;

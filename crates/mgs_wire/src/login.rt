@@ -3,7 +3,7 @@ ghost use Rattle.std.specs.Prelude.{◌≡◌};
 ghost use Rattle.std.specs.Option.{option_map};
 ghost use Rattle.mgs_keys.specs.Words.{words_of};
 ghost use Rattle.mgs_keys.specs.Numbers.{number_of};
-ghost use Rattle.mgs_wire.specs.Login.{without_return, login_by, login_of, login_in, admission};
+ghost use Rattle.mgs_wire.specs.Login.{without_return, login_by, login_of, login_in, name_in, admission};
 ghost use Rattle.mgs_wire.specs.Parsed.{login_view, Admits};
 
 use crate::refusal::Refusal;
@@ -92,6 +92,16 @@ fn read_login(line: &[u8]) -> Option<Login<'_>>
     ensures { option_map login_view result ≡ login_in line.now }
 {
     login_of_words(without_return(line))
+}
+
+/// The name that a line says; it is empty where that is no login line.
+pub(crate) fn name_in(line: &[u8]) -> &[u8]
+    ensures { result.now ≡ name_in line.now }
+{
+    match read_login(line) {
+        Some(login) => login.name,
+        None => &[],
+    }
 }
 
 /// The session that a line opens. A line without its line feed is refused where it is no login line (`Line`), where no ticket

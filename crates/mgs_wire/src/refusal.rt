@@ -44,8 +44,8 @@ impl Refusal {
         }
     }
 
-    // Why a session was not opened.
-    pub(crate) fn of(fault: OpenFault) -> Refusal
+    /// Why a login is refused whose session was not opened.
+    pub fn of(fault: OpenFault) -> Refusal
         ensures { result ≡ refusal_of fault }
     {
         match fault {

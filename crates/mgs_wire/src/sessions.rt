@@ -1,4 +1,5 @@
 // What connections ask of a server.
+use crate::refusal::Refusal;
 use mgs_model::{Keyed, OpenFault, SessionId};
 
 /// A server with sessions, as connections see it: an engine.
@@ -7,7 +8,7 @@ use mgs_model::{Keyed, OpenFault, SessionId};
 pub trait Sessions {
     ghost use Rattle.std.specs.Prelude.{◌≡◌, ℕ, ◌≤◌, Bool, List, length};
     ghost use Rattle.std.specs.Prelude.{◌<◌, IfSome};
-    ghost use Rattle.mgs_wire.specs.Calls.{Call, Open, Byte, Close, Took, PassesNone, PassesNoEnd};
+    ghost use Rattle.mgs_wire.specs.Calls.{Call, Open, Refuse, Byte, Close, Took, PassesNone, PassesNoEnd};
 
     // The call may lead from one state to another, with its answer.
     ghost does: { Self → Call → Self → Type 0 };
@@ -24,6 +25,11 @@ pub trait Sessions {
     /// Opens a session of a user, whose terminal has so many rows and columns, or says why not.
     fn open(&mut self, user: &str, rows: usize, cols: usize) -> Result<SessionId, OpenFault>
         ensures { does self.old (Open user.now rows cols result) self.new };
+
+    /// A login was refused before a session was asked for: the name that its line said, which may be any bytes and is empty where it was no
+    /// login line, and why.
+    fn refused(&mut self, name: &[u8], cause: Refusal)
+        ensures { does self.old (Refuse name.now cause) self.new };
 
     /// A byte from a session's terminal.
     fn byte(&mut self, id: SessionId, byte: u8) -> Keyed

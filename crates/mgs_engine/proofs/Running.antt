@@ -1,32 +1,35 @@
 -- What the calls of connections do to the world of an engine.
-use Rattle.std.proofs.Common.{◌≡◌, ℕ, ◌<◌, List, [], ◌∷◌, ◌++◌, drop, length, map, Some, None, Result, Ok, Err, refl, sym, ap, ◌∙◌, arith}
+use Rattle.std.proofs.Common.{◌≡◌, ℕ, ◌<◌, List, [], ◌∷◌, ◌++◌, drop, length, map, Some, None, Result, Ok, Err, refl, sym, ap, ◌∙◌, subst, arith}
 use Rattle.std.specs.Prelude.{slice_get}
 use Rattle.mgs_model.specs.Events.{Event, Saved, run, run_saves}
 use Rattle.mgs_model.specs.Events as model
 use Rattle.mgs_model.specs.World.{World}
+use Rattle.mgs_model.specs.declared.errors.Keyed.{Keyed}
 use Rattle.mgs_model.specs.declared.errors.OpenFault.{OpenFault}
 use Rattle.mgs_laws.proofs.Saves.{saves_behind}
 use Rattle.mgs_store.specs.Stores.{StoreTold, told_more}
 use Rattle.mgs_store.proofs.Told.{told_none, told_twice}
-use Rattle.mgs_wire.specs.Calls.{Call, Open, Byte, Close, Took}
+use Rattle.mgs_wire.specs.Calls.{AreMade, Call, Open, Refuse, Byte, Close, Took}
 use Rattle.mgs_engine.specs.declared.ending.Cause.TheVariants.{Slow}
+use Rattle.mgs_engine.specs.declared.tape.Answer.{Answer}
+use Rattle.mgs_engine.specs.declared.tape.Answer.TheVariants as answers
 use Rattle.mgs_engine.specs.Does.{Does}
+use Rattle.mgs_engine.specs.Drives.{Asked, Opens, Types, Closes, Takes}
 use Rattle.mgs_engine.specs.Driven.{HasEvents}
 use Rattle.mgs_engine.specs.Handled.{Handles}
 use Rattle.mgs_engine.specs.Serving.{Serving}
 use Rattle.mgs_engine.specs.Slow.{slow_ids}
 use Rattle.mgs_engine.proofs.RunLemmas.{run-append, saves_first, store_left}
-use Rattle.mgs_server.specs.Calls.{AreMade}
-use Rattle.mgs_server.specs.Turns.{HasTold, Ran, answer_of, asked_by}
+use Rattle.mgs_engine.specs.Running.{HasTold, Ran, RanBy, answers_of, asked_by}
 
 -- the events of one call
-record Came (old : Serving) (c : Call) (new : Serving) : Type 0 where
+record Came (old : Serving) (asked : Asked) (answer : Answer) (new : Serving) : Type 0 where
   events : List Event
-  has : HasEvents old (asked_by c) (answer_of c) new events
+  has : HasEvents old asked answer new events
   world : new.world ≡ run old.world events
   saves : new.store.accepted ≡ told_more (run_saves old.world events) old.store.accepted
 
-came_open : (old new : Serving) (user : List ℕ) (rows cols : ℕ) (a : Result ℕ OpenFault) → Does old (Open user rows cols a) new → Came old (Open user rows cols a) new
+came_open : (old new : Serving) (user : List ℕ) (rows cols : ℕ) (a : Result ℕ OpenFault) → Does old (Open user rows cols a) new → Came old (Opens user rows cols) (answers.Open a) new
 came_open old new user rows cols (Ok id) d = record {
   events = model.Open id user rows cols ∷ [];
   has = (d, refl);
@@ -40,9 +43,8 @@ came_open old new user rows cols (Err fault) d = record {
   saves = ap (λ (s : Serving). s.store.accepted) d.0.err ∙ told_none old.store.accepted [] refl;
 }
 
-came : (old new : Serving) (c : Call) → Does old c new → Came old c new
-came old new (Open user rows cols a) d = came_open old new user rows cols a d
-came old new (Byte id byte a) d =
+came_byte : (old new : Serving) (id byte : ℕ) (a : Keyed) → Does old (Byte id byte a) new → Came old (Types id byte) (answers.Byte a) new
+came_byte old new id byte a d =
     let h : Handles old new id byte a = d.0 in
     let ids : List ℕ = slow_ids old h.typed.world in
     let slow : List Event = map (λ i. model.Close i) ids in
@@ -56,17 +58,36 @@ came old new (Byte id byte a) d =
           ∙ h.step.saves
           ∙ ap (λ (xs : List Saved). told_more xs old.store.accepted) (sym (saves_first old.world (model.Byte id byte h.step.stored h.step.stop) ids));
     }
-came old new (Close id) d = record {
+
+came_close : (old new : Serving) (id : ℕ) → Does old (Close id) new → Came old (Closes id) answers.Close new
+came_close old new id d = record {
   events = model.Close id ∷ [];
   has = (d, refl);
   world = d.2;
   saves = ap (λ (s : Serving). s.store.accepted) d.0 ∙ told_none old.store.accepted [] refl;
 }
-came old new (Took id n) d = record {
+
+came_took : (old new : Serving) (id n : ℕ) → Does old (Took id n) new → Came old (Takes id n) (answers.Took n) new
+came_took old new id n d = record {
   events = [];
   has = (d, refl);
   world = ap (λ (s : Serving). s.world) d;
   saves = ap (λ (s : Serving). s.store.accepted) d ∙ told_none old.store.accepted [] refl;
+}
+
+-- and those of the ones behind it
+ran_then : (old mid new : Serving) (asked : Asked) (answer : Answer) (all : List Asked) (answered : List Answer) → Came old asked answer mid → RanBy mid all answered new new
+    → RanBy old (asked ∷ all) (answer ∷ answered) new new
+ran_then old mid new asked answer all answered first rest = record {
+  events = first.events ++ rest.events;
+  each = (mid, first.events, rest.events, first.has, rest.each, refl);
+  world = rest.world ∙ ap (λ (w : World). run w rest.events) first.world ∙ sym (run-append old.world first.events rest.events);
+  saves =
+      rest.saves
+      ∙ ap (λ (w : World). told_more (run_saves w rest.events) mid.store.accepted) first.world
+      ∙ ap (told_more (run_saves (run old.world first.events) rest.events)) first.saves
+      ∙ told_twice old.store.accepted (run_saves old.world first.events) (run_saves (run old.world first.events) rest.events)
+      ∙ ap (λ (xs : List Saved). told_more xs old.store.accepted) (sym (saves_behind old.world first.events rest.events));
 }
 
 -- those of all
@@ -77,20 +98,13 @@ ran old new [] h = record {
   world = ap (λ (s : Serving). s.world) h;
   saves = ap (λ (s : Serving). s.store.accepted) h ∙ told_none old.store.accepted [] refl;
 }
-ran old new (c ∷ cs) h =
-    let first : Came old c h.0 = came old h.0 c h.1 in
-    let rest : Ran h.0 cs new new = ran h.0 new cs h.2 in
-    record {
-      events = first.events ++ rest.events;
-      each = (h.0, first.events, rest.events, first.has, rest.each, refl);
-      world = rest.world ∙ ap (λ (w : World). run w rest.events) first.world ∙ sym (run-append old.world first.events rest.events);
-      saves =
-          rest.saves
-          ∙ ap (λ (w : World). told_more (run_saves w rest.events) h.0.store.accepted) first.world
-          ∙ ap (told_more (run_saves (run old.world first.events) rest.events)) first.saves
-          ∙ told_twice old.store.accepted (run_saves old.world first.events) (run_saves (run old.world first.events) rest.events)
-          ∙ ap (λ (xs : List Saved). told_more xs old.store.accepted) (sym (saves_behind old.world first.events rest.events));
-    }
+ran old new (Open user rows cols a ∷ cs) h =
+    ran_then old h.0 new (Opens user rows cols) (answers.Open a) (asked_by cs) (answers_of cs) (came_open old h.0 user rows cols a h.1) (ran h.0 new cs h.2)
+ran old new (Refuse name cause ∷ cs) h = subst (λ (s : Serving). Ran s cs new new) h.1 (ran h.0 new cs h.2)
+ran old new (Byte id byte a ∷ cs) h =
+    ran_then old h.0 new (Types id byte) (answers.Byte a) (asked_by cs) (answers_of cs) (came_byte old h.0 id byte a h.1) (ran h.0 new cs h.2)
+ran old new (Close id ∷ cs) h = ran_then old h.0 new (Closes id) answers.Close (asked_by cs) (answers_of cs) (came_close old h.0 id h.1) (ran h.0 new cs h.2)
+ran old new (Took id n ∷ cs) h = ran_then old h.0 new (Takes id n) (answers.Took n) (asked_by cs) (answers_of cs) (came_took old h.0 id n h.1) (ran h.0 new cs h.2)
 
 -- and then each that ended was told
 pub has_run : (served new : Serving) → HasTold served new → (first : Serving) (calls : List Call) → AreMade Does first calls served → Ran first calls served new

@@ -1,5 +1,5 @@
 use Rattle.std.proofs.Common.{◌≡◌, length}
-use Rattle.mgs_server.proofs.served.hear_ended.Given as goal
+use Rattle.mgs_engine.proofs.served.hear_ended.Given as goal
 
 abbrev pub decreases-loop : goal.decreases-loop
 decreases-loop g l = length l.engine.ended
