@@ -1,6 +1,6 @@
 // Connections: login lines, the bytes after them, and readers and writers that stop, end or fail.
 use mgs_model::{Keyed, OpenFault, SessionId, Tickets};
-use mgs_wire::{Conn, PumpedIn, PumpedOut, Sessions, pump_in, pump_out};
+use mgs_wire::{Conn, PumpedIn, PumpedOut, Refusal, Sessions, pump_in, pump_out};
 use std::alloc::Global;
 use std::io::{self, ErrorKind, Read, Write};
 use std::process::Abort;
@@ -43,6 +43,8 @@ impl Sessions for OneSession {
         self.is_open = true;
         Ok(7)
     }
+
+    fn refused(&mut self, _name: &[u8], _cause: Refusal) {}
 
     fn byte(&mut self, _id: SessionId, byte: u8) -> Keyed {
         if byte == 3 {

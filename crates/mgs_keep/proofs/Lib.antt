@@ -1,4 +1,7 @@
+mod Asking
+mod Bodies
+mod Calls
 mod Rules
 mod Running
-mod Tellings
+mod Sayings
 mod Walks

@@ -1,20 +1,19 @@
 // A server and its journal.
-ghost use Rattle.std.specs.Prelude.{◌≡◌, ◌+◌, Some, IfOk, OnOk, true, false, []};
-ghost use Rattle.mgs_model.specs.World.{find_session};
-ghost use Rattle.mgs_audit.specs.Lines.{denial_in};
-ghost use Rattle.mgs_laws.specs.Apart.{rules_in};
-ghost use Rattle.mgs_keep.specs.Keeping.{AreKept, AreTold, came, denied, held, listed};
-ghost use Rattle.mgs_keep.specs.Walks.{IsAhead, IsSoFar, Steps};
+ghost use Rattle.std.specs.Prelude.{◌≡◌, ◌+◌, None, IfOk, length, true, false, []};
+ghost use Rattle.mgs_keep.specs.Keeping.{AreKept, HasChanged, IsEnd, OrFails, TellsEnds, held};
 
-use crate::difference::{Difference, compare};
+use crate::changes::{keep, keep_all};
+use crate::round::Round;
+use crate::tellings::{name_in_bytes, opening_told, refused, said_to, tell, tick};
+use crate::texts::{keep_next, keep_saved};
 use crate::users::Users;
 use mgs_engine::Engine;
 use mgs_journal::{Journal, JournalFault, Told};
 use mgs_marks::Marked;
-use mgs_model::{Decision, Keyed, Message, Name, OpenFault, SessionId};
-use mgs_server::Served;
+use mgs_model::{Keyed, Message, Name, OpenFault, SessionId};
 use mgs_store::Store;
-use mgs_wire::Sessions;
+use mgs_wire::{Refusal, Served, Sessions};
+use std::alloc::Global;
 use std::marker::Model;
 
 /// A server of sessions, and the journal that keeps by what access its buffers may be shown. No byte is handed to a terminal before the
@@ -25,6 +24,9 @@ pub struct Kept<T: Marked + Drop, S: Store + Drop, J: Journal + Drop> {
     journal: J,
     // Whose the sessions are that did not end, or are still to be told.
     users: Users,
+    // Which texts are still to be kept.
+    round: Round,
+    alloc: Global,
     // The journal did not take something: nothing is asked of it and nothing is shown any more.
     failed: bool,
 }
@@ -42,140 +44,26 @@ impl<T: Marked + Drop, S: Store + Drop, J: Journal + Drop> Model for Kept<T, S, 
     ghost invariant = { λ k. k.failed ≡ false → AreKept J.kept k.engine k.journal };
 }
 
-// The place behind one. There is none behind the last of all numbers.
-fn behind(i: usize) -> Result<usize, JournalFault>
-    ensures { IfOk result (λ next. next ≡ i + 1) }
-{
-    match i.checked_add(1) {
-        Some(next) => Ok(next),
-        None => Err(JournalFault),
-    }
-}
-
-// Has the journal keep what differs at a place, up to which both are alike: the place from which it goes on, or none where nothing is left.
-fn keep_at<T: Marked + Drop, S: Store + Drop, J: Journal>(
-    engine: &Engine<T, S>,
-    journal: &mut J,
-    user: Option<&Name>,
-    i: usize,
-) -> Result<Option<usize>, JournalFault>
-    requires { IsAhead i (rules_in engine.now.world.buffers) (J.kept journal.old) }
-    ensures kept { IfOk result (Steps i (rules_in engine.now.world.buffers) (J.kept journal.old) (J.kept journal.new)) }
-{
-    let next = behind(i)?;
-    match compare(engine, journal, i) {
-        Difference::Over => Ok(None),
-        Difference::Same => Ok(Some(next)),
-        Difference::Changed(rights) => {
-            journal.set(user, i, &rights)?;
-            Ok(Some(next))
-        }
-        Difference::Made(rights) => {
-            journal.add(user, &rights)?;
-            Ok(Some(next))
-        }
-        Difference::Killed => {
-            journal.remove(user, i)?;
-            Ok(Some(i))
-        }
-    }
-}
-
-// Has the journal keep by what access is decided: what was changed, made and killed by a user, or before there was any.
-fn keep_all<T: Marked + Drop, S: Store + Drop, J: Journal>(
-    engine: &Engine<T, S>,
-    journal: &mut J,
-    user: Option<&Name>,
-) -> Result<(), JournalFault>
-    ensures kept { OnOk result (AreKept J.kept engine.now journal.new) }
-{
-    let mut next = Some(0);
-    while let Some(i) = next {
-        next = keep_at(engine, journal, user, i)?;
-    }
-    Ok(())
-}
-
-// Hands to the journal what is told, if anything is and it did not fail.
-fn tell<J: Journal>(journal: &mut J, failed: &mut bool, told: Option<Told>)
-    ensures kept { failed.new ≡ false → J.kept journal.new ≡ J.kept journal.old }
-    ensures told { failed.new ≡ false → AreTold J.tells (listed told) journal.old journal.new }
-    ensures stays { failed.old ≡ true → failed.new ≡ true }
-{
-    if *failed {
-        return;
-    }
-    match told {
-        None => {}
-        Some(told) => match journal.tell(told) {
-            Ok(()) => {}
-            Err(JournalFault) => *failed = true,
-        },
-    }
-}
-
-// Has the journal keep by what access is decided, where that can have changed and it did not fail.
-fn keep<T: Marked + Drop, S: Store + Drop, J: Journal>(
-    engine: &Engine<T, S>,
-    journal: &mut J,
-    failed: &mut bool,
-    user: Option<&Name>,
-    ruled: bool,
-)
-    requires { ruled ≡ false → failed.old ≡ false → AreKept J.kept engine.now journal.old }
-    ensures kept { failed.new ≡ false → AreKept J.kept engine.now journal.new }
-    ensures stays { failed.old ≡ true → failed.new ≡ true }
-{
-    if *failed || !ruled {
-        return;
-    }
-    match keep_all(engine, journal, user) {
-        Ok(()) => {}
-        Err(JournalFault) => *failed = true,
-    }
-}
-
-fn came(user: Option<Name>) -> Option<Told>
-    ensures { result ≡ came user }
-{
-    match user {
-        Some(user) => Some(Told::Came(user)),
-        None => None,
-    }
-}
-
-fn denial_in(message: Message) -> Option<Decision>
-    ensures { result ≡ denial_in message }
-{
-    match message {
-        Message::Denied(decision) => Some(decision),
-        _ => None,
-    }
-}
-
-// What a session was denied by the last event.
-#[tactic(auto, using(crate::proofs::Tellings::denied_is, crate::proofs::Tellings::not_denied))]
-fn denied<T: Marked + Drop, S: Store + Drop>(engine: &Engine<T, S>, id: SessionId) -> Option<Told>
-    ensures { result ≡ denied (find_session id engine.now.world.sessions) }
-{
-    let decision = denial_in(engine.echo(id))?;
-    let user = engine.user(id)?;
-    Some(Told::Denied(user, decision))
-}
-
 impl<T: Marked + Drop, S: Store + Drop, J: Journal + Drop> Kept<T, S, J> {
     /// A server of which nothing was shown yet, and its journal, which keeps from now on by what access its buffers may be shown.
     /// `JournalFault`: it did not take that.
-    pub fn new(engine: Engine<T, S>, mut journal: J) -> Result<Kept<T, S, J>, JournalFault>
+    pub fn new(
+        alloc: Global,
+        engine: Engine<T, S>,
+        mut journal: J,
+    ) -> Result<Kept<T, S, J>, JournalFault>
         ensures serving { IfOk result (λ k. k.serving ≡ engine) }
         ensures kept { IfOk result (λ k. AreKept J.kept k.serving k.journal) }
+        ensures changed { IfOk result (λ k. HasChanged J.does None journal k.journal) }
         ensures failed { IfOk result (λ k. k.failed ≡ false) }
     {
-        keep_all(&engine, &mut journal, None)?;
+        keep_all(&engine, &mut journal, &None)?;
         Ok(Kept {
             engine,
             journal,
             users: Users::new(),
+            round: Round::new(),
+            alloc,
             failed: false,
         })
     }
@@ -200,7 +88,7 @@ impl<T: Marked + Drop, S: Store + Drop, J: Journal + Drop> Sessions for Kept<T, 
     ghost use Rattle.mgs_model.specs.Events.{is_open};
     ghost use Rattle.mgs_keep.specs.Keeping.{Keeps, ShowsKept, shown, is_shown_end};
 
-    ghost does = { Keeps J.kept J.tells };
+    ghost does = { Keeps J.kept J.does J.fails };
 
     ghost live = { λ id s. is_open id s.serving.world };
 
@@ -209,15 +97,16 @@ impl<T: Marked + Drop, S: Store + Drop, J: Journal + Drop> Sessions for Kept<T, 
     ghost is_ended = { is_shown_end };
 
     fn open(&mut self, user: &str, rows: usize, cols: usize) -> Result<SessionId, OpenFault> {
-        match self.engine.open(user, rows, cols) {
-            Ok(id) => {
-                let told = came(self.engine.user(id));
-                self.users.note(id, self.engine.user(id));
-                tell(&mut self.journal, &mut self.failed, told);
-                Ok(id)
-            }
-            Err(fault) => Err(fault),
-        }
+        let answer = self.engine.open(user, rows, cols);
+        note_opened(&mut self.users, &self.engine, answer);
+        let told = opening_told(&self.engine, user, answer);
+        tell(&mut self.journal, &mut self.failed, told);
+        answer
+    }
+
+    fn refused(&mut self, name: &[u8], cause: Refusal) {
+        let told = refused(name_in_bytes(name), cause);
+        tell(&mut self.journal, &mut self.failed, Some(told));
     }
 
     fn byte(&mut self, id: SessionId, byte: u8) -> Keyed {
@@ -227,13 +116,19 @@ impl<T: Marked + Drop, S: Store + Drop, J: Journal + Drop> Sessions for Kept<T, 
             &self.engine,
             &mut self.journal,
             &mut self.failed,
-            user.as_ref(),
+            &user,
             ruled,
         );
-        tell(
+        let told = said_to(&self.engine, id);
+        tell(&mut self.journal, &mut self.failed, told);
+        let saved = saved_by(self.engine.echo(id));
+        self.round.type_on(ruled);
+        keep_saved(
+            self.alloc,
+            &self.engine,
             &mut self.journal,
             &mut self.failed,
-            denied(&self.engine, id),
+            saved,
         );
         keyed
     }
@@ -270,6 +165,26 @@ impl<T: Marked + Drop, S: Store + Drop, J: Journal + Drop> Sessions for Kept<T, 
     }
 }
 
+// Whose the session is that was opened.
+fn note_opened<T: Marked + Drop, S: Store + Drop>(
+    users: &mut Users,
+    engine: &Engine<T, S>,
+    answer: Result<SessionId, OpenFault>,
+) {
+    match answer {
+        Ok(id) => users.note(id, engine.user(id)),
+        Err(_) => {}
+    }
+}
+
+// The buffer that was saved, if an echo line tells that.
+fn saved_by(message: Message) -> Option<Name> {
+    match message {
+        Message::Wrote(name) => Some(name),
+        _ => None,
+    }
+}
+
 // Tells the journal of each session that ended, whose it was and why.
 fn tell_all<T: Marked + Drop, S: Store + Drop, J: Journal>(
     engine: &mut Engine<T, S>,
@@ -279,7 +194,7 @@ fn tell_all<T: Marked + Drop, S: Store + Drop, J: Journal>(
 )
     ensures engine { engine.new ≡ record engine.old { ended = [] } }
     ensures kept { failed.new ≡ false → J.kept journal.new ≡ J.kept journal.old }
-    ensures stays { failed.old ≡ true → failed.new ≡ true }
+    ensures journal { OrFails J.fails (TellsEnds J.does (length engine.old.ended)) failed.old journal.old failed.new journal.new }
 {
     while let Some((id, cause)) = engine.ended() {
         let ended = users.take(id, cause);
@@ -287,24 +202,10 @@ fn tell_all<T: Marked + Drop, S: Store + Drop, J: Journal>(
     }
 }
 
-// Has the journal keep what it gathered for long enough, if it did not fail.
-fn tick<J: Journal>(journal: &mut J, failed: &mut bool)
-    ensures kept { failed.new ≡ false → J.kept journal.new ≡ J.kept journal.old }
-    ensures stays { failed.old ≡ true → failed.new ≡ true }
-{
-    if *failed {
-        return;
-    }
-    match journal.tick() {
-        Ok(()) => {}
-        Err(JournalFault) => *failed = true,
-    }
-}
-
 impl<T: Marked + Drop, S: Store + Drop, J: Journal + Drop> Served for Kept<T, S, J> {
     ghost use Rattle.mgs_keep.specs.Keeping.{HasRun, HasTold};
 
-    ghost tells = { HasTold J.kept };
+    ghost tells = { HasTold J.kept J.does J.fails };
 
     ghost runs = { HasRun };
 
@@ -314,6 +215,13 @@ impl<T: Marked + Drop, S: Store + Drop, J: Journal + Drop> Served for Kept<T, S,
             &mut self.journal,
             &mut self.users,
             &mut self.failed,
+        );
+        keep_next(
+            self.alloc,
+            &self.engine,
+            &mut self.journal,
+            &mut self.failed,
+            &mut self.round,
         );
         tick(&mut self.journal, &mut self.failed);
     }

@@ -4,9 +4,14 @@
 //! its [`Journal`] keeps, and has that keep what differs. Where the journal fails nothing more is shown.
 #![tactic(auto)]
 
+mod changes;
 mod difference;
 mod kept;
+mod round;
+mod tellings;
+mod texts;
 mod users;
 
 pub use kept::Kept;
 pub use mgs_journal::{Journal, JournalFault, Told};
+pub use texts::text_sum;

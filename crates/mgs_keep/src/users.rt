@@ -1,4 +1,7 @@
 // Whose sessions are, until their end is told.
+ghost use Rattle.std.specs.Prelude.{IfSome};
+ghost use Rattle.mgs_keep.specs.Keeping.{IsEnd};
+
 use arrayvec::ArrayVec;
 use mgs_engine::Cause;
 use mgs_journal::Told;
@@ -18,7 +21,9 @@ pub(crate) struct Users {
 }
 
 // What is told of the end of a user's session.
-fn end_of(user: Name, cause: Cause) -> Told {
+fn end_of(user: Name, cause: Cause) -> Told
+    ensures { IsEnd result }
+{
     match cause {
         Cause::Quit => Told::Quit(user),
         Cause::Closed => Told::Closed(user),
@@ -42,7 +47,9 @@ impl Users {
     }
 
     /// What is told of the end of a session, which is forgotten by that. `None` where it was not noted.
-    pub(crate) fn take(&mut self, id: SessionId, cause: Cause) -> Option<Told> {
+    pub(crate) fn take(&mut self, id: SessionId, cause: Cause) -> Option<Told>
+        ensures { IfSome result IsEnd }
+    {
         let at = self.all.as_slice().iter().position(|noted| noted.id == id)?;
         let user = self.all.remove(at).user?;
         Some(end_of(user, cause))

@@ -3,10 +3,12 @@ ghost use Rattle.std.specs.Prelude.{◌≡◌};
 
 use mgs_acl::List;
 use mgs_buffers::Rights;
-use mgs_journal::{Journal, JournalFault, Told};
+use mgs_journal::{Journal, JournalFault, Snapshot, Told};
 use mgs_model::{Decision, Name, Owners};
+use mgs_wire::Refusal;
 use std::alloc::Global;
 use std::marker::Model;
+use std::test::Fail;
 
 /// What is kept of one buffer.
 #[derive(Drop)]
@@ -44,10 +46,29 @@ fn lent(row: &Row) -> Rights<'_>
     }
 }
 
+// What is kept of a text.
+#[derive(Drop)]
+struct Page {
+    body: String,
+    modified: bool,
+    file: i64,
+}
+
+impl Model for Page {
+    ghost use Rattle.std.specs.Prelude.{string_bytes};
+    ghost use Rattle.mgs_journal.specs.Texts.{KeptText};
+
+    ghost Value = { KeptText };
+
+    ghost view = { λ p. record { body = string_bytes p.body; modified = p.modified; file = p.file } };
+}
+
 /// The journal.
 #[derive(Drop)]
 pub(crate) struct Book {
+    alloc: Global,
     rows: Vec<Row>,
+    texts: Vec<Option<Page>>,
     words: String,
     left: usize,
 }
@@ -56,10 +77,26 @@ impl Book {
     /// One that keeps nothing yet, and fails once it took so many calls.
     pub(crate) fn new(alloc: Global, left: usize) -> Book {
         Book {
+            alloc,
             rows: Vec::new(alloc),
+            texts: Vec::new(alloc),
             words: String::new(alloc),
             left,
         }
+    }
+
+    /// It keeps one buffer more, and this of its text, which was not saved.
+    pub(crate) fn keep(&mut self, rights: &Rights<'_>, text: Option<&str>) -> Result<(), Fail> {
+        self.texts.push(match text {
+            Some(text) => Some(Page {
+                body: String::from_str(self.alloc, text)?,
+                modified: true,
+                file: 0,
+            }),
+            None => None,
+        })?;
+        self.rows.push(row_of(rights))?;
+        Ok(())
     }
 
     /// What it was told, a line each.
@@ -103,14 +140,40 @@ fn right_of(decision: &Decision) -> &str {
     }
 }
 
+fn cause_of(cause: Refusal) -> &'static str {
+    match cause {
+        Refusal::Line => "line",
+        Refusal::NoUser => "no user",
+        Refusal::Ticket => "ticket",
+        Refusal::Size => "size",
+        Refusal::Full => "full",
+        Refusal::Short => "short",
+    }
+}
+
+// The page of a text, lent.
+fn snapshot_of(page: &Page) -> Snapshot<'_>
+    ensures { result ≡ page.now }
+{
+    Snapshot {
+        body: page.body.as_str(),
+        modified: page.modified,
+        file: page.file,
+    }
+}
+
 impl Journal for Book {
     ghost kept = { λ b. b.rows.items };
 
+    ghost texts = { λ b. b.texts.items };
+
     ghost taken = { λ b name. false };
 
-    ghost tells = { λ old told new. new.rows.items ≡ old.rows.items };
+    ghost does = { λ old act new. Unit {0} };
 
-    ghost use Rattle.std.specs.Prelude.{◌≡◌, false};
+    ghost fails = { λ old new. Unit {0} };
+
+    ghost use Rattle.std.specs.Prelude.{false};
 
     fn rights(&self, i: usize) -> Option<Rights<'_>> {
         if i < self.rows.len() {
@@ -120,18 +183,36 @@ impl Journal for Book {
         }
     }
 
+    fn text(&self, i: usize) -> Option<Snapshot<'_>> {
+        if i >= self.texts.len() {
+            return None;
+        }
+        match &self.texts[i] {
+            Some(page) => Some(snapshot_of(page)),
+            None => None,
+        }
+    }
+
+    fn is_text_due(&self) -> bool {
+        true
+    }
+
     fn is_taken(&self, _name: &Name) -> bool {
         false
     }
 
-    fn add(&mut self, user: Option<&Name>, rights: &Rights<'_>) -> Result<(), JournalFault> {
+    fn add(&mut self, user: Option<Name>, rights: &Rights<'_>) -> Result<(), JournalFault> {
         note(
             &mut self.words,
             &mut self.left,
-            user,
+            user.as_ref(),
             "makes",
             word_of(Some(rights.name)),
         )?;
+        match self.texts.push(None) {
+            Ok(()) => {}
+            Err(_) => return Err(JournalFault),
+        }
         match self.rows.push(row_of(rights)) {
             Ok(()) => Ok(()),
             Err(_) => Err(JournalFault),
@@ -140,14 +221,14 @@ impl Journal for Book {
 
     fn set(
         &mut self,
-        user: Option<&Name>,
+        user: Option<Name>,
         i: usize,
         rights: &Rights<'_>,
     ) -> Result<(), JournalFault> {
         note(
             &mut self.words,
             &mut self.left,
-            user,
+            user.as_ref(),
             "changes",
             word_of(Some(rights.name)),
         )?;
@@ -155,26 +236,69 @@ impl Journal for Book {
         Ok(())
     }
 
-    fn remove(&mut self, user: Option<&Name>, i: usize) -> Result<(), JournalFault> {
+    fn remove(&mut self, user: Option<Name>, i: usize) -> Result<(), JournalFault> {
+        if i >= self.texts.len() {
+            return Err(JournalFault);
+        }
+        let _ = self.texts.remove(i);
         let gone = self.rows.remove(i);
         note(
             &mut self.words,
             &mut self.left,
-            user,
+            user.as_ref(),
             "kills",
             word_of(Some(&gone.name)),
         )
     }
 
+    fn set_text(
+        &mut self,
+        i: usize,
+        body: String,
+        modified: bool,
+        file: i64,
+    ) -> Result<(), JournalFault> {
+        if i >= self.texts.len() {
+            return Err(JournalFault);
+        }
+        note(
+            &mut self.words,
+            &mut self.left,
+            Some(&self.rows[i].name),
+            if modified {
+                "is edited"
+            } else {
+                "is as its file"
+            },
+            body.as_str(),
+        )?;
+        self.texts[i] = Some(Page {
+            body,
+            modified,
+            file,
+        });
+        Ok(())
+    }
+
     fn tell(&mut self, told: Told) -> Result<(), JournalFault> {
-        let (user, what, detail) = match &told {
-            Told::Came(user) => (user, "comes", ""),
-            Told::Quit(user) => (user, "quits", ""),
-            Told::Closed(user) => (user, "is closed", ""),
-            Told::FellBehind(user) => (user, "falls behind", ""),
-            Told::Denied(user, decision) => (user, "is denied", right_of(decision)),
-        };
-        note(&mut self.words, &mut self.left, Some(user), what, detail)
+        let words = &mut self.words;
+        let left = &mut self.left;
+        match told {
+            Told::Came(user) => note(words, left, Some(&user), "comes", ""),
+            Told::Refused(user, cause) => {
+                note(words, left, Some(&user), "is refused", cause_of(cause))
+            }
+            Told::RefusedUnnamed(cause) => note(words, left, None, "is refused", cause_of(cause)),
+            Told::Quit(user) => note(words, left, Some(&user), "quits", ""),
+            Told::Closed(user) => note(words, left, Some(&user), "is closed", ""),
+            Told::FellBehind(user) => note(words, left, Some(&user), "falls behind", ""),
+            Told::Denied(user, decision) => {
+                note(words, left, Some(&user), "is denied", right_of(&decision))
+            }
+            Told::Saved(user, buffer) => {
+                note(words, left, Some(&user), "saves", word_of(Some(&buffer)))
+            }
+        }
     }
 
     fn tick(&mut self) -> Result<(), JournalFault> {

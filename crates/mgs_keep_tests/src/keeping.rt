@@ -1,39 +1,14 @@
 // What a journal is told of what two users do, and what is shown once it failed.
 use crate::book::Book;
-use mgs_acl::{List, read_entry};
+use crate::office::{Server, list_of, press, sit, users};
 use mgs_buffers::Buffers;
 use mgs_core::Core;
 use mgs_engine::Engine;
 use mgs_keep::Kept;
-use mgs_marks::PlainMarked;
-use mgs_model::{Keyed, SessionId};
-use mgs_policy::Directory;
-use mgs_server::Served;
 use mgs_store::RefusingStore;
-use mgs_wire::Sessions;
+use mgs_wire::{Refusal, Served, Sessions};
 use std::alloc::Global;
 use std::process::Abort;
-
-type Server = Kept<PlainMarked, RefusingStore, Book>;
-
-fn list_of(entries: &[&str], rt: &impl Abort) -> List {
-    let mut list = List::new();
-    for entry in entries {
-        match read_entry(entry) {
-            Ok(entry) => assert!(rt; list.insert(list.len(), entry).is_ok()),
-            Err(_) => panic!(rt; "no entry"),
-        }
-    }
-    list
-}
-
-fn users(alloc: Global, rt: &impl Abort) -> Directory {
-    let mut directory = Directory::new(alloc);
-    for &user in &["ann", "bob"] {
-        assert!(rt; directory.add_user(user).is_ok());
-    }
-    directory
-}
 
 // The buffer `notes` of ann, which bob may read, with a journal that takes so many calls.
 fn serve(alloc: Global, calls: usize, rt: &impl Abort) -> Server {
@@ -50,39 +25,26 @@ fn serve(alloc: Global, calls: usize, rt: &impl Abort) -> Server {
     let Ok(engine) = Engine::new(alloc, core) else {
         panic!(rt; "no memory");
     };
-    match Kept::new(engine, Book::new(alloc, calls)) {
+    match Kept::new(alloc, engine, Book::new(alloc, calls)) {
         Ok(kept) => kept,
         Err(_) => panic!(rt; "not kept"),
     }
 }
 
-fn sit(server: &mut Server, user: &str, rt: &impl Abort) -> SessionId {
-    match server.open(user, 6, 20) {
-        Ok(id) => id,
-        Err(_) => panic!(rt; "not opened"),
-    }
-}
-
-fn press(server: &mut Server, id: SessionId, keys: &[u8]) -> Keyed {
-    for key in keys {
-        let answer = server.byte(id, *key);
-        if answer != Keyed::Done {
-            return answer;
-        }
-    }
-    Keyed::Done
-}
-
 // Who types what (`true`: ann), and what the journal is told by it.
 const STEPS: [(bool, &[u8], &str); 8] = [
-    (true, b"x", ""),
+    (true, b"x", "notes is edited xn\n"),
     (false, b"y", "bob is denied WRITE_DATA\n"),
     (true, b"\x152\x1bxacl-delete\r", "ann changes notes\n"),
     // Who may not read types at the text's end.
     (false, b"y", "bob is denied APPEND_DATA\n"),
     (true, b"\x18bplan\r", "ann makes plan\n"),
     (true, b"\x18knotes\r", "ann kills notes\n"),
-    (true, b"\x1bxset-owner\rbob\r", "ann changes plan\n"),
+    (
+        true,
+        b"\x1bxset-owner\rbob\r",
+        "ann changes plan\nplan is as its file \n",
+    ),
     (false, b"\x18\x03", "bob quits \n"),
 ];
 
@@ -115,4 +77,39 @@ fn nothing_is_shown_once_the_journal_failed(rt: HostRuntime) {
     assert!(rt; server.next_due(0).is_none());
     press(&mut server, ann, b"x");
     assert!(rt; server.pending(ann).is_empty());
+}
+
+// Logins that are refused, before a session is asked for and then, are told with the name that was said, if it is one.
+#[test]
+fn refused_logins_are_told(rt: HostRuntime) {
+    let mut server = serve(rt.alloc(), 100, &rt);
+    let before = server.journal().words().len();
+    server.refused(b"bob", Refusal::Ticket);
+    server.refused(b"two words", Refusal::NoUser);
+    server.refused(b"\xff", Refusal::NoUser);
+    server.refused(b"", Refusal::Line);
+    assert!(rt; server.open("ann", 1, 20).is_err());
+    assert!(rt; server.open("eve", 6, 20).is_err());
+    assert!(rt;
+        server.journal().words().get(before..)
+            == Some(
+                "bob is refused ticket\n- is refused no user\n- is refused no user\n- is refused line\nann is refused size\neve is refused no user\n"
+            )
+    );
+}
+
+// What is kept of a text is all of it as it stands when a round comes to it, once.
+#[test]
+fn texts_are_kept_as_they_stand(rt: HostRuntime) {
+    let mut server = serve(rt.alloc(), 100, &rt);
+    let ann = sit(&mut server, "ann", &rt);
+    let before = server.journal().words().len();
+    for keys in &[b"".as_slice(), b"ab", b"", b"", b""] {
+        press(&mut server, ann, keys);
+        server.tell_ended();
+    }
+    assert!(rt;
+        server.journal().words().get(before..)
+            == Some("notes is as its file n\nnotes is edited abn\n")
+    );
 }

@@ -1,8 +1,12 @@
-//! Tests of a server whose journal keeps by what access it may be shown: what the journal is told, in its order, and that nothing is shown
-//! once it failed.
+//! Tests of a server whose journal keeps by what access it may be shown: what the journal is told, in its order, that nothing is shown once
+//! it failed, and what is served at a start.
 #![tactic(auto)]
 
 #[cfg(test)]
 mod book;
 #[cfg(test)]
 mod keeping;
+#[cfg(test)]
+mod office;
+#[cfg(test)]
+mod starting;

@@ -4,10 +4,12 @@
 mod arguments;
 mod events;
 mod folder;
+mod launch;
 mod program;
 mod service;
 mod status;
 mod turns;
 
+pub use launch::{StartFault, start};
 pub use program::run;
 pub use status::{FAILED, IN_USE, JOURNAL_FAILED, NO_SOCKETS, PRINTED, WRONG_ARGUMENTS};

@@ -1,29 +1,24 @@
 // A configuration that is served with a journal.
 ghost use Rattle.std.specs.Prelude.{◌≡◌, ◌≢◌, ◌<◌, IfErr, IfSome, length};
-ghost use Rattle.mgs_buffers.specs.MarkedBuffer.{AreUnmarked};
 
 use crate::arguments::Mending;
 use crate::events::end_open;
 use crate::folder::{is_private_folder, journal_path, make_private};
+use crate::launch::{StartFault, start};
 use crate::status::{FAILED, JOURNAL_FAILED};
 use crate::turns::serve_kept;
 use mgs_buffers::{Buffers, Rights};
 use mgs_command::{NO_MEMORY, tell};
 use mgs_config::{BufferFile, Config};
-use mgs_core::Core;
 use mgs_disk::{DiskFiles, FileStore, load_config};
-use mgs_engine::Engine;
 use mgs_gap::GapText;
 use mgs_journal::{Journal, JournalFault, are_same};
-use mgs_keep::Kept;
+use mgs_keep::{Kept, text_sum};
 use mgs_ledger::Ledger;
-use mgs_model::{Name, Owners, Short};
+use mgs_model::{BUFFER_LIMIT, Name, Owners};
 use mgs_policy::Directory;
-use mgs_resume::join;
-use mgs_store::Store;
 use mgs_tables::open;
 use sqlite::{FileFrom, FileStore as TableStore, Wary};
-use std::alloc::Global;
 use std::fmt::Display;
 use std::io::{self, Printer};
 use std::sync::Wait;
@@ -191,6 +186,34 @@ fn tell_differences<R: Eprint, J: Journal>(rt: &R, config: &Buffers<GapText>, jo
     }
 }
 
+// What is told of the text that the journal keeps of its `i`-th buffer, where that is served in the place of its file's.
+fn unsaved<J: Journal>(
+    journal: &J,
+    config: &Buffers<GapText>,
+    name: &Name,
+    i: usize,
+) -> Option<&'static str> {
+    let kept = journal.text(i)?;
+    if !kept.modified || journal.is_taken(name) || !config.has(name) {
+        return None;
+    }
+    if kept.file == text_sum(config.find(name).text()) {
+        return Some("its text was not saved, and is the journal's");
+    }
+    Some("its text was not saved, and is the journal's; its file was changed since")
+}
+
+// Tells of each text that is served in the place of its file's.
+fn tell_unsaved<R: Eprint, J: Journal>(rt: &R, config: &Buffers<GapText>, journal: &J) {
+    for i in 0..BUFFER_LIMIT {
+        if let Some(rights) = journal.rights(i) {
+            if let Some(what) = unsaved(journal, config, rights.name, i) {
+                tell_of(rt, rights.name, what);
+            }
+        }
+    }
+}
+
 // The ledger of the journal in a folder.
 fn open_ledger<'a>(rt: &'a HostRuntime, folder: &str) -> Result<FileLedger<'a>, u8>
     ensures { IfErr result (λ status. status ≢ 0) }
@@ -232,16 +255,15 @@ fn open_store<'a>(
     }
 }
 
-fn open_engine<S: Store + Drop>(
-    alloc: Global,
-    directory: Directory,
-    buffers: Buffers<GapText>,
-    store: S,
-) -> Result<Engine<GapText, S>, Short>
-    requires { AreUnmarked buffers }
+// The program's status where nothing is served, which is told.
+fn end_start<R: Eprint>(rt: &R, fault: StartFault) -> u8
+    ensures { result ≢ 0 }
 {
-    let core = Core::new(alloc, directory, buffers, store)?;
-    Engine::new(alloc, core)
+    tell(rt, fault);
+    match fault {
+        StartFault::Journal(_) => JOURNAL_FAILED,
+        StartFault::Resume(_) | StartFault::Short => FAILED,
+    }
 }
 
 // What is served: the world of a configuration, by the access that the journal keeps.
@@ -249,25 +271,15 @@ fn keep<'a>(
     rt: &'a HostRuntime,
     ledger: FileLedger<'a>,
     directory: Directory,
-    configured: Buffers<GapText>,
+    configured: &Buffers<GapText>,
     files: Vec<BufferFile>,
 ) -> Result<KeptEngine<'a>, u8>
     ensures { IfErr result (λ status. status ≢ 0) }
 {
-    let buffers = match join(rt.alloc(), &directory, &configured, &ledger) {
-        Ok(buffers) => buffers,
-        Err(fault) => return Err(refuse(rt, fault)),
-    };
     let store = open_store(rt, files)?;
-    let Ok(engine) = open_engine(rt.alloc(), directory, buffers, store) else {
-        return Err(refuse(rt, NO_MEMORY));
-    };
-    match Kept::new(engine, ledger) {
+    match start(rt.alloc(), directory, configured, store, ledger) {
         Ok(kept) => Ok(kept),
-        Err(fault) => {
-            tell(rt, fault);
-            Err(JOURNAL_FAILED)
-        }
+        Err(fault) => Err(end_start(rt, fault)),
     }
 }
 
@@ -285,7 +297,8 @@ fn open_kept<'a>(
     let mut ledger = open_ledger(rt, folder)?;
     mend_all(rt, &mut ledger, mendings)?;
     tell_differences(rt, &configured, &ledger);
-    keep(rt, ledger, directory, configured, files)
+    tell_unsaved(rt, &configured, &ledger);
+    keep(rt, ledger, directory, &configured, files)
 }
 
 /// Serves the configuration in a file on a port of the loopback address, with the journal in a folder, which is mended before. It returns

@@ -1,4 +1,5 @@
 pub mod Keeping
 pub mod Reading
+pub mod Snapshots
 pub mod Spelling
 pub mod Telling

@@ -10,13 +10,16 @@ pub enum LedgerFault {
     /// What is kept of the buffer of this name is no rights: its name, its owner, its owning group or an entry of its list does not read.
     #[error("buffer {0}: not as it was kept")]
     Row(String),
+    /// What is kept of a text is none: whether it is modified is not told by 0 or 1, or there are more or fewer than buffers.
+    #[error("a text: not as it was kept")]
+    Text,
     /// The tables refuse it or fail.
     #[error("{0}")]
     Tables(Fault),
     /// There are as many buffers as there is room for.
     #[error("too many buffers")]
     Full,
-    /// The rights are of another buffer than the one at the place.
+    /// The rights are of another buffer than the one at the place, or a text is of none.
     #[error("another buffer")]
     Other,
     /// The clock does not tell the time.

@@ -4,6 +4,7 @@ use crate::spelling::name_text;
 use mgs_journal::Told;
 use mgs_model::{Decision, Name};
 use mgs_tables::{EventRow, put_events};
+use mgs_wire::Refusal;
 use sqlite::{Alter, Connection};
 use std::alloc::{AllocError, Global};
 
@@ -15,13 +16,21 @@ pub(crate) struct Gathered {
     pub(crate) told: Told,
 }
 
-/// What the row of an event that is about no buffer is made of.
+/// What the row of an event that is gathered is made of.
 #[derive(Drop)]
 pub(crate) struct Words {
     at: i64,
-    user: Name,
+    user: Option<Name>,
     what: &'static str,
+    buffer: Option<Name>,
     detail: String,
+}
+
+fn name_or<'a>(name: &'a Option<Name>, none: &'a str) -> &'a str {
+    match name {
+        Some(name) => name_text(name),
+        None => none,
+    }
 }
 
 impl Words {
@@ -29,9 +38,9 @@ impl Words {
     pub(crate) fn row(&self) -> EventRow<'_> {
         EventRow {
             at: self.at,
-            user: name_text(&self.user),
+            user: name_or(&self.user, "-"),
             what: self.what,
-            buffer: "",
+            buffer: name_or(&self.buffer, ""),
             detail: self.detail.as_str(),
         }
     }
@@ -51,9 +60,24 @@ fn decision_detail(alloc: Global, decision: Decision) -> Result<String, AllocErr
     }
 }
 
+fn refusal_word(cause: Refusal) -> &'static str {
+    match cause {
+        Refusal::Line => "no login line",
+        Refusal::NoUser => "no user",
+        Refusal::Ticket => "ticket",
+        Refusal::Size => "size",
+        Refusal::Full => "full",
+        Refusal::Short => "no memory",
+    }
+}
+
 fn detail_of(alloc: Global, told: Told) -> Result<String, AllocError> {
     match told {
-        Told::Came(_) => Ok(String::new(alloc)),
+        Told::Came(_) | Told::Saved(_, _) => Ok(String::new(alloc)),
+        Told::Refused(_, cause) | Told::RefusedUnnamed(cause) => String::from_str(
+            alloc,
+            refusal_word(cause),
+        ),
         Told::Quit(_) => format!(in alloc; "quit"),
         Told::Closed(_) => format!(in alloc; "closed"),
         Told::FellBehind(_) => format!(in alloc; "slow"),
@@ -64,18 +88,30 @@ fn detail_of(alloc: Global, told: Told) -> Result<String, AllocError> {
 fn what_of(told: Told) -> &'static str {
     match told {
         Told::Came(_) => "login",
+        Told::Refused(_, _) | Told::RefusedUnnamed(_) => "refused",
         Told::Quit(_) | Told::Closed(_) | Told::FellBehind(_) => "end",
         Told::Denied(_, _) => "denied",
+        Told::Saved(_, _) => "save",
     }
 }
 
-fn user_of(told: Told) -> Name {
+fn user_of(told: Told) -> Option<Name> {
     match told {
-        Told::Came(user) => user,
-        Told::Quit(user) => user,
-        Told::Closed(user) => user,
-        Told::FellBehind(user) => user,
-        Told::Denied(user, _) => user,
+        Told::Came(user) => Some(user),
+        Told::Refused(user, _) => Some(user),
+        Told::RefusedUnnamed(_) => None,
+        Told::Quit(user) => Some(user),
+        Told::Closed(user) => Some(user),
+        Told::FellBehind(user) => Some(user),
+        Told::Denied(user, _) => Some(user),
+        Told::Saved(user, _) => Some(user),
+    }
+}
+
+fn buffer_of(told: Told) -> Option<Name> {
+    match told {
+        Told::Saved(_, buffer) => Some(buffer),
+        _ => None,
     }
 }
 
@@ -84,6 +120,7 @@ fn words_of(alloc: Global, gathered: &Gathered) -> Result<Words, AllocError> {
         at: gathered.at,
         user: user_of(gathered.told),
         what: what_of(gathered.told),
+        buffer: buffer_of(gathered.told),
         detail: detail_of(alloc, gathered.told)?,
     })
 }
@@ -97,7 +134,8 @@ pub(crate) fn all_words(alloc: Global, gathered: &[Gathered]) -> Result<Vec<Word
     Ok(all)
 }
 
-fn rows_of(alloc: Global, all: &[Words]) -> Result<Vec<EventRow<'_>>, LedgerFault> {
+/// The rows of the events, lent.
+pub(crate) fn rows_of(alloc: Global, all: &[Words]) -> Result<Vec<EventRow<'_>>, LedgerFault> {
     let mut rows = Vec::with_capacity(alloc, all.len())?;
     for words in all {
         rows.push(words.row())?;

@@ -1,17 +1,21 @@
 // The ledger.
-ghost use Rattle.std.specs.Prelude.{◌≡◌, ◌∷◌, ◌++◌, ◌<◌, [], Ok, Some, IfOk, IfSome, OnOk, length, remove, slice_get, slice_set};
+ghost use Rattle.std.specs.Prelude.{◌≡◌, ◌∷◌, ◌++◌, ◌<◌, [], Ok, None, Some, IfOk, IfSome, OnErr, OnOk};
+ghost use Rattle.std.specs.Prelude.{get_or, length, remove, slice_get, slice_set, string_bytes};
 ghost use Rattle.sqlite.specs.State.{HasCleanDisk};
 ghost use Rattle.sqlite.specs.Held.{state};
 ghost use Rattle.mgs_ledger.specs.Keeping.{IsAdded, IsRemoved, IsSet};
-ghost use Rattle.mgs_ledger.specs.Reading.{AreRead};
+ghost use Rattle.mgs_ledger.specs.Reading.{AreResumed};
+ghost use Rattle.mgs_ledger.specs.Snapshots.{IsTextPut};
 
 use crate::fault::LedgerFault;
 use crate::log::Log;
 use crate::reading::read_values;
+use crate::snapshot::{SnapshotValue, snapshot_at, snapshot_in};
 use crate::taken::{free, has_name, read_taken};
+use crate::texts::read_snapshots;
 use crate::value::{RightsValue, lent, lent_at, value_of};
 use mgs_buffers::Rights;
-use mgs_journal::{Journal, JournalFault, Told};
+use mgs_journal::{Journal, JournalFault, Snapshot, Told};
 use mgs_model::Name;
 use sqlite::{Alter, Connection};
 use std::alloc::Global;
@@ -27,6 +31,8 @@ pub struct Ledger<S: Alter + Drop, C: Clock + Drop, W: Write + Drop> {
     log: Log<S, C, W>,
     // The rights in the tables, in the order of creation.
     rows: Vec<RightsValue>,
+    // What is kept of each buffer's text, as UTF-8, in the same order.
+    texts: Vec<Option<SnapshotValue>>,
     // The names whose last buffer a user made or killed before the ledger went on.
     taken: Vec<Name>,
 }
@@ -36,20 +42,26 @@ impl<S: Alter + Drop, C: Clock + Drop, W: Write + Drop> Ledger<S, C, W> {
     ///
     /// # Errors
     ///
-    /// `Row` where what is kept of a buffer does not read, `Tables` where they fail, and `Short` for want of memory. Nothing is changed
-    /// then.
+    /// `Row` where what is kept of a buffer does not read, `Text` where what is kept of a text does not, `Tables` where they fail, and
+    /// `Short` for want of memory. Nothing is changed then.
     pub fn resume(
         mut conn: Connection<S>,
         alloc: Global,
         clock: C,
         out: W,
     ) -> Result<Ledger<S, C, W>, LedgerFault>
-        ensures { IfOk result (λ l. (read : _) × (HasCleanDisk (state S.Store read) → AreRead (state S.Store conn) (state S.Store read) l.rows.items)) }
+        ensures { IfOk result (λ l. AreResumed S.Store conn l.rows.items l.texts.items) }
     {
         let rows = read_values(&mut conn, alloc)?;
+        let texts = read_snapshots(&mut conn, alloc, rows.len())?;
         let taken = read_taken(&mut conn, alloc)?;
         let log = Log::new(conn, alloc, clock, out)?;
-        Ok(Ledger { log, rows, taken })
+        Ok(Ledger {
+            log,
+            rows,
+            texts,
+            taken,
+        })
     }
 
     /// What is kept of the buffer of this name goes, and the name is free: the next buffer of it is the configuration's. The event is a kill
@@ -60,7 +72,7 @@ impl<S: Alter + Drop, C: Clock + Drop, W: Write + Drop> Ledger<S, C, W> {
     /// `Tables` where the tables fail, and `Short` for want of memory.
     pub fn forget(&mut self, name: &Name) -> Result<(), LedgerFault> {
         match place_of(self.rows.as_slice(), name) {
-            Some(i) => remove_row(&mut self.log, &mut self.rows, None, i)?,
+            Some(i) => remove_row(&mut self.log, &mut self.rows, &mut self.texts, None, i)?,
             None => self.log.forget(name)?,
         }
         free(&mut self.taken, name);
@@ -76,27 +88,31 @@ impl<S: Alter + Drop, C: Clock + Drop, W: Write + Drop> Ledger<S, C, W> {
         let Ledger {
             log,
             rows: _,
+            texts: _,
             taken: _,
         } = self;
         log.close()
     }
 }
 
-// Has the log add the rights, and keeps them as the last. There is room for one more, or nothing is changed.
+// Has the log add the rights, and keeps them as the last, without a text. There is room for one more, or nothing is changed.
 fn add_row<S: Alter + Drop, C: Clock + Drop, W: Write + Drop>(
     log: &mut Log<S, C, W>,
     rows: &mut Vec<RightsValue>,
+    texts: &mut Vec<Option<SnapshotValue>>,
     user: Option<&Name>,
     rights: &Rights<'_>,
 ) -> Result<(), LedgerFault>
     ensures kept { OnOk result (rows.new.items ≡ rows.old.items ++ rights.now ∷ []) }
+    ensures texts { OnOk result (texts.new.items ≡ texts.old.items ++ None ∷ []) }
     ensures committed { HasCleanDisk (state S.Store log.new.conn) → OnOk result (IsAdded S.Store rights.now log.new.conn) }
 {
-    if rows.len() >= rows.capacity() {
+    if rows.len() >= rows.capacity() || texts.len() >= texts.capacity() {
         return Err(LedgerFault::Full);
     }
     log.add(user, rights)?;
     rows.push_reserved(value_of(rights));
+    texts.push_reserved(None);
     Ok(())
 }
 
@@ -117,19 +133,49 @@ fn set_row<S: Alter + Drop, C: Clock + Drop, W: Write + Drop>(
     Ok(())
 }
 
+// Has the log keep the text of the buffer at a place.
+fn set_text_at<S: Alter + Drop, C: Clock + Drop, W: Write + Drop>(
+    log: &mut Log<S, C, W>,
+    rows: &[RightsValue],
+    texts: &mut Vec<Option<SnapshotValue>>,
+    i: usize,
+    value: SnapshotValue,
+) -> Result<(), LedgerFault>
+    requires { i < length rows.now }
+    ensures texts { OnOk result (texts.new.items ≡ slice_set texts.old.items i (Some value)) }
+    ensures stays { OnErr result (texts.new.items ≡ texts.old.items) }
+    ensures gathered { OnOk result (log.new.gathered.items ≡ []) }
+    ensures committed { HasCleanDisk (state S.Store log.new.conn)
+        → OnOk result ((r : _) → slice_get rows.now i ≡ Some r → IsTextPut S.Store r.name value log.new.conn) }
+{
+    if i >= texts.len() {
+        return Err(LedgerFault::Other);
+    }
+    log.keep_text(lent(&rows[i]).name, &snapshot_in(&value))?;
+    texts[i] = Some(value);
+    Ok(())
+}
+
+// Has the log take the rights of the buffer at a place out, and with them its text.
 fn remove_row<S: Alter + Drop, C: Clock + Drop, W: Write + Drop>(
     log: &mut Log<S, C, W>,
     rows: &mut Vec<RightsValue>,
+    texts: &mut Vec<Option<SnapshotValue>>,
     user: Option<&Name>,
     i: usize,
 ) -> Result<(), LedgerFault>
     requires { i < length rows.old.items }
     ensures kept { OnOk result (rows.new.items ≡ remove rows.old.items i) }
+    ensures texts { OnOk result (texts.new.items ≡ remove texts.old.items i) }
     ensures committed { HasCleanDisk (state S.Store log.new.conn)
         → OnOk result ((old : _) → slice_get rows.old.items i ≡ Some old → IsRemoved S.Store old log.new.conn) }
 {
+    if i >= texts.len() {
+        return Err(LedgerFault::Other);
+    }
     log.remove(user, &lent(&rows[i]))?;
     let _ = rows.remove(i);
+    let _ = texts.remove(i);
     Ok(())
 }
 
@@ -152,13 +198,17 @@ fn journal_answer(answer: Result<(), LedgerFault>) -> Result<(), JournalFault>
 
 impl<S: Alter + Drop, C: Clock + Drop, W: Write + Drop> Journal for Ledger<S, C, W> {
     ghost use Rattle.mgs_model.specs.Access.{is_among};
-    ghost use Rattle.mgs_ledger.specs.Telling.{made_room, IsGathered};
+    ghost use Rattle.mgs_ledger.specs.Telling.{GathersBy, IsGathered, made_room};
 
     ghost kept = { λ l. l.rows.items };
 
+    ghost texts = { λ l. l.texts.items };
+
     ghost taken = { λ l name. is_among name l.taken.items };
 
-    ghost tells = { λ old told new. IsGathered told (made_room old.log.gathered.items) new.log.gathered.items };
+    ghost does = { λ old act new. GathersBy act old.log.gathered.items new.log.gathered.items };
+
+    ghost fails = { λ old new. Unit {0} };
 
     fn is_taken(&self, name: &Name) -> bool {
         has_name(self.taken.as_slice(), name)
@@ -169,43 +219,100 @@ impl<S: Alter + Drop, C: Clock + Drop, W: Write + Drop> Journal for Ledger<S, C,
     }
 
     // The tables have the rights, and with them the event that they were made, once the call returns.
-    fn add(&mut self, user: Option<&Name>, rights: &Rights<'_>) -> Result<(), JournalFault>
+    fn add(&mut self, user: Option<Name>, rights: &Rights<'_>) -> Result<(), JournalFault>
         ensures kept { OnOk result (self.new.rows.items ≡ self.old.rows.items ++ rights.now ∷ []) }
+        ensures texts { OnOk result (self.new.texts.items ≡ self.old.texts.items ++ None ∷ []) }
         ensures committed { HasCleanDisk (state S.Store self.new.log.conn) → OnOk result (IsAdded S.Store rights.now self.new.log.conn) }
     {
-        journal_answer(add_row(&mut self.log, &mut self.rows, user, rights))
+        journal_answer(add_row(
+            &mut self.log,
+            &mut self.rows,
+            &mut self.texts,
+            user.as_ref(),
+            rights,
+        ))
     }
 
     // The tables have the rights, where any are others, with an event for each part that is another, once the call returns.
-    fn set(
-        &mut self,
-        user: Option<&Name>,
-        i: usize,
-        rights: &Rights<'_>,
-    ) -> Result<(), JournalFault>
+    fn set(&mut self, user: Option<Name>, i: usize, rights: &Rights<'_>) -> Result<(), JournalFault>
         requires { i < length self.old.rows.items }
         ensures kept { OnOk result (self.new.rows.items ≡ slice_set self.old.rows.items i rights.now) }
+        ensures texts { self.new.texts.items ≡ self.old.texts.items }
         ensures committed { HasCleanDisk (state S.Store self.new.log.conn)
             → OnOk result ((old : _) → slice_get self.old.rows.items i ≡ Some old → IsSet S.Store old rights.now self.new.log.conn) }
     {
-        journal_answer(set_row(&mut self.log, &mut self.rows, user, i, rights))
+        journal_answer(set_row(&mut self.log, &mut self.rows, user.as_ref(), i, rights))
     }
 
     // The tables have nothing of the buffer any more, but the event that it was killed, once the call returns.
-    fn remove(&mut self, user: Option<&Name>, i: usize) -> Result<(), JournalFault>
+    fn remove(&mut self, user: Option<Name>, i: usize) -> Result<(), JournalFault>
         requires { i < length self.old.rows.items }
         ensures kept { OnOk result (self.new.rows.items ≡ remove self.old.rows.items i) }
+        ensures texts { OnOk result (self.new.texts.items ≡ remove self.old.texts.items i) }
         ensures committed { HasCleanDisk (state S.Store self.new.log.conn)
             → OnOk result ((old : _) → slice_get self.old.rows.items i ≡ Some old → IsRemoved S.Store old self.new.log.conn) }
     {
-        journal_answer(remove_row(&mut self.log, &mut self.rows, user, i))
+        journal_answer(remove_row(
+            &mut self.log,
+            &mut self.rows,
+            &mut self.texts,
+            user.as_ref(),
+            i,
+        ))
     }
 
-    fn tell(&mut self, told: Told) -> Result<(), JournalFault> {
+    fn text(&self, i: usize) -> Option<Snapshot<'_>> {
+        snapshot_at(self.texts.as_slice(), i)
+    }
+
+    // A second is over since one was kept.
+    fn is_text_due(&self) -> bool {
+        self.log.is_text_due()
+    }
+
+    // The tables have the text, and with it what was gathered, once the call returns.
+    fn set_text(
+        &mut self,
+        i: usize,
+        body: String,
+        modified: bool,
+        file: i64,
+    ) -> Result<(), JournalFault>
+        requires { i < length self.old.rows.items }
+        ensures kept { self.new.rows.items ≡ self.old.rows.items }
+        ensures texts { OnOk result (self.new.texts.items
+            ≡ slice_set self.old.texts.items i (Some (record { body = string_bytes body; modified = modified; file = file }))) }
+        ensures gathered { OnOk result (self.new.log.gathered.items ≡ []) }
+        ensures committed { HasCleanDisk (state S.Store self.new.log.conn)
+            → OnOk result ((r : _) → slice_get self.old.rows.items i ≡ Some r
+            → IsTextPut S.Store r.name (record { body = string_bytes body; modified = modified; file = file }) self.new.log.conn) }
+    {
+        let value = SnapshotValue {
+            body,
+            modified,
+            file,
+        };
+        journal_answer(set_text_at(
+            &mut self.log,
+            self.rows.as_slice(),
+            &mut self.texts,
+            i,
+            value,
+        ))
+    }
+
+    fn tell(&mut self, told: Told) -> Result<(), JournalFault>
+        ensures kept { OnOk result (self.new.rows.items ≡ self.old.rows.items) }
+        ensures texts { self.new.texts.items ≡ self.old.texts.items }
+        ensures told { OnOk result (IsGathered told (made_room self.old.log.gathered.items) self.new.log.gathered.items) }
+    {
         journal_answer(self.log.gather(told))
     }
 
-    fn tick(&mut self) -> Result<(), JournalFault> {
+    fn tick(&mut self) -> Result<(), JournalFault>
+        ensures kept { OnOk result (self.new.rows.items ≡ self.old.rows.items) }
+        ensures texts { self.new.texts.items ≡ self.old.texts.items }
+    {
         journal_answer(self.log.commit_due())
     }
 }

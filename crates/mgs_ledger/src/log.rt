@@ -4,6 +4,7 @@ ghost use Rattle.sqlite.specs.State.{HasCleanDisk};
 ghost use Rattle.sqlite.specs.Held.{state};
 ghost use Rattle.mgs_ledger.specs.Telling.{made_room, IsGathered};
 ghost use Rattle.mgs_ledger.specs.Keeping.{IsAdded, IsRemoved, IsPut, TakePlace, IsSet, named, with_list, with_owner};
+ghost use Rattle.mgs_ledger.specs.Snapshots.{IsTextPut};
 
 use crate::fault::LedgerFault;
 use crate::gathering::{Gathered, Words, all_words, put_all};
@@ -11,9 +12,10 @@ use crate::line::print_line;
 use crate::same::{is_same_group, is_same_list, is_same_name};
 use crate::spelling::{name_text, push_list};
 use crate::tables::{add_rights, drop_rights, set_rights};
+use crate::texts::keep_text;
 use mgs_acl::List;
 use mgs_buffers::Rights;
-use mgs_journal::Told;
+use mgs_journal::{Snapshot, Told};
 use mgs_model::{Name, Owners};
 use mgs_tables::{EventRow, newest, put_event};
 use sqlite::{Alter, Connection};
@@ -33,6 +35,8 @@ pub(crate) struct Log<S: Alter + Drop, C: Clock + Drop, W: Write + Drop> {
     out: W,
     // The number of the newest event in the tables.
     number: i64,
+    // The second in which a text was kept last.
+    text_second: i64,
     // What is not committed yet, `GATHER_LIMIT` at most. The room for that is there from the start.
     gathered: Vec<Gathered>,
 }
@@ -120,6 +124,7 @@ impl<S: Alter + Drop, C: Clock + Drop, W: Write + Drop> Log<S, C, W> {
             clock,
             out,
             number,
+            text_second: 0,
             gathered,
         })
     }
@@ -147,6 +152,7 @@ impl<S: Alter + Drop, C: Clock + Drop, W: Write + Drop> Log<S, C, W> {
             clock: _,
             out: _,
             number: _,
+            text_second: _,
             gathered: _,
         } = self;
         Ok(conn)
@@ -237,6 +243,27 @@ impl<S: Alter + Drop, C: Clock + Drop, W: Write + Drop> Log<S, C, W> {
         };
         put_event(&mut self.conn, &event)?;
         self.number = print_one(&mut self.out, self.alloc, self.number, &event);
+        Ok(())
+    }
+
+    /// Whether the second is over in which a text was kept last.
+    pub(crate) fn is_text_due(&self) -> bool {
+        match seconds(&self.clock) {
+            Ok(now) => now != self.text_second,
+            Err(_) => true,
+        }
+    }
+
+    /// A buffer has this text: commits that with all that is gathered, in one transaction.
+    pub(crate) fn keep_text(&mut self, name: &Name, text: &Snapshot<'_>) -> Result<(), LedgerFault>
+        ensures gathered { OnOk result (self.new.gathered.items ≡ []) }
+        ensures committed { HasCleanDisk (state S.Store self.new.conn) → OnOk result (IsTextPut S.Store name.now text.now self.new.conn) }
+    {
+        let all = all_words(self.alloc, self.gathered.as_slice())?;
+        self.text_second = seconds(&self.clock)?;
+        keep_text(&mut self.conn, self.alloc, name, text, all.as_slice())?;
+        self.gathered.clear();
+        self.number = print_all(&mut self.out, self.alloc, self.number, all.as_slice());
         Ok(())
     }
 

@@ -51,7 +51,7 @@ pub(crate) fn add(
         owners: &owners,
         list: &list,
     };
-    desk.add(Some(&name("ann")?), &rights)?;
+    desk.add(Some(name("ann")?), &rights)?;
     Ok(())
 }
 
@@ -74,7 +74,7 @@ pub(crate) fn set(
         owners: &owners,
         list: &list,
     };
-    Ok(desk.set(Some(&name("ann")?), 0, &rights).is_ok())
+    Ok(desk.set(Some(name("ann")?), 0, &rights).is_ok())
 }
 
 /// Has nobody kill the first buffer.
@@ -84,6 +84,30 @@ pub(crate) fn remove(desk: &mut Desk<'_>) -> Result<(), Fail> {
     }
     desk.remove(None, 0)?;
     Ok(())
+}
+
+/// Keeps a text of a buffer.
+pub(crate) fn set_text(
+    desk: &mut Desk<'_>,
+    alloc: Global,
+    i: usize,
+    body: &str,
+    modified: bool,
+    file: i64,
+) -> Result<(), Fail> {
+    if desk.rights(i).is_none() {
+        return Err(Fail::new("no buffer"));
+    }
+    desk.set_text(i, String::from_str(alloc, body)?, modified, file)?;
+    Ok(())
+}
+
+/// What is kept of the text of a buffer: whether it was modified, the sum of its file's and the text, or `-`.
+pub(crate) fn text(alloc: Global, desk: &Desk<'_>, i: usize) -> Result<String, Fail> {
+    match desk.text(i) {
+        None => Ok(String::from_str(alloc, "-")?),
+        Some(text) => Ok(format!(in alloc; "{} {} {}", text.modified, text.file, text.body)?),
+    }
 }
 
 /// Tells that bob came, so many times.

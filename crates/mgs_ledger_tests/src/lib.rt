@@ -1,4 +1,4 @@
-//! Tests of the ledger over tables in memory: what comes back of rights, what is told of changes, when what is gathered is committed, and
+//! Tests of the ledger over tables in memory: what comes back of rights and texts, what is told of changes, when what is gathered is committed, and
 //! which lines an audit prints.
 #![tactic(auto)]
 
@@ -14,3 +14,5 @@ mod gathered;
 mod kept;
 #[cfg(test)]
 mod taken;
+#[cfg(test)]
+mod texts;

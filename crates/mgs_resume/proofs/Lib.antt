@@ -1,1 +1,2 @@
+mod Contents
 mod Walks

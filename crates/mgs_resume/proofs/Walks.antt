@@ -105,7 +105,7 @@ length_added : {A : Type 0} (xs : List A) (x : A) → length (xs ++ x ∷ []) �
 length_added [] x = refl
 length_added (y ∷ xs) x = ap suc (length_added xs x)
 
-longer : (ks ls : List MarkedBuffer) (r : Rules) → rules_kept ls ≡ rules_kept ks ++ r ∷ [] → length ls ≡ suc (length ks)
+pub longer : (ks ls : List MarkedBuffer) (r : Rules) → rules_kept ls ≡ rules_kept ks ++ r ∷ [] → length ls ≡ suc (length ks)
 longer ks ls r more = sym (length_kept ls) ∙ ap length more ∙ length_added (rules_kept ks) r ∙ ap suc (length_kept ks)
 
 within : {A : Type 0} (xs : List A) (i : ℕ) (x : A) → Some x ≡ slice_get xs i → i < length xs

@@ -1,8 +1,7 @@
 -- By what access the buffers of a start are decided.
-use Rattle.std.specs.Prelude.{◌≡◌, ℕ, suc, drop, Bool, true, ◌||◌, is_some, find, cond, List, [], ◌∷◌, ◌++◌}
+use Rattle.std.specs.Prelude.{◌≡◌, ℕ, suc, drop, Bool, ◌||◌, is_some, find, cond, List, [], ◌∷◌, ◌++◌}
 use Rattle.mgs_model.specs.Names.{same_name}
 use Rattle.mgs_laws.specs.Apart.{Rules}
-use Rattle.mgs_buffers.specs.MarkedBuffer.{MarkedBuffer}
 
 abbrev pub is_of : List ℕ → Rules → Bool
 is_of name r = same_name name r.name
@@ -19,7 +18,3 @@ with_others taken kept (r ∷ rs) = with_others taken (cond (taken r.name || has
 -- one of a configuration was added where none before it has its name and no user took it: what the others make of it is as before
 abbrev pub AddsOther : (List ℕ → Bool) → ℕ → List Rules → List Rules → List Rules → Type 0
 AddsOther taken i rules old new = (whole : List Rules) → with_others taken old (drop i rules) ≡ whole → with_others taken new (drop (suc i) rules) ≡ whole
-
--- a buffer whose name a user took has no text of a configuration
-abbrev pub HasOwnText : (List ℕ → Bool) → MarkedBuffer → Type 0
-HasOwnText taken k = taken k.buffer.name ≡ true → k.buffer.text ≡ []

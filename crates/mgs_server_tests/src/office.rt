@@ -1,5 +1,4 @@
 // A server of one buffer of ann.
-ghost use Rattle.std.specs.Prelude.{IfOk};
 ghost use Rattle.mgs_buffers.specs.MarkedBuffer.{AreUnmarked};
 
 use mgs_acl::{List, read_entry};
@@ -87,18 +86,14 @@ fn add_tickets(tickets: &mut Tickets) -> Result<(), Fail> {
 }
 
 // The users with their tickets, and the notes, which are empty.
-fn furnish(config: &mut Config, list: List) -> Result<(), Fail>
-    ensures { AreUnmarked config.old.buffers → AreUnmarked config.new.buffers }
-{
+fn furnish(config: &mut Config, list: List) -> Result<(), Fail> {
     add_users(&mut config.directory)?;
     add_tickets(&mut config.tickets)?;
     add_buffer(&mut config.buffers, "notes", list)
 }
 
 // What the office starts with.
-fn office_config(alloc: Global, list: List) -> Result<Config, Fail>
-    ensures { IfOk result (λ config. AreUnmarked config.buffers) }
-{
+fn office_config(alloc: Global, list: List) -> Result<Config, Fail> {
     let mut config = Config {
         directory: Directory::new(alloc),
         tickets: Tickets::new(alloc),

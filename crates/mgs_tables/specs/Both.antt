@@ -1,20 +1,28 @@
--- A change of one row and its event in one transaction.
-use Rattle.std.specs.Prelude.{◌≡◌, ◌≢◌, ℕ, true, List, Ok}
+-- A change of one row and its events in one transaction.
+use Rattle.std.specs.Prelude.{◌≡◌, ◌≢◌, ℕ, true, List, [], ◌∷◌, Ok}
+use Rattle.sqlite.specs.Tree.{Trees}
 use Rattle.sqlite.specs.Order.{Row}
 use Rattle.sqlite.specs.Store.{Ghosts}
 use Rattle.sqlite.specs.Effect.{Database}
 use Rattle.sqlite.specs.State.{State, Executes}
 use Rattle.sqlite.specs.Held.{Held, state}
-use Rattle.mgs_tables.specs.Texts.{insert_event}
+use Rattle.mgs_tables.specs.Events.{RunAll}
 
--- the database is what the change, of one row, and then the event make of the old one
-pub record RanBoth {S : Type 0} (g : Ghosts S) (change : List ℕ) (of_change of_event : Row) (old : Held S) (db : Database) : Type 0 where
+-- the database is what the change, of one row, and then the events make of the old one
+pub record RanWith {S : Type 0} (g : Ghosts S) (change : List ℕ) (of_change : Row) (events : List Row) (old : Held S) (db : Database) : Type 0 where
   pub mid : Held S
   pub last : Held S
-  pub count : ℕ
   pub one : Executes change of_change (state g (record old { in_transaction = true })) (state g mid) (Ok 1)
-  pub two : Executes insert_event of_event (state g mid) (state g last) (Ok count)
+  pub all : RunAll g events mid last
   pub is : db ≡ (state g last).now
+
+-- and with one event
+abbrev pub RanBoth : {S : Type 0} → Ghosts S → List ℕ → Row → Row → Held S → Database → Type 0
+RanBoth g change of_change event old db = RanWith g change of_change (event ∷ []) old db
+
+-- a crash can leave the trees of a database that was made so
+abbrev pub Left : (Database → Type 0) → Trees → Type 0
+Left Made trees = (db : Database) × Made db × (trees ≡ db.trees)
 
 -- nothing is changed
 pub record IsUndone (old new : State) : Type 0 where

@@ -13,7 +13,7 @@ use Rattle.sqlite.specs.Start.{FindsIn}
 use Rattle.mgs_tables.specs.declared.opening.OpenFault.{OpenFault}
 use Rattle.mgs_tables.specs.declared.opening.OpenFault.TheVariants as fault
 use Rattle.mgs_tables.specs.Texts.{select_version, count_objects, count_tables, table_texts}
-use Rattle.mgs_tables.specs.Making.{HasMade}
+use Rattle.mgs_tables.specs.Making.{HasMade, HasGrown}
 use Rattle.mgs_tables.specs.Reading.{ShowsNumber}
 
 -- an error of SQLite's own is one of the disk, the file or the memory, and any other tells of other tables
@@ -26,11 +26,23 @@ fault_of (SqliteFailure code.DiskFull) = fault.DiskFull
 fault_of (SqliteFailure _) = fault.System
 fault_of _ = fault.Foreign
 
--- the file says version 1, and has the three tables as they are made
+-- the file has three of the four tables as they are made, and is given the last, which it did not have, with the version
+pub record HasGrownOnly {S : Type 0} (g : Ghosts S) (old new : Held S) : Type 0 where
+  pub mid : Held S
+  pub tables : ShowsNumber count_tables table_texts (state g old) (state g mid) (pos 3)
+  pub grown : HasGrown g mid (state g new).committed
+
+-- it has the four tables as they are made and says version 2, or it says version 1 and is made so
+abbrev pub HasTables : {S : Type 0} → Ghosts S → Held S → Held S → ℤ → Type 0
+HasTables g old new version =
+    ((version ≡ pos 2) × ShowsNumber count_tables table_texts (state g old) (state g new) (pos 4)) ⊎ ((version ≡ pos 1) × HasGrownOnly g old new)
+
+-- the version that the file says, and its tables
 pub record IsOurs {S : Type 0} (g : Ghosts S) (old new : Held S) : Type 0 where
   pub mid : Held S
-  pub version : ShowsNumber select_version [] (state g old) (state g mid) (pos 1)
-  pub tables : ShowsNumber count_tables table_texts (state g mid) (state g new) (pos 3)
+  pub number : ℤ
+  pub version : ShowsNumber select_version [] (state g old) (state g mid) number
+  pub tables : HasTables g mid new number
 
 -- the file had nothing and was given the tables, or it had something, which was found to be these tables
 pub record IsReady {S : Type 0} (g : Ghosts S) (old new : Held S) : Type 0 where

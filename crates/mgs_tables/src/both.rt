@@ -1,13 +1,13 @@
-//! A change of the rights and the event that tells of it, in one transaction.
+//! A change of one row and the events that are told with it, in one transaction.
 
-ghost use Rattle.std.specs.Prelude.{◌≡◌, false, Ok, Err, OnOk, OnErr, IsTrue};
+ghost use Rattle.std.specs.Prelude.{◌≡◌, false, map, Ok, Err, OnOk, OnErr, IsTrue};
 ghost use Rattle.sqlite.specs.State.{HasCleanDisk, Survives, KeepsCommit, ExecutesInside};
 ghost use Rattle.sqlite.specs.Values.{bound};
 ghost use Rattle.sqlite.specs.Held.{state};
-ghost use Rattle.mgs_tables.specs.Both.{RanBoth, IsUndone, HasOtherCount, FindsNone};
+ghost use Rattle.mgs_tables.specs.Both.{RanBoth, RanWith, Left, IsUndone, HasOtherCount, FindsNone};
 ghost use Rattle.mgs_tables.specs.Rows.{event_values};
 
-use crate::events::put_event_within;
+use crate::events::put_all;
 use crate::rows::{EventRow, Fault};
 use sqlite::{Alter, Connection, Error, ErrorCode, Transaction};
 use sqlite_value::value::ValueRef;
@@ -34,6 +34,33 @@ fn change_one<S: Alter>(
     Ok(())
 }
 
+/// Makes the change of one row and adds the events in their order, all of that or nothing, in one transaction.
+pub(crate) fn write_with<S: Alter>(
+    conn: &mut Connection<S>,
+    change: &str,
+    of_change: &[ValueRef<'_>],
+    events: &[EventRow<'_>],
+) -> Result<(), Fault>
+    ensures both { HasCleanDisk (state S.Store conn.new)
+        → OnOk result (RanWith S.Store change.now (bound of_change.now) (map event_values events.now) conn.old (state S.Store conn.new).committed) }
+    ensures neither { HasCleanDisk (state S.Store conn.new) → IsTrue (state S.Store conn.new).is_open
+        → OnErr result (IsUndone (state S.Store conn.old) (state S.Store conn.new)) }
+    ensures missing { HasCleanDisk (state S.Store conn.new) → result ≡ Err Fault.NoBuffer
+        → FindsNone S.Store change.now (bound of_change.now) conn.old }
+    ensures mode { (state S.Store conn.old).in_transaction ≡ false → (state S.Store conn.new).in_transaction ≡ false }
+    ensures crash { Survives (state S.Store conn.old) (state S.Store conn.new)
+        (Left (RanWith S.Store change.now (bound of_change.now) (map event_values events.now) conn.old)) }
+{
+    if !conn.is_autocommit() {
+        return Err(Fault::Sqlite(Error::SqliteFailure(ErrorCode::TransactionState)));
+    }
+    let mut tx = conn.transaction();
+    change_one(&mut tx, change, of_change)?;
+    put_all(&mut tx, events)?;
+    tx.commit()?;
+    Ok(())
+}
+
 /// Makes the change of one row and adds the event, both or neither.
 pub(crate) fn write_both<S: Alter>(
     conn: &mut Connection<S>,
@@ -49,14 +76,7 @@ pub(crate) fn write_both<S: Alter>(
         → FindsNone S.Store change.now (bound of_change.now) conn.old }
     ensures mode { (state S.Store conn.old).in_transaction ≡ false → (state S.Store conn.new).in_transaction ≡ false }
     ensures crash { Survives (state S.Store conn.old) (state S.Store conn.new)
-        (λ trees. (db : _) × RanBoth S.Store change.now (bound of_change.now) (event_values event.now) conn.old db × (trees ≡ db.trees)) }
+        (Left (RanBoth S.Store change.now (bound of_change.now) (event_values event.now) conn.old)) }
 {
-    if !conn.is_autocommit() {
-        return Err(Fault::Sqlite(Error::SqliteFailure(ErrorCode::TransactionState)));
-    }
-    let mut tx = conn.transaction();
-    change_one(&mut tx, change, of_change)?;
-    put_event_within(&mut tx, event)?;
-    tx.commit()?;
-    Ok(())
+    write_with(conn, change, of_change, &[*event])
 }

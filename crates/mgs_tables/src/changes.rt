@@ -4,7 +4,7 @@ ghost use Rattle.std.specs.Prelude.{◌≡◌, false, [], ◌∷◌, Err, OnOk, 
 ghost use Rattle.sqlite.specs.declared.types.Value.TheVariants.{Text};
 ghost use Rattle.sqlite.specs.State.{HasCleanDisk, Survives};
 ghost use Rattle.sqlite.specs.Held.{state};
-ghost use Rattle.mgs_tables.specs.Both.{RanBoth, IsUndone, FindsNone};
+ghost use Rattle.mgs_tables.specs.Both.{RanBoth, Left, IsUndone, FindsNone};
 ghost use Rattle.mgs_tables.specs.Texts.{insert_buffer, update_buffer, delete_buffer};
 ghost use Rattle.mgs_tables.specs.Rows.{event_values, rights_values};
 
@@ -24,7 +24,7 @@ pub fn add_buffer<S: Alter>(
         → OnErr result (IsUndone (state S.Store conn.old) (state S.Store conn.new)) }
     ensures mode { (state S.Store conn.old).in_transaction ≡ false → (state S.Store conn.new).in_transaction ≡ false }
     ensures crash { Survives (state S.Store conn.old) (state S.Store conn.new)
-        (λ trees. (db : _) × RanBoth S.Store insert_buffer (rights_values rights.now) (event_values event.now) conn.old db × (trees ≡ db.trees)) }
+        (Left (RanBoth S.Store insert_buffer (rights_values rights.now) (event_values event.now) conn.old)) }
 {
     write_both(
         conn,
@@ -49,10 +49,11 @@ pub fn set_buffer<S: Alter>(
         → OnOk result (RanBoth S.Store update_buffer (rights_values rights.now) (event_values event.now) conn.old (state S.Store conn.new).committed) }
     ensures neither { HasCleanDisk (state S.Store conn.new) → IsTrue (state S.Store conn.new).is_open
         → OnErr result (IsUndone (state S.Store conn.old) (state S.Store conn.new)) }
-    ensures missing { HasCleanDisk (state S.Store conn.new) → result ≡ Err Fault.NoBuffer → FindsNone S.Store update_buffer (rights_values rights.now) conn.old }
+    ensures missing { HasCleanDisk (state S.Store conn.new) → result ≡ Err Fault.NoBuffer
+        → FindsNone S.Store update_buffer (rights_values rights.now) conn.old }
     ensures mode { (state S.Store conn.old).in_transaction ≡ false → (state S.Store conn.new).in_transaction ≡ false }
     ensures crash { Survives (state S.Store conn.old) (state S.Store conn.new)
-        (λ trees. (db : _) × RanBoth S.Store update_buffer (rights_values rights.now) (event_values event.now) conn.old db × (trees ≡ db.trees)) }
+        (Left (RanBoth S.Store update_buffer (rights_values rights.now) (event_values event.now) conn.old)) }
 {
     write_both(
         conn,
@@ -77,10 +78,11 @@ pub fn drop_buffer<S: Alter>(
         → OnOk result (RanBoth S.Store delete_buffer (Text name.now ∷ []) (event_values event.now) conn.old (state S.Store conn.new).committed) }
     ensures neither { HasCleanDisk (state S.Store conn.new) → IsTrue (state S.Store conn.new).is_open
         → OnErr result (IsUndone (state S.Store conn.old) (state S.Store conn.new)) }
-    ensures missing { HasCleanDisk (state S.Store conn.new) → result ≡ Err Fault.NoBuffer → FindsNone S.Store delete_buffer (Text name.now ∷ []) conn.old }
+    ensures missing { HasCleanDisk (state S.Store conn.new) → result ≡ Err Fault.NoBuffer
+        → FindsNone S.Store delete_buffer (Text name.now ∷ []) conn.old }
     ensures mode { (state S.Store conn.old).in_transaction ≡ false → (state S.Store conn.new).in_transaction ≡ false }
     ensures crash { Survives (state S.Store conn.old) (state S.Store conn.new)
-        (λ trees. (db : _) × RanBoth S.Store delete_buffer (Text name.now ∷ []) (event_values event.now) conn.old db × (trees ≡ db.trees)) }
+        (Left (RanBoth S.Store delete_buffer (Text name.now ∷ []) (event_values event.now) conn.old)) }
 {
     write_both(
         conn,

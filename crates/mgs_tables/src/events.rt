@@ -5,7 +5,7 @@ ghost use Rattle.sqlite.specs.State.{HasCleanDisk, Survives, KeepsCommit, Execut
 ghost use Rattle.sqlite.specs.Held.{state};
 ghost use Rattle.mgs_tables.specs.Texts.{insert_event, select_newest};
 ghost use Rattle.mgs_tables.specs.Rows.{event_values};
-ghost use Rattle.mgs_tables.specs.Both.{IsUndone};
+ghost use Rattle.mgs_tables.specs.Both.{Left, IsUndone};
 ghost use Rattle.mgs_tables.specs.Events.{RunAll, RanAll};
 ghost use Rattle.mgs_tables.specs.Reading.{ShowsNumber};
 
@@ -26,8 +26,8 @@ pub fn put_event<S: Alter>(conn: &mut Connection<S>, event: &EventRow<'_>) -> Re
     )
 }
 
-/// Adds an event within a transaction, which alone commits it.
-pub(crate) fn put_event_within<S: Alter>(
+// Adds an event within a transaction, which alone commits it.
+fn put_event_within<S: Alter>(
     tx: &mut Transaction<'_, S>,
     event: &EventRow<'_>,
 ) -> Result<usize, Error>
@@ -42,8 +42,11 @@ pub(crate) fn put_event_within<S: Alter>(
     )
 }
 
-// Adds each of the events within a transaction, in their order.
-fn put_all<S: Alter>(tx: &mut Transaction<'_, S>, events: &[EventRow<'_>]) -> Result<(), Error>
+/// Adds each of the events within a transaction, in their order.
+pub(crate) fn put_all<S: Alter>(
+    tx: &mut Transaction<'_, S>,
+    events: &[EventRow<'_>],
+) -> Result<(), Error>
     ensures same_reference { tx.new.conn.ghost_name ≡ tx.old.conn.ghost_name }
     ensures all { HasCleanDisk (state S.Store tx.new.conn.now) → IsTrue (state S.Store tx.old.conn.now).in_transaction
         → OnOk result (RunAll S.Store (map event_values events.now) tx.old.conn.now tx.new.conn.now) }
@@ -71,7 +74,7 @@ pub fn put_events<S: Alter>(conn: &mut Connection<S>, events: &[EventRow<'_>]) -
         → OnErr result (IsUndone (state S.Store conn.old) (state S.Store conn.new)) }
     ensures mode { (state S.Store conn.old).in_transaction ≡ false → (state S.Store conn.new).in_transaction ≡ false }
     ensures crash { Survives (state S.Store conn.old) (state S.Store conn.new)
-        (λ trees. (db : _) × RanAll S.Store (map event_values events.now) conn.old db × (trees ≡ db.trees)) }
+        (Left (RanAll S.Store (map event_values events.now) conn.old)) }
 {
     if !conn.is_autocommit() {
         return Err(Error::SqliteFailure(ErrorCode::TransactionState));

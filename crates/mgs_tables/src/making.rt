@@ -4,13 +4,31 @@ ghost use Rattle.std.specs.Prelude.{◌≡◌, false, ◌∷◌, [], IsTrue, IfO
 ghost use Rattle.sqlite.specs.State.{HasCleanDisk, Survives, CommitsShowing};
 ghost use Rattle.sqlite.specs.Held.{state};
 ghost use Rattle.mgs_tables.specs.Texts.{select_version, count_objects, count_tables, table_texts};
-ghost use Rattle.mgs_tables.specs.Both.{IsUndone};
-ghost use Rattle.mgs_tables.specs.Making.{HasMade};
+ghost use Rattle.mgs_tables.specs.Both.{Left, IsUndone};
+ghost use Rattle.mgs_tables.specs.Making.{HasRun, HasMade, HasGrown};
 ghost use Rattle.mgs_tables.specs.Reading.{ShowsNumber};
 
 use sqlite::{Alter, Connection, Error, ErrorCode, params};
 
-/// Makes the tables in a new file, and says there that they are of version 1, all in one transaction: no crash leaves a part of them.
+// Runs all of the statements or none, in one transaction.
+fn run_all<S: Alter>(conn: &mut Connection<S>, statements: &str) -> Result<(), Error>
+    ensures made { HasCleanDisk (state S.Store conn.new)
+        → OnOk result (HasRun S.Store statements.now conn.old (state S.Store conn.new).committed) }
+    ensures none { HasCleanDisk (state S.Store conn.new) → IsTrue (state S.Store conn.new).is_open
+        → OnErr result (IsUndone (state S.Store conn.old) (state S.Store conn.new)) }
+    ensures mode { (state S.Store conn.old).in_transaction ≡ false → (state S.Store conn.new).in_transaction ≡ false }
+    ensures crash { Survives (state S.Store conn.old) (state S.Store conn.new) (Left (HasRun S.Store statements.now conn.old)) }
+{
+    if !conn.is_autocommit() {
+        return Err(Error::SqliteFailure(ErrorCode::TransactionState));
+    }
+    let mut tx = conn.transaction();
+    tx.execute_batch(statements)?;
+    tx.commit()?;
+    Ok(())
+}
+
+/// Makes the tables in a new file, and says there that they are of version 2, all in one transaction: no crash leaves a part of them.
 ///
 /// # Errors
 ///
@@ -21,21 +39,36 @@ pub fn make<S: Alter>(conn: &mut Connection<S>) -> Result<(), Error>
     ensures none { HasCleanDisk (state S.Store conn.new) → IsTrue (state S.Store conn.new).is_open
         → OnErr result (IsUndone (state S.Store conn.old) (state S.Store conn.new)) }
     ensures mode { (state S.Store conn.old).in_transaction ≡ false → (state S.Store conn.new).in_transaction ≡ false }
-    ensures crash { Survives (state S.Store conn.old) (state S.Store conn.new)
-        (λ trees. (db : _) × HasMade S.Store conn.old db × (trees ≡ db.trees)) }
+    ensures crash { Survives (state S.Store conn.old) (state S.Store conn.new) (Left (HasMade S.Store conn.old)) }
 {
-    if !conn.is_autocommit() {
-        return Err(Error::SqliteFailure(ErrorCode::TransactionState));
-    }
-    let mut tx = conn.transaction();
-    tx.execute_batch(
+    run_all(
+        conn,
         "CREATE TABLE format (version INTEGER NOT NULL) STRICT; \
          CREATE TABLE buffer (id INTEGER PRIMARY KEY, name TEXT NOT NULL UNIQUE, owner TEXT NOT NULL, owning_group TEXT NOT NULL, entries TEXT NOT NULL) STRICT; \
          CREATE TABLE event (number INTEGER PRIMARY KEY, at INTEGER NOT NULL, user TEXT NOT NULL, what TEXT NOT NULL, buffer TEXT NOT NULL, detail TEXT NOT NULL) STRICT; \
-         INSERT INTO format (version) VALUES (1)",
-    )?;
-    tx.commit()?;
-    Ok(())
+         CREATE TABLE text (buffer INTEGER PRIMARY KEY REFERENCES buffer (id) ON DELETE CASCADE, modified INTEGER NOT NULL, file INTEGER NOT NULL, body TEXT NOT NULL) STRICT; \
+         INSERT INTO format (version) VALUES (2)",
+    )
+}
+
+/// Gives the tables of version 1, which had no texts, a table for them, and says that they are of version 2, in one transaction: a crash
+/// leaves them of either version, whole.
+///
+/// # Errors
+///
+/// As `make`.
+pub fn grow<S: Alter>(conn: &mut Connection<S>) -> Result<(), Error>
+    ensures grown { HasCleanDisk (state S.Store conn.new) → OnOk result (HasGrown S.Store conn.old (state S.Store conn.new).committed) }
+    ensures none { HasCleanDisk (state S.Store conn.new) → IsTrue (state S.Store conn.new).is_open
+        → OnErr result (IsUndone (state S.Store conn.old) (state S.Store conn.new)) }
+    ensures mode { (state S.Store conn.old).in_transaction ≡ false → (state S.Store conn.new).in_transaction ≡ false }
+    ensures crash { Survives (state S.Store conn.old) (state S.Store conn.new) (Left (HasGrown S.Store conn.old)) }
+{
+    run_all(
+        conn,
+        "CREATE TABLE text (buffer INTEGER PRIMARY KEY REFERENCES buffer (id) ON DELETE CASCADE, modified INTEGER NOT NULL, file INTEGER NOT NULL, body TEXT NOT NULL) STRICT; \
+         UPDATE format SET version = 2",
+    )
 }
 
 /// The version of the tables. It fails where the file has none, and where SQLite fails.
@@ -57,18 +90,19 @@ pub(crate) fn object_count<S: Alter>(conn: &mut Connection<S>) -> Result<i64, Er
         .get(0)
 }
 
-/// How many of the three tables the file has as `make` makes them.
+/// How many of the four tables the file has as `make` makes them.
 pub(crate) fn table_count<S: Alter>(conn: &mut Connection<S>) -> Result<i64, Error>
     ensures shown { HasCleanDisk (state S.Store conn.new)
         → IfOk result (ShowsNumber count_tables table_texts (state S.Store conn.old) (state S.Store conn.new)) }
     ensures survives { Survives (state S.Store conn.old) (state S.Store conn.new) (CommitsShowing count_tables table_texts (state S.Store conn.old)) }
 {
     conn.query_row(
-        "SELECT count(*) FROM sqlite_schema WHERE sql = ?1 OR sql = ?2 OR sql = ?3",
+        "SELECT count(*) FROM sqlite_schema WHERE sql = ?1 OR sql = ?2 OR sql = ?3 OR sql = ?4",
         params![
             "CREATE TABLE format (version INTEGER NOT NULL) STRICT",
             "CREATE TABLE buffer (id INTEGER PRIMARY KEY, name TEXT NOT NULL UNIQUE, owner TEXT NOT NULL, owning_group TEXT NOT NULL, entries TEXT NOT NULL) STRICT",
             "CREATE TABLE event (number INTEGER PRIMARY KEY, at INTEGER NOT NULL, user TEXT NOT NULL, what TEXT NOT NULL, buffer TEXT NOT NULL, detail TEXT NOT NULL) STRICT",
+            "CREATE TABLE text (buffer INTEGER PRIMARY KEY REFERENCES buffer (id) ON DELETE CASCADE, modified INTEGER NOT NULL, file INTEGER NOT NULL, body TEXT NOT NULL) STRICT",
         ],
     )?
     .get(0)

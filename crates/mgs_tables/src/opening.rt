@@ -5,13 +5,18 @@ ghost use Rattle.sqlite.specs.WalFiles.{image_at};
 ghost use Rattle.sqlite.specs.Files.{file_state};
 ghost use Rattle.sqlite.specs.State.{HasCleanDisk};
 ghost use Rattle.sqlite.specs.Held.{state};
-ghost use Rattle.mgs_tables.specs.Opening.{IsOurs, IsReady, IsOpen};
+ghost use Rattle.mgs_tables.specs.Opening.{HasGrownOnly, IsOurs, IsReady, IsOpen};
+ghost use Rattle.mgs_tables.specs.Reading.{ShowsNumber};
+ghost use Rattle.mgs_tables.specs.Texts.{count_tables, table_texts};
 
-use crate::making::{make, object_count, table_count, version};
+use crate::making::{grow, make, object_count, table_count, version};
 use sqlite::{Alter, Connection, Error, ErrorCode, FileFrom, FileStore, Start, Wary};
 
-/// The version of the tables that this crate makes and takes.
-const VERSION: i64 = 1;
+/// The version of the tables that this crate makes.
+const VERSION: i64 = 2;
+
+/// The version of the tables that had no texts, which is made the other.
+const WITHOUT_TEXTS: i64 = 1;
 
 /// Why a file is refused. It is left as it is.
 #[derive(Clone, Copy, Debug, PartialEq, Eq, thiserror::Error)]
@@ -58,7 +63,29 @@ impl From<Error> for OpenFault {
     }
 }
 
-// Refuses a file that has other tables than those that `make` makes.
+// Refuses a file that has another number of the tables as they are made.
+fn test_count<S: Alter>(conn: &mut Connection<S>, count: i64) -> Result<(), OpenFault>
+    ensures tables { HasCleanDisk (state S.Store conn.new)
+        → OnOk result (ShowsNumber count_tables table_texts (state S.Store conn.old) (state S.Store conn.new) count) }
+    ensures clean { HasCleanDisk (state S.Store conn.new) → HasCleanDisk (state S.Store conn.old) }
+{
+    if table_count(conn)? != count {
+        return Err(OpenFault::Foreign);
+    }
+    Ok(())
+}
+
+// Makes tables of version 1 ones of version 2, and refuses a file that has others.
+fn bring_on<S: Alter>(conn: &mut Connection<S>) -> Result<(), OpenFault>
+    ensures tables { HasCleanDisk (state S.Store conn.new) → OnOk result (HasGrownOnly S.Store conn.old conn.new) }
+    ensures clean { HasCleanDisk (state S.Store conn.new) → HasCleanDisk (state S.Store conn.old) }
+{
+    test_count(conn, 3)?;
+    grow(conn)?;
+    Ok(())
+}
+
+// Refuses a file that has other tables than those that `make` makes or made.
 fn test_tables<S: Alter>(conn: &mut Connection<S>) -> Result<(), OpenFault>
     ensures tables { HasCleanDisk (state S.Store conn.new) → OnOk result (IsOurs S.Store conn.old conn.new) }
     ensures clean { HasCleanDisk (state S.Store conn.new) → HasCleanDisk (state S.Store conn.old) }
@@ -67,14 +94,21 @@ fn test_tables<S: Alter>(conn: &mut Connection<S>) -> Result<(), OpenFault>
     if version > VERSION {
         return Err(OpenFault::Newer);
     }
-    if version != VERSION || table_count(conn)? != 3 {
+    if version == VERSION {
+        return test_count(conn, 4);
+    }
+    if version != WITHOUT_TEXTS {
         return Err(OpenFault::Foreign);
     }
-    Ok(())
+    bring_on(conn)
 }
 
-// Makes the tables where the file has nothing yet, and refuses a file with others.
-fn prepare<S: Alter>(conn: &mut Connection<S>) -> Result<(), OpenFault>
+/// Makes the tables where a file has nothing yet, makes those of version 1 ones of version 2, and refuses a file with others.
+///
+/// # Errors
+///
+/// `Foreign` and `Newer` where the file is refused, which then is left as it is, and else what SQLite fails by.
+pub fn prepare<S: Alter>(conn: &mut Connection<S>) -> Result<(), OpenFault>
     ensures ready { HasCleanDisk (state S.Store conn.new) → OnOk result (IsReady S.Store conn.old conn.new) }
     ensures clean { HasCleanDisk (state S.Store conn.new) → HasCleanDisk (state S.Store conn.old) }
 {

@@ -30,6 +30,19 @@ pub struct EventRow<'a> {
     pub detail: &'a str,
 }
 
+/// The text of a buffer, as it was at one moment.
+#[derive(Clone, Copy, Debug)]
+pub struct TextRow<'a> {
+    /// The buffer's name.
+    pub name: &'a str,
+    /// 1 where the buffer was modified then, and 0 where it was not.
+    pub modified: i64,
+    /// A sum of the text that the buffer's file had when it was last loaded or saved.
+    pub file: i64,
+    /// The text, whole.
+    pub body: &'a str,
+}
+
 /// Why a change of the tables is refused.
 #[derive(Clone, Copy, Debug, PartialEq, Eq, thiserror::Error)]
 pub enum Fault {
@@ -80,4 +93,15 @@ pub struct Event {
     pub buffer: String,
     /// What else there is to tell.
     pub detail: String,
+}
+
+/// The text of a buffer, as it was read.
+#[derive(Debug, Drop)]
+pub struct Text {
+    /// 1 where the buffer was modified then, and 0 where it was not.
+    pub modified: i64,
+    /// A sum of the text that the buffer's file had when it was last loaded or saved.
+    pub file: i64,
+    /// The text, whole.
+    pub body: String,
 }

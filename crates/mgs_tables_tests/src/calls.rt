@@ -1,5 +1,5 @@
 // Calls that say nothing, so that the proof of a test does not carry the state of each.
-use mgs_tables::{EventRow, Fault, RightsRow};
+use mgs_tables::{EventRow, Fault, OpenFault, RightsRow, Text, TextRow};
 use sqlite::{Alter, Connection, Error};
 use std::alloc::Global;
 
@@ -29,6 +29,16 @@ pub(crate) fn make<S: Alter>(conn: &mut Connection<S>) -> Result<(), Error> {
     mgs_tables::make(conn)
 }
 
+/// Makes the tables, or finds those that are there.
+pub(crate) fn prepare<S: Alter>(conn: &mut Connection<S>) -> Result<(), OpenFault> {
+    mgs_tables::prepare(conn)
+}
+
+/// Runs statements.
+pub(crate) fn batch<S: Alter>(conn: &mut Connection<S>, statements: &str) -> Result<(), Error> {
+    conn.execute_batch(statements)
+}
+
 /// The version of the tables.
 pub(crate) fn version<S: Alter>(conn: &mut Connection<S>) -> Result<i64, Error> {
     mgs_tables::version(conn)
@@ -55,6 +65,59 @@ pub(crate) fn set<S: Alter>(
 /// Takes a buffer out, and adds an event `kill`.
 pub(crate) fn drop_one<S: Alter>(conn: &mut Connection<S>, name: &str) -> Result<(), Fault> {
     mgs_tables::drop_buffer(conn, name, &event("kill", name))
+}
+
+/// Keeps a text of a buffer, and adds an event `login` and an event `end`.
+pub(crate) fn put_text<S: Alter>(
+    conn: &mut Connection<S>,
+    name: &str,
+    modified: i64,
+    file: i64,
+    body: &str,
+) -> Result<(), Fault> {
+    let text = TextRow {
+        name,
+        modified,
+        file,
+        body,
+    };
+    mgs_tables::put_text(conn, &text, &[event("login", ""), event("end", "")])
+}
+
+/// The texts of all buffers.
+pub(crate) fn texts<S: Alter>(
+    conn: &mut Connection<S>,
+    alloc: Global,
+) -> Result<Vec<Option<Text>>, Error> {
+    mgs_tables::read_texts(conn, alloc)
+}
+
+fn push_text(all: &mut String, alloc: Global, text: &Option<Text>) -> Result<(), Error> {
+    match text {
+        None => all.push_str("-/")?,
+        Some(text) => {
+            let line = format!(in alloc;
+                "{} {} {}/",
+                text.modified,
+                text.file,
+                text.body.as_str()
+            )?;
+            all.push_str(line.as_str())?;
+        }
+    }
+    Ok(())
+}
+
+/// The texts of all buffers: of each whether it is modified, the sum of the file's and the text, or `-`, with a slash after each.
+pub(crate) fn all_texts<S: Alter>(
+    conn: &mut Connection<S>,
+    alloc: Global,
+) -> Result<String, Error> {
+    let mut all = String::new(alloc);
+    for text in &texts(conn, alloc)? {
+        push_text(&mut all, alloc, text)?;
+    }
+    Ok(all)
 }
 
 /// Adds an event by itself.

@@ -16,7 +16,7 @@ fn open(alloc: Global) -> Result<Connection<MemStore>, AllocError> {
 fn a_change_is_read_back_with_its_event(rt: HostRuntime) -> Result<(), Fail> {
     let mut conn = open(rt.alloc())?;
     make(&mut conn)?;
-    assert_eq!(rt; version(&mut conn)?, 1);
+    assert_eq!(rt; version(&mut conn)?, 2);
     add(&mut conn, "notes", "ALLOW user ann READ")?;
     set(&mut conn, "notes", "DENY user bob READ")?;
     assert_eq!(rt;

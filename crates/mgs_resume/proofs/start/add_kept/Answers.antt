@@ -1,12 +1,20 @@
+use Rattle.std.proofs.Common.{None, length}
+use Rattle.std.specs.Prelude.{get_or}
+use Rattle.mgs_resume.proofs.Contents.{rules_more, texts_all, texts_more}
 use Rattle.mgs_resume.proofs.Walks.{kept_all, kept_more}
 use Rattle.mgs_resume.proofs.start.add_kept.Goals as goal
 
 pub loop-rights-preserved : goal.loop-rights-preserved
-loop-rights-preserved g c = record {
-  rules = kept_more c.loop-rights.joined c.add_with_text.new.joined (g.J.Journal.kept c.args.journal.now) c.len.result c.in-Some.rights c.len.ensures.value c.loop-rights.invariant.rules c.in-Some.ensures c.in_ok-add_with_text.ensures.ok;
-  texts = c.in_ok-add_with_text.ensures.texts c.loop-rights.invariant.texts;
-  unmarked = λ none. c.in_ok-add_with_text.ensures.unmarked (c.loop-rights.invariant.unmarked none);
-}
+loop-rights-preserved g c =
+    let more = c.in_ok-add_next.ensures.ok in
+    record {
+      rules = kept_more c.loop-rights.joined c.add_next.new.joined (g.J.Journal.kept c.args.journal.now) c.len.result c.in-Some.rights c.len.ensures.value c.loop-rights.invariant.rules c.in-Some.ensures (rules_more (g.J.Journal.taken c.args.journal.now) c.args.config.now c.loop-rights.joined c.add_next.new.joined c.in-Some.rights (get_or (g.J.Journal.texts c.args.journal.now) (length c.loop-rights.joined) None) more);
+      texts = texts_more (g.J.Journal.taken c.args.journal.now) c.args.config.now c.loop-rights.joined c.add_next.new.joined (g.J.Journal.kept c.args.journal.now) (g.J.Journal.texts c.args.journal.now) c.len.result c.in-Some.rights c.len.ensures.value c.loop-rights.invariant.texts c.in-Some.ensures more;
+      unmarked = λ none. c.in_ok-add_next.ensures.unmarked (c.loop-rights.invariant.unmarked none);
+    }
 
 pub returns-clause-ok : goal.returns-clause-ok
 returns-clause-ok g c = kept_all c.loop-rights.joined (g.J.Journal.kept c.args.journal.now) c.len.result c.len.ensures.value c.loop-rights.invariant.rules c.in_default.ensures
+
+pub returns-clause-texts : goal.returns-clause-texts
+returns-clause-texts g c = texts_all (g.J.Journal.taken c.args.journal.now) c.args.config.now c.loop-rights.joined (g.J.Journal.kept c.args.journal.now) (g.J.Journal.texts c.args.journal.now) c.len.result c.len.ensures.value c.loop-rights.invariant.texts c.in_default.ensures

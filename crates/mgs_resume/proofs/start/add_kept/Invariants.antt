@@ -1,14 +1,13 @@
 use Rattle.std.proofs.Common.{◌≡◌, ◌-◌, length, take}
-use Rattle.std.specs.Prelude.{All}
 use Rattle.mgs_buffers.specs.Judging.{rules_kept}
 use Rattle.mgs_buffers.specs.MarkedBuffer.{AreUnmarked}
-use Rattle.mgs_resume.specs.Joined.{HasOwnText}
+use Rattle.mgs_resume.specs.Contents.{buffers_kept}
 use Rattle.mgs_resume.proofs.start.add_kept.Given as goal
 
 abbrev pub invariant-loop-rights : goal.invariant-loop-rights
 invariant-loop-rights g l = record {
   rules : rules_kept l.joined ≡ take (length l.joined) (g.J.Journal.kept l.journal);
-  texts : All (HasOwnText (g.J.Journal.taken l.journal)) l.joined;
+  texts : l.joined ≡ buffers_kept (g.J.Journal.taken l.journal) l.config (take (length l.joined) (g.J.Journal.kept l.journal)) (g.J.Journal.texts l.journal);
   unmarked : AreUnmarked l.initial.joined → AreUnmarked l.joined;
 }
 

@@ -1,9 +1,8 @@
 use Rattle.std.proofs.Common.{◌≡◌, sym, subst, map, refl, arith, rules}
-use Rattle.sqlite.specs.Tree.{Trees}
-use Rattle.sqlite.specs.Effect.{Database}
 use Rattle.sqlite.specs.State.{HasCleanDisk, Survives}
 use Rattle.sqlite.specs.Held.{state}
 use Rattle.mgs_tables.specs.Rows.{event_values}
+use Rattle.mgs_tables.specs.Both.{Left}
 use Rattle.mgs_tables.specs.Events.{RanAll}
 use Rattle.mgs_tables.proofs.Transactions.{outlasts}
 use Rattle.mgs_tables.proofs.events.put_events.Goals as goal
@@ -31,7 +30,7 @@ returns-clause-crash g c =
     let all : HasCleanDisk (state g.S.Store last) → ran (state g.S.Store last).now =
     λ clean. record { last = last; all = rw c.transaction-tx.ensures.begun at (c.in_ok-put_all.ensures.all clean (rw c.transaction-tx.ensures.begun)); is = refl } in
     let same : end ≡ c.conn-2-1.given.0 = search rules in
-    subst (λ h. Survives (state g.S.Store old) (state g.S.Store h) (λ (trees : Trees). (db : Database) × ran db × (trees ≡ db.trees))) same
+    subst (λ h. Survives (state g.S.Store old) (state g.S.Store h) (Left ran)) same
     (outlasts g.S.Store ran old begun last end c.transaction-tx.ensures.begun all c.put_all.ensures.survives c.commit.ensures.survives)
 
 pub returns-in_err-commit-clause-crash : goal.returns-in_err-commit-clause-crash
@@ -44,5 +43,5 @@ returns-in_err-commit-clause-crash g c =
     let all : HasCleanDisk (state g.S.Store last) → ran (state g.S.Store last).now =
     λ clean. record { last = last; all = rw c.transaction-tx.ensures.begun at (c.in_ok-put_all.ensures.all clean (rw c.transaction-tx.ensures.begun)); is = refl } in
     let same : end ≡ c.conn-2-1.given.0 = search rules in
-    subst (λ h. Survives (state g.S.Store old) (state g.S.Store h) (λ (trees : Trees). (db : Database) × ran db × (trees ≡ db.trees))) same
+    subst (λ h. Survives (state g.S.Store old) (state g.S.Store h) (Left ran)) same
     (outlasts g.S.Store ran old begun last end c.transaction-tx.ensures.begun all c.put_all.ensures.survives c.commit.ensures.survives)

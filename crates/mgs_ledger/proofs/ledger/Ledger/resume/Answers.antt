@@ -1,4 +1,11 @@
+use Rattle.std.proofs.Common.{◌≡◌, length, rules}
 use Rattle.mgs_ledger.proofs.ledger.Ledger.resume.Goals as goal
 
 pub returns : goal.returns
-returns g c = (c.read_values.new.conn, c.in_ok-rows.ensures)
+returns g c = record {
+  mid = c.read_values.new.conn;
+  new = c.read_snapshots.new.conn;
+  rights = c.in_ok-rows.ensures;
+  texts = c.in_ok-texts.ensures.read;
+  count = search rules;
+}

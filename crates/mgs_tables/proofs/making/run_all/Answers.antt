@@ -1,11 +1,10 @@
 use Rattle.std.proofs.Common.{◌≡◌, sym, subst, refl, arith, rules}
-use Rattle.sqlite.specs.Tree.{Trees}
-use Rattle.sqlite.specs.Effect.{Database}
 use Rattle.sqlite.specs.State.{HasCleanDisk, Survives}
 use Rattle.sqlite.specs.Held.{state}
-use Rattle.mgs_tables.specs.Making.{HasMade}
+use Rattle.mgs_tables.specs.Both.{Left}
+use Rattle.mgs_tables.specs.Making.{HasRun}
 use Rattle.mgs_tables.proofs.Transactions.{outlasts}
-use Rattle.mgs_tables.proofs.making.make.Goals as goal
+use Rattle.mgs_tables.proofs.making.run_all.Goals as goal
 
 pub returns-clause-made : goal.returns-clause-made
 returns-clause-made g c clean =
@@ -13,7 +12,7 @@ returns-clause-made g c clean =
     let begun = c.transaction-tx.result.conn.now in
     let last = c.execute_batch.new.self.conn.now in
     let end = c.commit.new.self.0 in
-    let ran = HasMade g.S.Store old in
+    let ran = HasRun g.S.Store c.args.statements.now old in
     let all : HasCleanDisk (state g.S.Store last) → ran (state g.S.Store last).now =
     λ clean. record { last = last; all = rw c.transaction-tx.ensures.begun at (c.in_ok-execute_batch.ensures.ran clean); is = refl } in
     let same : end ≡ c.conn-2-1.given.0 = search rules in
@@ -26,11 +25,11 @@ returns-clause-crash g c =
     let begun = c.transaction-tx.result.conn.now in
     let last = c.execute_batch.new.self.conn.now in
     let end = c.commit.new.self.0 in
-    let ran = HasMade g.S.Store old in
+    let ran = HasRun g.S.Store c.args.statements.now old in
     let all : HasCleanDisk (state g.S.Store last) → ran (state g.S.Store last).now =
     λ clean. record { last = last; all = rw c.transaction-tx.ensures.begun at (c.in_ok-execute_batch.ensures.ran clean); is = refl } in
     let same : end ≡ c.conn-2-1.given.0 = search rules in
-    subst (λ h. Survives (state g.S.Store old) (state g.S.Store h) (λ (trees : Trees). (db : Database) × ran db × (trees ≡ db.trees))) same
+    subst (λ h. Survives (state g.S.Store old) (state g.S.Store h) (Left ran)) same
     (outlasts g.S.Store ran old begun last end c.transaction-tx.ensures.begun all c.execute_batch.ensures.survives c.commit.ensures.survives)
 
 pub returns-in_err-commit-clause-crash : goal.returns-in_err-commit-clause-crash
@@ -39,9 +38,9 @@ returns-in_err-commit-clause-crash g c =
     let begun = c.transaction-tx.result.conn.now in
     let last = c.execute_batch.new.self.conn.now in
     let end = c.commit.new.self.0 in
-    let ran = HasMade g.S.Store old in
+    let ran = HasRun g.S.Store c.args.statements.now old in
     let all : HasCleanDisk (state g.S.Store last) → ran (state g.S.Store last).now =
     λ clean. record { last = last; all = rw c.transaction-tx.ensures.begun at (c.in_ok-execute_batch.ensures.ran clean); is = refl } in
     let same : end ≡ c.conn-2-1.given.0 = search rules in
-    subst (λ h. Survives (state g.S.Store old) (state g.S.Store h) (λ (trees : Trees). (db : Database) × ran db × (trees ≡ db.trees))) same
+    subst (λ h. Survives (state g.S.Store old) (state g.S.Store h) (Left ran)) same
     (outlasts g.S.Store ran old begun last end c.transaction-tx.ensures.begun all c.execute_batch.ensures.survives c.commit.ensures.survives)

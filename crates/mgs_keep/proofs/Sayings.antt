@@ -1,0 +1,38 @@
+-- What is told of a session, by its echo line and whose it is, and the names that are read.
+use Rattle.std.proofs.Common.{◌≡◌, Bool, true, false, List, ℕ, Option, Some, None, refl, ap}
+use Rattle.std.specs.Prelude.{IsSome, IfSome, IsTrue, cond, ◌↔◌}
+use Rattle.mgs_model.specs.Names.{IsName, is_name}
+use Rattle.mgs_model.specs.World.{Session}
+use Rattle.mgs_keys.specs.Words.{◌>>=◌}
+use Rattle.mgs_core.specs.Calls.{echo_in, user_in}
+use Rattle.mgs_journal.specs.declared.Told.{Told}
+use Rattle.mgs_keep.specs.Keeping.{name_in_text, said, said_to}
+
+some_is : {A : Type 0} (a b : A) → Some a ≡ Some b → a ≡ b
+some_is a b e = cc
+
+pub said_is : (o : Option Session) (user : List ℕ) → Some user ≡ user_in o → said user (echo_in o) ≡ said_to o
+said_is None user is = cc
+said_is (Some x) user is = ap (λ (u : List ℕ). said u x.state.echo) (some_is user x.user is)
+
+pub nobody_said : (o : Option Session) → None ≡ user_in o → None ≡ said_to o
+nobody_said None none = refl
+nobody_said (Some x) none = cc
+
+read_by : (b : Bool) (text : List ℕ) (o : Option (List ℕ)) → (IsSome o ↔ IsTrue b) → IfSome o (λ n. n ≡ text) → o ≡ cond b (Some text) None
+read_by true text (Some n) is value = ap (λ (x : List ℕ). Some x) value
+read_by true text None is value = let e = is.1 refl in cc
+read_by false text (Some n) is value = let e = is.0 refl in cc
+read_by false text None is value = refl
+
+pub read_is : (text : List ℕ) (o : Option (List ℕ)) → (IsSome o ↔ IsName text) → IfSome o (λ n. n ≡ text) → o ≡ name_in_text text
+read_is text o is value = read_by (is_name text) text o is value
+
+-- the name that the bytes of a text are
+pub text_in : (o : Option (List ℕ)) (text : List ℕ) → Some text ≡ o → name_in_text text ≡ o >>= name_in_text
+text_in None text is = cc
+text_in (Some t) text is = ap name_in_text (some_is text t is)
+
+pub no_text_in : (o : Option (List ℕ)) → None ≡ o → None ≡ o >>= name_in_text
+no_text_in None is = refl
+no_text_in (Some t) is = cc

@@ -1,0 +1,122 @@
+// What a journal is told.
+ghost use Rattle.std.specs.Prelude.{◌≡◌, ◌∷◌, [], false, ℕ};
+ghost use Rattle.mgs_model.specs.World.{find_session};
+ghost use Rattle.mgs_journal.specs.Acts.{Tick, AreDone};
+ghost use Rattle.mgs_keep.specs.Keeping.{OrFails, WereTold, came, listed, name_in_bytes, name_in_text, refused, said, said_to, told_of};
+ghost use Rattle.mgs_wire.specs.Calls.{Open};
+
+use mgs_engine::Engine;
+use mgs_journal::{Journal, JournalFault, Told};
+use mgs_keys::utf8;
+use mgs_marks::Marked;
+use mgs_model::{Message, Name, OpenFault, SessionId};
+use mgs_store::Store;
+use mgs_wire::Refusal;
+
+/// Hands to the journal what is told, if anything is and it did not fail.
+pub(crate) fn tell<J: Journal>(journal: &mut J, failed: &mut bool, told: Option<Told>)
+    ensures kept { failed.new ≡ false → J.kept journal.new ≡ J.kept journal.old }
+    ensures journal { OrFails J.fails (WereTold J.does (listed told)) failed.old journal.old failed.new journal.new }
+{
+    if *failed {
+        return;
+    }
+    match told {
+        None => {}
+        Some(told) => match journal.tell(told) {
+            Ok(()) => {}
+            Err(JournalFault) => *failed = true,
+        },
+    }
+}
+
+/// Has the journal keep what it gathered for long enough, if it did not fail.
+pub(crate) fn tick<J: Journal>(journal: &mut J, failed: &mut bool)
+    ensures kept { failed.new ≡ false → J.kept journal.new ≡ J.kept journal.old }
+    ensures journal { OrFails J.fails (AreDone J.does (Tick ∷ [])) failed.old journal.old failed.new journal.new }
+{
+    if *failed {
+        return;
+    }
+    match journal.tick() {
+        Ok(()) => {}
+        Err(JournalFault) => *failed = true,
+    }
+}
+
+// A session of a user was opened.
+fn came(user: Option<Name>) -> Option<Told>
+    ensures { result ≡ came user }
+{
+    match user {
+        Some(user) => Some(Told::Came(user)),
+        None => None,
+    }
+}
+
+// The name that a text is, if it is one.
+#[tactic(auto, using(crate::proofs::Sayings::read_is))]
+fn name_in_text(text: &str) -> Option<Name>
+    ensures { result ≡ name_in_text text.now }
+{
+    Name::read(text)
+}
+
+/// The name that bytes are, if they are one.
+pub(crate) fn name_in_bytes(bytes: &[u8]) -> Option<Name>
+    ensures { result ≡ name_in_bytes bytes.now }
+{
+    match utf8(bytes) {
+        Some(text) => name_in_text(text),
+        None => None,
+    }
+}
+
+/// A login by a name, if it is one, was refused.
+pub(crate) fn refused(name: Option<Name>, cause: Refusal) -> Told
+    ensures { result ≡ refused name cause }
+{
+    match name {
+        Some(name) => Told::Refused(name, cause),
+        None => Told::RefusedUnnamed(cause),
+    }
+}
+
+/// What is told of an opening, by its answer.
+pub(crate) fn opening_told<T: Marked + Drop, S: Store + Drop>(
+    engine: &Engine<T, S>,
+    user: &str,
+    answer: Result<SessionId, OpenFault>,
+) -> Option<Told>
+    ensures { (rows cols : ℕ) → listed result ≡ told_of (Open user.now rows cols answer) engine.now }
+{
+    match answer {
+        Ok(id) => came(engine.user(id)),
+        Err(fault) => Some(refused(name_in_text(user), Refusal::of(fault))),
+    }
+}
+
+// What an echo line tells of its user's last event.
+fn said(user: Name, message: Message) -> Option<Told>
+    ensures { result ≡ said user message }
+{
+    match message {
+        Message::Denied(decision) => Some(Told::Denied(user, decision)),
+        Message::Wrote(name) => Some(Told::Saved(user, name)),
+        _ => None,
+    }
+}
+
+/// What a session was denied by the last event, or which buffer it saved.
+#[tactic(auto, using(crate::proofs::Sayings::said_is))]
+pub(crate) fn said_to<T: Marked + Drop, S: Store + Drop>(
+    engine: &Engine<T, S>,
+    id: SessionId,
+) -> Option<Told>
+    ensures { result ≡ said_to (find_session id engine.now.world.sessions) }
+{
+    match engine.user(id) {
+        Some(user) => said(user, engine.echo(id)),
+        None => None,
+    }
+}
