@@ -27,6 +27,8 @@ C_S, C_R, C_G, C_U, C_X, ESC, RET = b"\x13", b"\x12", b"\x07", b"\x15", b"\x18",
 START, END = ESC + b"<", ESC + b">"
 PATTERN = b"a" * 110 + b"b"
 LONG = b"a" * 119 + b"b"
+# A keyboard macro of 505 bytes, which is almost as long as one may be.
+MACRO = C_X + b"(" + C_S + PATTERN + C_S * 392 + C_X + b")"
 
 
 @dataclasses.dataclass(frozen=True)
@@ -41,6 +43,7 @@ class Row:
 
 ROWS = (
     Row("forty failing C-s of a pattern of 111 on 1,000,000 characters", "a" * MILLION, b"", C_S + PATTERN + C_S * 40, asked="0.4"),
+    Row("39,200 failing C-s by one key on 1,000,000 characters", "a" * MILLION, MACRO, C_U + b"100" + C_X + b"e", asked="5"),
     Row("a failing C-s of 120 characters on 1,048,576", "a" * MOST, b"", C_S + LONG, asked="0.01 a search"),
     Row("a failing M-s of 120 characters on 1,048,576", "a" * MOST, ESC + b"s" + LONG, RET, asked="0.01"),
     Row("a failing M-% of 120 characters on 1,048,576", "a" * MOST, ESC + b"%" + LONG + RET + b"x", RET, asked="0.01"),

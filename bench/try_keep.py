@@ -739,6 +739,30 @@ def try_full_disk():
 
 # --- What is told ------------------------------------------------------------------------------------------------------------------
 
+def log_in_by(server, line):
+    """What is answered to a login line that is refused."""
+    with socket.create_connection(("127.0.0.1", server.port), PATIENCE) as one:
+        one.sendall(line)
+        answer = b""
+        while not answer.endswith(b"\n"):
+            more = one.recv(64)
+            if not more:
+                break
+            answer += more
+    return answer
+
+
+# Login lines that are refused: what is answered, the name that is told, and the cause.
+REFUSED = [
+    (b"login bob wrong 24 80\n", b"refused 3 Ticket\n", "bob", "ticket"),
+    (b"login eve birch 24 80\n", b"refused 2 NoUser\n", "eve", "no user"),
+    (b"login \xff birch 24 80\n", b"refused 2 NoUser\n", "-", "no user"),
+    (b"hello\n", b"refused 1 Line\n", "-", "no login line"),
+    (b"x" * 129, b"refused 1 Line\n", "-", "no login line"),
+    (b"login bob birch 1 80\n", b"refused 4 Size\n", "bob", "size"),
+]
+
+
 def played(server):
     """A quarter of an hour of three people, each thing done once the one before is seen: what an audit is to say of it, and whose
     session is open at the end."""
@@ -764,6 +788,10 @@ def played(server):
     note("bob", "login", "-", "-")
     cat = server.join("cat")
     note("cat", "login", "-", "-")
+    for line, answer, name, cause in REFUSED:
+        got = log_in_by(server, line)
+        expect(f"played: {line[:20]} is refused", got == answer, got)
+        note(name, "refused", "-", cause)
     notes, page = "; ".join(NOTES), "; ".join(PAGE)
     does(bob, "Hello ann. ", lambda: see(ann, "Hello ann."))
     does(ann, DENY_BOB, lambda: see(bob, "[no read: entry 1]"), ("ann", "list", "notes", f"{notes} -> DENY bob rwa; {notes}"))
@@ -843,7 +871,7 @@ def try_audit():
         rows = desk.ask("SELECT user, what, buffer, detail FROM event ORDER BY number")
         plain = [tuple(word or "-" for word in row) for row in rows] if isinstance(rows, list) else rows
         expect("sqlite3 reads the same", plain == events, plain[:3])
-        expect("and no text of a buffer", not any(word in data for data in desk.contents().values() for word in (b"door code", b"Hello ann", b"mine")))
+        expect("and no ticket", not any(ticket.encode() in data for data in desk.contents().values() for ticket in ("apple", "birch", "cedar")))
         kept = desk.folder
         desk.folder = desk.copy()
         os.chmod(desk.folder, 0o700)
@@ -870,6 +898,92 @@ def try_gathered():
         server.kill()
         denials = [line for line in desk.events("--user", "cat") if line[1] == "denied"]
         expect("each of 600 denials is told", len(denials) == 600, len(denials))
+
+
+def try_saves():
+    """A save is told, with the buffer's name."""
+    with Desk() as desk:
+        with open(desk.at("page.txt"), "w") as file:
+            file.write("A page.\n")
+        entries = ", ".join(f'"{entry}"' for entry in PAGE)
+        desk.write(config() + f'[[buffer]]\nname = "page"\nowner = "ann"\nlist = [{entries}]\nfile = "{desk.at("page.txt")}"\n')
+        server = serving(desk)
+        ann = server.join("ann")
+        type_in(ann, "x\x18\x13")
+        expect("a save is seen", see(ann, "Wrote page"), ann.shows(ROWS))
+        time.sleep(1.5)
+        server.kill()
+        events = desk.events("--buffer", "page")
+        expect("and told", events[-1:] == [("ann", "save", "page", "-")], events)
+
+
+def text_kept(desk, name):
+    """What the journal has of a buffer's text, and whether that was not saved."""
+    rows = desk.ask(f"SELECT body, modified FROM text, buffer WHERE buffer.id = text.buffer AND buffer.name = '{name}'")
+    return rows[0] if isinstance(rows, list) and rows else None
+
+
+def try_texts(rounds, seed):
+    """Numbers are typed, one after another, until the server is killed at a random moment: what the next start shows is a text that was
+    shown no more than a second, and what a commit takes, before, and never a mixture."""
+    chance = random.Random(seed)
+    for number in range(rounds):
+        with Desk() as desk:
+            server = serving(desk)
+            ann = server.join("ann")
+            type_in(ann, go_to("draft"))
+            see(ann, "-draft-")
+            end = time.time() + chance.uniform(0.2, 3)
+            shown = []
+            while time.time() < end:
+                type_in(ann, f"{len(shown)} ")
+                if see(ann, f"{len(shown)} "):
+                    shown.append(time.time())
+            killed = time.time()
+            server.kill()
+            kept = text_kept(desk, "draft") or ("", 0)
+            words = kept[0].split()
+            old = sum(1 for at in shown if at < killed - 1.5)
+            expect(f"round {number}: of {len(shown)} numbers {len(words)} are kept, whole", kept[0] == "".join(f"{n} " for n in range(len(words))) and len(words) >= old, (kept, len(shown), old))
+            server = serving(desk)
+            ann = server.join("ann")
+            type_in(ann, go_to("draft"))
+            expect("and shown at the next start", not words or see(ann, words[-1]), ann.shows(1))
+            server.kill()
+
+
+def try_files_of_texts():
+    """What was saved is the file's, and what was not is the journal's, which is told, and whether others wrote to the file."""
+    with Desk() as desk:
+        path = desk.at("page.txt")
+        with open(path, "w") as file:
+            file.write("A page.\n")
+        entries = ", ".join(f'"{entry}"' for entry in PAGE)
+        desk.write(config() + f'[[buffer]]\nname = "page"\nowner = "ann"\nlist = [{entries}]\nfile = "{path}"\n')
+        server = serving(desk)
+        ann = server.join("ann")
+        type_in(ann, "saved \x18\x13")
+        see(ann, "Wrote page")
+        server.kill()
+        expect("a saved text is kept as saved at once", text_kept(desk, "page") == ("saved A page.\n", 0), text_kept(desk, "page"))
+        server = serving(desk)
+        ann = server.join("ann")
+        expect("a saved text is its file's", see(ann, "saved A page.") and server.told() == "", server.told())
+        type_in(ann, "more ")
+        see(ann, "more saved")
+        time.sleep(1.5)
+        server.kill()
+        server = serving(desk)
+        ann = server.join("ann")
+        expect("what was not saved is the journal's", see(ann, "more saved A page.") and see(ann, "**-page"), ann.shows(1))
+        expect("and that is told", server.told() == "buffer page: its text was not saved, and is the journal's\n", server.told())
+        server.kill()
+        with open(path, "w") as file:
+            file.write("Of others.\n")
+        server = serving(desk)
+        ann = server.join("ann")
+        expect("also where others wrote to the file", see(ann, "more saved A page.") and server.told().endswith("; its file was changed since\n"), server.told())
+        server.kill()
 
 
 def try_closed_pipe():
@@ -916,6 +1030,8 @@ def main():
     try_shown_then_killed()
     try_audit()
     try_gathered()
+    try_saves()
+    try_files_of_texts()
     try_closed_pipe()
     try_owner_left()
     try_otherwise()
@@ -925,6 +1041,7 @@ def main():
     try_size_limit()
     try_full_disk()
     print(f"seed {options.seed}")
+    try_texts(max(1, options.rounds // 5), options.seed)
     try_kills(options.rounds, options.seed)
     return finish()
 
