@@ -17,6 +17,7 @@ import re
 import socket
 import subprocess
 import tempfile
+import threading
 
 from count import PROGRAM
 from script import add_options, buffers_of, bytes_of, case_of, opened, prepared, text_of, typed
@@ -45,21 +46,44 @@ def config_of(case, folder):
     return str(config)
 
 
+def words_of(program, config):
+    """What serves a configuration; mgd-keep has its journal beside it."""
+    if "keep" not in os.path.basename(program):
+        return [program, "serve", config, "0"]
+    folder = pathlib.Path(config).with_name("journal")
+    folder.mkdir(mode=0o700, exist_ok=True)
+    return [program, "serve", str(folder), config, "0"]
+
+
+def port_said(output):
+    """The port of the line that tells it, behind what mgd-keep prints of events; None where there is none."""
+    for line in output:
+        if found := re.fullmatch(rb"listening 127\.0\.0\.1:(\d+)\n", line):
+            return int(found[1])
+    return None
+
+
+def drain(output):
+    while output.read1(65536):
+        pass
+
+
 @contextlib.contextmanager
 def serving(program, config, wrapper=()):
     """Serves, with the words of a program before it that runs it. The port, and the process."""
     if not os.access(program, os.X_OK):
         raise Missing(f"there is no program {program}; ./mgd prove builds one")
-    server = subprocess.Popen([*wrapper, program, "serve", config, "0"], stdout=subprocess.PIPE, stderr=subprocess.DEVNULL)
+    server = subprocess.Popen([*wrapper, *words_of(program, config)], stdout=subprocess.PIPE, stderr=subprocess.DEVNULL)
     try:
-        found = re.fullmatch(rb"listening 127\.0\.0\.1:(\d+)\n", server.stdout.readline())
-        if found is None:
+        port = port_said(server.stdout)
+        if port is None:
             raise Missing(f"{' '.join([*wrapper, program])} does not serve")
-        yield int(found[1]), server.pid
+        # What mgd-keep prints of events is to be taken, or it waits.
+        threading.Thread(target=drain, args=[server.stdout], daemon=True).start()
+        yield port, server.pid
     finally:
         server.terminate()
         # What runs it may end after it, and say what it counted.
-        server.stdout.read()
         server.wait()
 
 

@@ -1,14 +1,15 @@
 #!/usr/bin/env python3
-"""Tries over sockets what a journal keeps: python3 bench/try_keep.py [--rounds N] [PROGRAM]
+"""Tries over sockets what a journal keeps: python3 bench/try_keep.py [--rounds N] [--moments N] [PROGRAM]
 
 It starts the program that stands in crates/mgd_keep/out/mgd_keep (or PROGRAM) over folders of its own, changes lists, owners, groups and
-buffers as people do, kills it at N random moments (100), damages what it left, and looks at what the next start shows, what `audit`
-prints, and what SQLite finds. It is started by hand and ends with status 0 if all is as it should be. As root it also tries a full disk and
+buffers as people do, kills it at N random moments (100), and at others (60) while three people edit texts, damages what it left, fills its
+memory, and looks at what the next start shows, what `audit` prints, and what SQLite finds. It is started by hand and ends with status 0 if all is as it should be. As root it also tries a full disk and
 a folder of another user; otherwise it says that it leaves them out.
 """
-import argparse, os, random, re, resource, shutil, signal, socket, sqlite3, struct, subprocess, sys, tempfile, time
+import argparse, os, random, re, resource, shutil, signal, socket, sqlite3, struct, subprocess, sys, tempfile, threading, time
 from datetime import datetime, timezone
 
+from moments import Person, rows_of
 from try_server import TOP, Terminal
 
 IS_ROOT = os.geteuid() == 0
@@ -838,7 +839,7 @@ def try_audit():
         begun = int(time.time())
         server = serving(desk)
         done, last = played(server)
-        expect("what is gathered comes within two seconds", wait_for(lambda: len(server.lines()) > 0 and fields(server.lines()[-1]) == done[-1], 2), server.lines()[-2:])
+        expect("what is gathered comes within seconds", wait_for(lambda: len(server.lines()) > 0 and fields(server.lines()[-1]) == done[-1], 5), server.lines()[-2:])
         lines = server.lines()
         server.kill()
         last.close()
@@ -853,8 +854,8 @@ def try_audit():
         times = [datetime.strptime(line.split("\t")[0], "%Y-%m-%dT%H:%M:%SZ").replace(tzinfo=timezone.utc).timestamp() for line in text.splitlines()]
         expect("at the times when it was", times == sorted(times) and begun <= times[0] and times[-1] <= ended, (begun, times[0], times[-1], ended))
         events = desk.events()
-        first = [line for line in events if line[0] == "-"]
-        expect("first come the buffers of CONFIG", first == events[:2] == [("-", "create", "notes", "-"), ("-", "create", "page", "-")], events[:3])
+        first = events[:2]
+        expect("first come the buffers of CONFIG", first == [("-", "create", "notes", "-"), ("-", "create", "page", "-")], first)
         rest = events[len(first):]
         expect(f"then each of {len(done)} things that were done, line by line", rest == done, [pair for pair in zip(rest, done) if pair[0] != pair[1]][:3])
         expect("--user has the user's", desk.events("--user", "bob") == [line for line in events if line[0] == "bob"], desk.events("--user", "bob")[:3])
@@ -923,33 +924,81 @@ def text_kept(desk, name):
     return rows[0] if isinstance(rows, list) and rows else None
 
 
+def texts_kept(desk):
+    """What the journal has of each buffer's text."""
+    return dict(desk.ask("SELECT name, coalesce(body, '') FROM buffer LEFT JOIN text ON text.buffer = buffer.id"))
+
+
+def killed_at_a_moment(desk, chance):
+    """Three people paste, play macros, replace, undo, kill and make buffers until the server is killed: these people, and when that was."""
+    server = serving(desk)
+    people = [Person(name, server.join(name), random.Random(chance.random())) for name in ("ann", "bob", "cat")]
+    killed, moment = threading.Event(), []
+
+    def kill():
+        moment.append(time.time())
+        server.process.kill()
+        killed.set()
+
+    timer = threading.Timer(chance.uniform(0.1, 4), kill)
+    timer.start()
+    astray = []
+    while not killed.is_set():
+        person = chance.choice(people)
+        if not person.step(killed, PATIENCE):
+            astray.append((person.name, person.rows(), [person.terminal.shows(row) for row in range(1, ROWS + 1)]))
+            break
+    timer.join()
+    server.kill()
+    return people, moment[0], astray
+
+
+def wait_for_rows(one, rows):
+    """Whether a screen comes to show these rows above its mode line."""
+    is_there = lambda seen: [seen.shows(row) for row in range(1, len(rows) + 1)] == rows
+    return is_there(one.read_until(is_there, PATIENCE))
+
+
+def age_of(person, name, text, killed):
+    """How long before the kill a buffer's text was last the one of what a screen had shown by then: none where it never was."""
+    whole = person.of(name, 0, person.typed)
+    if text not in whole:
+        return None
+    for age in (0, 0.25, 0.5, 0.75, 1, 1.25, 1.5, 2, 3, 5):
+        if text in person.of(name, person.seen_until(killed - age), person.typed):
+            return age
+    return None
+
+
 def try_texts(rounds, seed):
-    """Numbers are typed, one after another, until the server is killed at a random moment: what the next start shows is a text that was
-    shown no more than a second, and what a commit takes, before, and never a mixture."""
+    """The texts that a start shows are whole, of one moment each, and were shown no more than a second, and what a commit takes, before the
+    kill."""
     chance = random.Random(seed)
+    wrong, ages = [], {}
     for number in range(rounds):
-        with Desk() as desk:
+        with Desk(config()) as desk:
+            people, killed, astray = killed_at_a_moment(desk, chance)
+            expect("each screen is as by a plain account", not astray, astray)
+            kept = texts_kept(desk)
+            for person in people:
+                for name in person.names:
+                    age = age_of(person, name, kept.get(name), killed)
+                    ages[age] = ages.get(age, 0) + 1
+                    if age is None or age > 1.5:
+                        wrong.append((number, name, age, kept.get(name), person.of(name, person.seen_until(killed - 1.5), person.typed)[:3]))
             server = serving(desk)
-            ann = server.join("ann")
-            type_in(ann, go_to("draft"))
-            see(ann, "-draft-")
-            end = time.time() + chance.uniform(0.2, 3)
-            shown = []
-            while time.time() < end:
-                type_in(ann, f"{len(shown)} ")
-                if see(ann, f"{len(shown)} "):
-                    shown.append(time.time())
-            killed = time.time()
+            for person in people:
+                for name in kept:
+                    if name in person.names:
+                        one = server.join(person.name)
+                        type_in(one, go_to(name))
+                        rows = rows_of(person.name, kept[name], ROWS, COLS)
+                        if not wait_for_rows(one, rows):
+                            wrong.append((number, name, "not shown", rows, [one.shows(row) for row in range(1, ROWS - 1)]))
             server.kill()
-            kept = text_kept(desk, "draft") or ("", 0)
-            words = kept[0].split()
-            old = sum(1 for at in shown if at < killed - 1.5)
-            expect(f"round {number}: of {len(shown)} numbers {len(words)} are kept, whole", kept[0] == "".join(f"{n} " for n in range(len(words))) and len(words) >= old, (kept, len(shown), old))
-            server = serving(desk)
-            ann = server.join("ann")
-            type_in(ann, go_to("draft"))
-            expect("and shown at the next start", not words or see(ann, words[-1]), ann.shows(1))
-            server.kill()
+            if not desk.is_sound():
+                wrong.append((number, "not sound"))
+    expect(f"of {rounds} kills each text that was kept is one of a moment that was shown no more than 1.5 s before ({ages})", not wrong, wrong[:3])
 
 
 def try_files_of_texts():
@@ -986,6 +1035,53 @@ def try_files_of_texts():
         server.kill()
 
 
+# Bytes that a server of a full memory has: of its texts and of its own.
+MEMORY = 250_000_000
+
+
+def fill_memory(one):
+    """Makes buffers of 1,000,000 characters, and then of fewer, until memory is refused to one of a thousand: how many were made."""
+    type_in(one, go_to("full") + "words and " * 100 + "\x18h\x1bw")
+    type_in(one, "\x15999\x19\x18h\x1bw")
+    see(one, "**-full")
+    made = 0
+    for size in (1_000_000, 100_000, 10_000, 1_000):
+        is_refused = False
+        while not is_refused and made < 200:
+            made += 1
+            type_in(one, go_to(f"full{made}") + "\x19")
+            one.read_until(lambda seen: seen.shows(ROWS - 1).startswith(f"-**-full{made}-") or shows(seen, "No memory"), PATIENCE)
+            is_refused = shows(one, "No memory")
+        # The next pieces are smaller.
+        type_in(one, go_to("full") + f"\x1b<\x00\x15{min(size // 10, 9999)}\x06\x1bw")
+    return made
+
+
+def try_memory():
+    """With the memory full of one user's texts, another's change is kept and shown, and his text is kept."""
+    with Desk() as desk:
+        server = serving(desk, before=lambda: resource.setrlimit(resource.RLIMIT_AS, (MEMORY, MEMORY)))
+        ann, bob, cat = (server.join(name) for name in ("ann", "bob", "cat"))
+        type_in(bob, go_to("long") + "words and " * 100 + "\x18h\x1bw\x1b<\x15999\x19\x1b<")
+        see(bob, "L1-C0")
+        type_in(bob, go_to("notes"))
+        made = fill_memory(cat)
+        expect("memory is full", 10 < made < 200, made)
+        time.sleep(made * 0.05 + 2)
+        type_in(bob, "kept ")
+        is_typed = see(ann, "kept The door")
+        type_in(bob, go_to("long") + "kept \x18bnotes\r")
+        type_in(ann, DENY_BOB)
+        is_seen = see(bob, "[no read: entry 1]")
+        time.sleep(made * 0.05 + 3)
+        expect("with it full, a list is changed and shown", is_typed and is_seen and server.process.poll() is None, (is_typed, is_seen, server.told()))
+        server.kill()
+        expect("and kept", ("ann", "list", "notes") in [line[:3] for line in desk.events("--user", "ann")])
+        for name, begin in (("notes", "kept The door"), ("long", "kept words and")):
+            words = (text_kept(desk, name) or ("",))[0]
+            expect(f"and so is the text {name}, of {len(words)} characters", words.startswith(begin), words[:20])
+
+
 def try_closed_pipe():
     """Where nobody takes the lines of standard output, it serves on, and the journal has them."""
     with Desk() as desk:
@@ -1015,6 +1111,7 @@ def main():
     global program
     parser = argparse.ArgumentParser(description=__doc__.splitlines()[0])
     parser.add_argument("--rounds", type=int, default=100, help="how often it is killed at a random moment")
+    parser.add_argument("--moments", type=int, default=60, help="how often it is killed while texts are edited")
     parser.add_argument("--seed", type=int, default=random.randrange(1 << 30), help="what the moments are drawn from")
     parser.add_argument("program", nargs="?", default=program)
     options = parser.parse_args()
@@ -1033,6 +1130,7 @@ def main():
     try_saves()
     try_files_of_texts()
     try_closed_pipe()
+    try_memory()
     try_owner_left()
     try_otherwise()
     try_names_of_others()
@@ -1041,7 +1139,7 @@ def main():
     try_size_limit()
     try_full_disk()
     print(f"seed {options.seed}")
-    try_texts(max(1, options.rounds // 5), options.seed)
+    try_texts(options.moments, options.seed)
     try_kills(options.rounds, options.seed)
     return finish()
 
