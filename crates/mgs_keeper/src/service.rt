@@ -260,7 +260,7 @@ fn end_start<R: Eprint>(rt: &R, fault: StartFault) -> u8
     ensures { result ≢ 0 }
 {
     tell(rt, fault);
-    match fault {
+    match &fault {
         StartFault::Journal(_) => JOURNAL_FAILED,
         StartFault::Resume(_) | StartFault::Short => FAILED,
     }
