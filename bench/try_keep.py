@@ -3,8 +3,8 @@
 
 It starts the program that stands in crates/mgd_keep/out/mgd_keep (or PROGRAM) over folders of its own, changes lists, owners, groups and
 buffers as people do, kills it at N random moments (100), and at others (60) while three people edit texts, damages what it left, fills its
-memory, and looks at what the next start shows, what `audit` prints, and what SQLite finds. It is started by hand and ends with status 0 if all is as it should be. As root it also tries a full disk and
-a folder of another user; otherwise it says that it leaves them out.
+memory, and looks at what the next start shows, what `audit` prints, and what SQLite finds. It is started by hand and ends with status 0 if
+all is as it should be. As root it also tries a full disk and a folder of another user; otherwise it says that it leaves them out.
 """
 import argparse, os, random, re, resource, shutil, signal, socket, sqlite3, struct, subprocess, sys, tempfile, threading, time
 from datetime import datetime, timezone

@@ -1,12 +1,14 @@
 //! What a journal is: where it is kept by what access to each buffer is decided, and what is told of events.
 #![tactic(auto)]
 
+mod room;
 mod same;
 mod snapshot;
 
 use mgs_buffers::Rights;
 use mgs_model::{Decision, Name};
 use mgs_wire::Refusal;
+pub use room::Room;
 pub use same::{are_same, is_same_name};
 pub use snapshot::Snapshot;
 use thiserror::Error;

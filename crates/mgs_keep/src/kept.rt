@@ -8,13 +8,16 @@ use crate::tellings::{name_in_bytes, opening_told, refused, said_to, tell, tick}
 use crate::texts::{keep_next, keep_saved};
 use crate::users::Users;
 use mgs_engine::Engine;
-use mgs_journal::{Journal, JournalFault, Told};
+use mgs_journal::{Journal, JournalFault, Room, Told};
 use mgs_marks::Marked;
 use mgs_model::{Keyed, Message, Name, OpenFault, SessionId};
 use mgs_store::Store;
 use mgs_wire::{Refusal, Served, Sessions};
 use std::alloc::Global;
 use std::marker::Model;
+
+// The memory that is set aside for a text as UTF-8, in bytes: such a text has 4 MB at most, and grows by doubling.
+const ROOM: usize = 16_777_216;
 
 /// A server of sessions, and the journal that keeps by what access its buffers may be shown. No byte is handed to a terminal before the
 /// journal keeps by what access each buffer is decided, and none once it failed.
@@ -26,6 +29,8 @@ pub struct Kept<T: Marked + Drop, S: Store + Drop, J: Journal + Drop> {
     users: Users,
     // Which texts are still to be kept.
     round: Round,
+    // The memory for a text that is handed to the journal.
+    room: Room,
     alloc: Global,
     // The journal did not take something: nothing is asked of it and nothing is shown any more.
     failed: bool,
@@ -46,7 +51,7 @@ impl<T: Marked + Drop, S: Store + Drop, J: Journal + Drop> Model for Kept<T, S, 
 
 impl<T: Marked + Drop, S: Store + Drop, J: Journal + Drop> Kept<T, S, J> {
     /// A server of which nothing was shown yet, and its journal, which keeps from now on by what access its buffers may be shown.
-    /// `JournalFault`: it did not take that.
+    /// `JournalFault`: it did not take that, or memory was refused before.
     pub fn new(
         alloc: Global,
         engine: Engine<T, S>,
@@ -57,12 +62,16 @@ impl<T: Marked + Drop, S: Store + Drop, J: Journal + Drop> Kept<T, S, J> {
         ensures changed { IfOk result (λ k. HasChanged J.does None journal k.journal) }
         ensures failed { IfOk result (λ k. k.failed ≡ false) }
     {
+        let Ok(room) = Room::new(alloc, ROOM) else {
+            return Err(JournalFault);
+        };
         keep_all(&engine, &mut journal, &None)?;
         Ok(Kept {
             engine,
             journal,
             users: Users::new(),
             round: Round::new(),
+            room,
             alloc,
             failed: false,
         })
@@ -128,6 +137,7 @@ impl<T: Marked + Drop, S: Store + Drop, J: Journal + Drop> Sessions for Kept<T, 
             &self.engine,
             &mut self.journal,
             &mut self.failed,
+            &mut self.room,
             saved,
         );
         keyed
@@ -222,6 +232,7 @@ impl<T: Marked + Drop, S: Store + Drop, J: Journal + Drop> Served for Kept<T, S,
             &mut self.journal,
             &mut self.failed,
             &mut self.round,
+            &mut self.room,
         );
         tick(&mut self.journal, &mut self.failed);
     }

@@ -5,7 +5,7 @@ ghost use Rattle.mgs_keep.specs.Keeping.{AreKept, HasPut, OrFails};
 
 use crate::round::{Round, Standing};
 use mgs_engine::Engine;
-use mgs_journal::{Journal, JournalFault, Snapshot};
+use mgs_journal::{Journal, JournalFault, Room, Snapshot};
 use mgs_marks::Marked;
 use mgs_model::Name;
 use mgs_store::Store;
@@ -149,6 +149,7 @@ pub(crate) fn keep_next<T: Marked + Drop, S: Store + Drop, J: Journal>(
     journal: &mut J,
     failed: &mut bool,
     round: &mut Round,
+    room: &mut Room,
 )
     requires { failed.old ≡ false → AreKept J.kept engine.now journal.old }
     ensures kept { failed.new ≡ false → J.kept journal.new ≡ J.kept journal.old }
@@ -161,11 +162,13 @@ pub(crate) fn keep_next<T: Marked + Drop, S: Store + Drop, J: Journal>(
         round.go_on(None);
         return;
     };
+    room.lend();
     if keep_text(alloc, engine, journal, failed, place) {
         round.note(place, standing);
     } else {
         round.type_on(false);
     }
+    room.take_back();
     round.go_on(place.checked_add(1));
 }
 
@@ -189,6 +192,7 @@ pub(crate) fn keep_saved<T: Marked + Drop, S: Store + Drop, J: Journal>(
     engine: &Engine<T, S>,
     journal: &mut J,
     failed: &mut bool,
+    room: &mut Room,
     name: Option<Name>,
 )
     requires { failed.old ≡ false → AreKept J.kept engine.now journal.old }
@@ -199,6 +203,8 @@ pub(crate) fn keep_saved<T: Marked + Drop, S: Store + Drop, J: Journal>(
         return;
     };
     if let Some(place) = place_named(engine, &name) {
+        room.lend();
         keep_text(alloc, engine, journal, failed, place);
+        room.take_back();
     }
 }

@@ -13,21 +13,21 @@ use mgs_config::{BufferFile, Config};
 use mgs_disk::{DiskFiles, FileStore, load_config};
 use mgs_gap::GapText;
 use mgs_journal::{Journal, JournalFault, are_same};
-use mgs_keep::{Kept, text_sum};
+use mgs_keep::text_sum;
 use mgs_ledger::Ledger;
 use mgs_model::{BUFFER_LIMIT, Name, Owners};
-use mgs_policy::Directory;
+use mgs_store::Store;
 use mgs_tables::open;
-use sqlite::{FileFrom, FileStore as TableStore, Wary};
+use sqlite::{Alter, FileFrom, FileStore as TableStore, Wary};
 use std::fmt::Display;
-use std::io::{self, Printer};
+use std::io::{self, Printer, Write};
+use std::mem;
+use std::net::Net;
 use std::sync::Wait;
+use std::time::Clock;
 
 /// The journal of this program: its file, the system's clock and standard output.
 type FileLedger<'a> = Ledger<TableStore<FileFrom<Wary>>, &'a HostRuntime, Printer<'a, HostRuntime>>;
-
-/// What is served: an engine whose texts are saved in the files of the disk, and the journal.
-type KeptEngine<'a> = Kept<GapText, FileStore<DiskFiles<'a, HostRuntime>>, FileLedger<'a>>;
 
 // Tells a cause, and gives the status of what is refused.
 fn refuse<R: Eprint, E: Display + Drop>(rt: &R, cause: E) -> u8
@@ -102,7 +102,10 @@ fn mend_owner<'a, J: Journal>(
 }
 
 // What is kept of a buffer goes, and its name is free for the configuration.
-fn forget<'a>(ledger: &mut FileLedger<'_>, buffer: &'a str) -> Result<(), MendFault<'a>> {
+fn forget<'a, S: Alter + Drop, C: Clock + Drop, W: Write + Drop>(
+    ledger: &mut Ledger<S, C, W>,
+    buffer: &'a str,
+) -> Result<(), MendFault<'a>> {
     let Some(name) = Name::read(buffer) else {
         return Err(MendFault::NoBuffer(buffer));
     };
@@ -116,7 +119,10 @@ fn forget<'a>(ledger: &mut FileLedger<'_>, buffer: &'a str) -> Result<(), MendFa
 }
 
 // Mends what the journal keeps of one buffer.
-fn mend<'a>(ledger: &mut FileLedger<'_>, mending: &'a Mending) -> Result<(), MendFault<'a>> {
+fn mend<'a, S: Alter + Drop, C: Clock + Drop, W: Write + Drop>(
+    ledger: &mut Ledger<S, C, W>,
+    mending: &'a Mending,
+) -> Result<(), MendFault<'a>> {
     match mending {
         Mending::Forget(buffer) => forget(ledger, buffer.as_str()),
         Mending::Owner(buffer, owner) => mend_owner(ledger, buffer.as_str(), owner.as_str()),
@@ -144,7 +150,11 @@ fn end_mending<R: Eprint>(rt: &R, fault: MendFault<'_>) -> u8
 }
 
 // Mends what the journal keeps: the program's status where that fails.
-fn mend_all<R: Eprint>(rt: &R, ledger: &mut FileLedger<'_>, mendings: &[Mending]) -> Result<(), u8>
+fn mend_all<R: Eprint, S: Alter + Drop, C: Clock + Drop, W: Write + Drop>(
+    rt: &R,
+    ledger: &mut Ledger<S, C, W>,
+    mendings: &[Mending],
+) -> Result<(), u8>
     ensures { IfErr result (λ status. status ≢ 0) }
 {
     for mending in mendings {
@@ -266,39 +276,49 @@ fn end_start<R: Eprint>(rt: &R, fault: StartFault) -> u8
     }
 }
 
-// What is served: the world of a configuration, by the access that the journal keeps.
-fn keep<'a>(
-    rt: &'a HostRuntime,
-    ledger: FileLedger<'a>,
-    directory: Directory,
-    configured: &Buffers<GapText>,
-    files: Vec<BufferFile>,
-) -> Result<KeptEngine<'a>, u8>
-    ensures { IfErr result (λ status. status ≢ 0) }
+// Serves a configuration, by what a journal keeps.
+fn serve_journal<
+    R: AllocGlobal + Net + Clock,
+    W: Print + Eprint + Wait,
+    S: Store + Drop,
+    J: Journal + Drop,
+>(rt: &R, wait: &W, port: u16, config: Config, store: S, journal: J) -> u8
+    ensures { result ≢ 0 }
 {
-    let store = open_store(rt, files)?;
-    match start(rt.alloc(), directory, configured, store, ledger) {
-        Ok(kept) => Ok(kept),
-        Err(fault) => Err(end_start(rt, fault)),
+    let Config {
+        directory,
+        tickets,
+        buffers,
+        files: _,
+    } = config;
+    tell_differences(wait, &buffers, &journal);
+    tell_unsaved(wait, &buffers, &journal);
+    match start(rt.alloc(), directory, &buffers, store, journal) {
+        Ok(kept) => serve_kept(rt, wait, port, kept, tickets, rt),
+        Err(fault) => end_start(wait, fault),
     }
 }
 
-// What is served with the journal in a folder, mended before: or the program's status, with its cause told.
-fn open_kept<'a>(
-    rt: &'a HostRuntime,
-    folder: &str,
+// Serves a configuration whose texts are saved in the files of the system, by what a ledger keeps, which is mended before.
+fn serve_ledger<W: Print + Eprint + Wait, A: Alter + Drop, C: Clock + Drop, O: Write + Drop>(
+    rt: &HostRuntime,
+    wait: &W,
+    port: u16,
+    mut config: Config,
+    mut ledger: Ledger<A, C, O>,
     mendings: &[Mending],
-    directory: Directory,
-    configured: Buffers<GapText>,
-    files: Vec<BufferFile>,
-) -> Result<KeptEngine<'a>, u8>
-    ensures { IfErr result (λ status. status ≢ 0) }
+) -> u8
+    ensures { result ≢ 0 }
 {
-    let mut ledger = open_ledger(rt, folder)?;
-    mend_all(rt, &mut ledger, mendings)?;
-    tell_differences(rt, &configured, &ledger);
-    tell_unsaved(rt, &configured, &ledger);
-    keep(rt, ledger, directory, &configured, files)
+    match mend_all(rt, &mut ledger, mendings) {
+        Ok(()) => {}
+        Err(status) => return status,
+    }
+    let files = mem::replace(&mut config.files, Vec::new(rt.alloc()));
+    match open_store(rt, files) {
+        Ok(store) => serve_journal(rt, wait, port, config, store, ledger),
+        Err(status) => status,
+    }
 }
 
 /// Serves the configuration in a file on a port of the loopback address, with the journal in a folder, which is mended before. It returns
@@ -313,17 +333,12 @@ pub(crate) fn serve<W: Print + Eprint + Wait>(
 ) -> u8
     ensures { result ≢ 0 }
 {
-    let Config {
-        directory,
-        tickets,
-        buffers,
-        files,
-    } = match load_config(rt, config) {
+    let config = match load_config(rt, config) {
         Ok(config) => config,
         Err(fault) => return refuse(rt, fault),
     };
-    match open_kept(rt, folder, mendings, directory, buffers, files) {
-        Ok(kept) => serve_kept(rt, wait, port, kept, tickets, rt),
+    match open_ledger(rt, folder) {
+        Ok(ledger) => serve_ledger(rt, wait, port, config, ledger, mendings),
         Err(status) => status,
     }
 }

@@ -15,7 +15,7 @@ use crate::tables::{add_rights, drop_rights, set_rights};
 use crate::texts::keep_text;
 use mgs_acl::List;
 use mgs_buffers::Rights;
-use mgs_journal::{Snapshot, Told};
+use mgs_journal::{Room, Snapshot, Told};
 use mgs_model::{Name, Owners};
 use mgs_tables::{EventRow, newest, put_event};
 use sqlite::{Alter, Connection};
@@ -25,6 +25,9 @@ use std::time::Clock;
 
 /// How many events are gathered at most before they are committed.
 pub const GATHER_LIMIT: usize = 256;
+
+// The memory that is set aside for a commit, in bytes: a text has 4 MB at most, of which SQLite makes a copy and a row, beside its pages.
+const ROOM: usize = 16_777_216;
 
 /// What happened: the tables and the writer of lines that are told of it, and what is gathered for them.
 #[derive(Drop)]
@@ -39,6 +42,8 @@ pub(crate) struct Log<S: Alter + Drop, C: Clock + Drop, W: Write + Drop> {
     text_second: i64,
     // What is not committed yet, `GATHER_LIMIT` at most. The room for that is there from the start.
     gathered: Vec<Gathered>,
+    // The memory that a commit may need.
+    room: Room,
 }
 
 /// The user's name, or `-` where there is none.
@@ -118,6 +123,7 @@ impl<S: Alter + Drop, C: Clock + Drop, W: Write + Drop> Log<S, C, W> {
     ) -> Result<Log<S, C, W>, LedgerFault> {
         let number = newest(&mut conn)?;
         let gathered = Vec::with_capacity(alloc, GATHER_LIMIT)?;
+        let room = Room::new(alloc, ROOM)?;
         Ok(Log {
             conn,
             alloc,
@@ -126,6 +132,7 @@ impl<S: Alter + Drop, C: Clock + Drop, W: Write + Drop> Log<S, C, W> {
             number,
             text_second: 0,
             gathered,
+            room,
         })
     }
 
@@ -136,8 +143,10 @@ impl<S: Alter + Drop, C: Clock + Drop, W: Write + Drop> Log<S, C, W> {
         if self.gathered.is_empty() {
             return Ok(());
         }
+        self.room.lend();
         let all = all_words(self.alloc, self.gathered.as_slice())?;
         put_all(&mut self.conn, self.alloc, all.as_slice())?;
+        self.room.take_back();
         self.gathered.clear();
         self.number = print_all(&mut self.out, self.alloc, self.number, all.as_slice());
         Ok(())
@@ -154,6 +163,7 @@ impl<S: Alter + Drop, C: Clock + Drop, W: Write + Drop> Log<S, C, W> {
             number: _,
             text_second: _,
             gathered: _,
+            room: _,
         } = self;
         Ok(conn)
     }
@@ -205,7 +215,9 @@ impl<S: Alter + Drop, C: Clock + Drop, W: Write + Drop> Log<S, C, W> {
             buffer: name_text(rights.name),
             detail: "",
         };
+        self.room.lend();
         add_rights(&mut self.conn, self.alloc, rights, &event)?;
+        self.room.take_back();
         self.number = print_one(&mut self.out, self.alloc, self.number, &event);
         Ok(())
     }
@@ -226,7 +238,9 @@ impl<S: Alter + Drop, C: Clock + Drop, W: Write + Drop> Log<S, C, W> {
             buffer: name_text(rights.name),
             detail: "",
         };
+        self.room.lend();
         drop_rights(&mut self.conn, rights.name, &event)?;
+        self.room.take_back();
         self.number = print_one(&mut self.out, self.alloc, self.number, &event);
         Ok(())
     }
@@ -259,9 +273,11 @@ impl<S: Alter + Drop, C: Clock + Drop, W: Write + Drop> Log<S, C, W> {
         ensures gathered { OnOk result (self.new.gathered.items ≡ []) }
         ensures committed { HasCleanDisk (state S.Store self.new.conn) → OnOk result (IsTextPut S.Store name.now text.now self.new.conn) }
     {
+        self.room.lend();
         let all = all_words(self.alloc, self.gathered.as_slice())?;
         self.text_second = seconds(&self.clock)?;
         keep_text(&mut self.conn, self.alloc, name, text, all.as_slice())?;
+        self.room.take_back();
         self.gathered.clear();
         self.number = print_all(&mut self.out, self.alloc, self.number, all.as_slice());
         Ok(())
@@ -398,7 +414,9 @@ impl<S: Alter + Drop, C: Clock + Drop, W: Write + Drop> Log<S, C, W> {
             return Err(LedgerFault::Other);
         }
         self.commit()?;
+        self.room.lend();
         self.set_parts(user, old, new)?;
+        self.room.take_back();
         Ok(())
     }
 }
