@@ -102,7 +102,8 @@ def told(what, measure):
 
 def instructions(plain, keeps):
     first, second = per_key(CASE, plain), per_key(CASE, keeps)
-    return (f"whole server {second.whole / first.whole:.3f} ({first.whole:,.0f} to {second.whole:,.0f}), "
+    key = second.whole - second.kept
+    return (f"whole server {key / first.whole:.3f} ({first.whole:,.0f} to {key:,.0f}, beside {second.kept:,.0f} of what is kept once a second), "
             f"engine {second.engine / first.engine:.3f} ({first.engine:,.0f} to {second.engine:,.0f}), at most 1.1")
 
 

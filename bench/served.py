@@ -24,6 +24,8 @@ from script import add_options, buffers_of, bytes_of, case_of, opened, prepared,
 from terminals import Missing, Terminals, need
 
 ENGINE = r"mgs_wire\b.*\btype_all\b"
+# What mgd-keep does once a second: it keeps the texts that were edited.
+KEPT = r"mgs_keep\b.*\bkeep_next\b"
 LEAVE = b"\x18\x03"
 # How long a key's answer is waited for, where it may have none; a login's answer; and the end of a session that left.
 ANSWER, LOGIN, END = 0.5, 60, 3600
@@ -119,6 +121,7 @@ def play(case, port):
 class Counts:
     engine: float
     whole: float
+    kept: float = 0
 
 
 def number(digits):
@@ -136,10 +139,10 @@ def counted(program, case):
             ["callgrind_annotate", "--inclusive=yes", "--threshold=100", "--auto=no", profile], capture_output=True, text=True, check=True
         ).stdout
     lines = re.findall(r"^ *([\d,]+) \([ \d.]+%\)  (.*)$", listed, re.MULTILINE)
-    engine = [number(digits) for digits, name in lines if re.search(ENGINE, name)]
-    if not engine:
+    total = lambda pattern: sum(number(digits) for digits, name in lines if re.search(pattern, name))
+    if not total(ENGINE):
         raise Missing(f"{program} has no function type_all of mgs_wire: it has no names, or was built into another one")
-    return Counts(sum(engine), sum(number(digits) for digits, name in lines if name == "PROGRAM TOTALS"))
+    return Counts(total(ENGINE), total("^PROGRAM TOTALS$"), total(KEPT))
 
 
 @functools.cache
@@ -147,7 +150,7 @@ def per_key(case, program=PROGRAM):
     """The instructions for each key of a case."""
     once = counted(program, case)
     twice = counted(program, dataclasses.replace(case, keys=2 * case.keys))
-    return Counts((twice.engine - once.engine) / case.keys, (twice.whole - once.whole) / case.keys)
+    return Counts((twice.engine - once.engine) / case.keys, (twice.whole - once.whole) / case.keys, (twice.kept - once.kept) / case.keys)
 
 
 def main():
