@@ -1,31 +1,19 @@
--- Families of messages.
-use Rattle.std.specs.Prelude.{Bool, true, false}
+-- Messages that say the same each time, and those that tell what came of a command.
+use Rattle.std.specs.Prelude.{ℕ, Bool, true, false, List, Option, Some, None, if◌then◌else◌}
+use Rattle.mgs_model.specs.Messages.{message_text}
 use Rattle.mgs_model.specs.declared.message.Message.{Message}
-use Rattle.mgs_model.specs.declared.message.Message.TheVariants.{InMacro, NotInMacro, NoMacro, TooMany, MacroTooLong, OnlyOneWindow, WindowTooSmall, TooManyWindows, ImpossibleChange, NoSuchBuffer, BadName, TooManyBuffers, NoMatch, NoSuchCommand, NotANumber, BadEntry, NoSuchEntry, ListFull, NoSuchUser, NoSuchGroup, NoFile, SaveFailed, Wrote}
+use Rattle.mgs_model.specs.declared.message.Message.TheVariants.{Denied, CharacterAt, EndAt, BadEntry, Wrote, Replaced}
 
--- about macros, windows, names of buffers, access lists or files, and not about a key or the text
-abbrev pub is_other_message : Message → Bool
-is_other_message InMacro = true
-is_other_message NotInMacro = true
-is_other_message NoMacro = true
-is_other_message TooMany = true
-is_other_message MacroTooLong = true
-is_other_message OnlyOneWindow = true
-is_other_message WindowTooSmall = true
-is_other_message TooManyWindows = true
-is_other_message ImpossibleChange = true
-is_other_message NoSuchBuffer = true
-is_other_message BadName = true
-is_other_message TooManyBuffers = true
-is_other_message NoMatch = true
-is_other_message NoSuchCommand = true
-is_other_message NotANumber = true
-is_other_message (BadEntry fault) = true
-is_other_message NoSuchEntry = true
-is_other_message ListFull = true
-is_other_message NoSuchUser = true
-is_other_message NoSuchGroup = true
-is_other_message NoFile = true
-is_other_message SaveFailed = true
-is_other_message (Wrote name) = true
-is_other_message _ = false
+-- whether nothing in its text depends on what was done
+abbrev pub is_fixed : Message → Bool
+is_fixed (Denied decision) = false
+is_fixed (CharacterAt c at) = false
+is_fixed (EndAt at) = false
+is_fixed (BadEntry fault) = false
+is_fixed (Wrote name) = false
+is_fixed (Replaced count) = false
+is_fixed _ = true
+
+-- the text of a message that says the same each time
+abbrev pub fixed_text : Message → Option (List ℕ)
+fixed_text message = if is_fixed message then Some (message_text message) else None

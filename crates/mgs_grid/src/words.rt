@@ -1,12 +1,13 @@
 // Mode lines, messages and prompts written into a row.
-ghost use Rattle.std.specs.Prelude.{◌≡◌, ◌+◌, ◌<◌, ◌≤◌, ◌^◌, ◌++◌, length, codes, true};
+ghost use Rattle.std.specs.Prelude.{◌≡◌, ◌+◌, ◌<◌, ◌≤◌, ◌^◌, ◌++◌, length, codes, false};
+ghost use Rattle.std.specs.Option.{option_map};
 ghost use Rattle.mgs_model.specs.Rows.{heading_text, place_text, cause_text, unread_text};
 ghost use Rattle.mgs_model.specs.Rights.{right_name};
 ghost use Rattle.mgs_model.specs.Messages.{denial_text, fault_name, message_text, position_text};
 ghost use Rattle.mgs_model.specs.Cells.{cells};
 ghost use Rattle.mgs_model.specs.Prompts.{prompt_text, prompt_line, search_text};
 ghost use Rattle.mgs_grid.specs.Cells.{over, Wrote};
-ghost use Rattle.mgs_grid.specs.Messages.{is_other_message};
+ghost use Rattle.mgs_grid.specs.Messages.{fixed_text, is_fixed};
 
 use crate::cells::{put_bytes, put_chars, put_decimal, put_text};
 use mgs_model::{CursorPosition, Decision, Direction, EntryFault, Message, Name, Question, Right};
@@ -159,62 +160,66 @@ fn put_position(row: &mut [char], column: usize, at: &CursorPosition) -> usize
     put_decimal(row, at_column, at.column)
 }
 
-/// Writes the echo text of a message about macros, windows, names of buffers, access lists or files, and tells the column after it.
-fn put_other_message(row: &mut [char], message: &Message) -> usize
-    requires other { is_other_message message.now ≡ true }
-    ensures wrote { Wrote row.old 0 (message_text message.now) row.new result }
-    ensures few { result ≤ 160 }
+// The text of a message that says the same each time. `None`: it tells what came of a command.
+fn fixed_text(message: &Message) -> Option<&'static [u8]>
+    ensures { option_map (λ t. t.now) result ≡ fixed_text message.now }
 {
     match *message {
-        Message::InMacro => put_bytes(row, 0, b"In macro"),
-        Message::NotInMacro => put_bytes(row, 0, b"Not in macro"),
-        Message::NoMacro => put_bytes(row, 0, b"No macro"),
-        Message::TooMany => put_bytes(row, 0, b"Too many"),
-        Message::MacroTooLong => put_bytes(row, 0, b"Macro too long"),
-        Message::OnlyOneWindow => put_bytes(row, 0, b"Only one window"),
-        Message::WindowTooSmall => put_bytes(row, 0, b"Window too small"),
-        Message::TooManyWindows => put_bytes(row, 0, b"Too many windows"),
-        Message::ImpossibleChange => put_bytes(row, 0, b"Impossible change"),
-        Message::NoSuchBuffer => put_bytes(row, 0, b"No such buffer"),
-        Message::BadName => put_bytes(row, 0, b"Bad name"),
-        Message::TooManyBuffers => put_bytes(row, 0, b"Too many buffers"),
-        Message::NoMatch => put_bytes(row, 0, b"No match"),
-        Message::NoSuchCommand => put_bytes(row, 0, b"No such command"),
-        Message::NotANumber => put_bytes(row, 0, b"Not a number"),
-        Message::BadEntry(fault) => put_fault(row, fault),
-        Message::NoSuchEntry => put_bytes(row, 0, b"No such entry"),
-        Message::ListFull => put_bytes(row, 0, b"List full"),
-        Message::NoSuchUser => put_bytes(row, 0, b"No such user"),
-        Message::NoSuchGroup => put_bytes(row, 0, b"No such group"),
-        Message::NoFile => put_bytes(row, 0, b"No file"),
-        Message::SaveFailed => put_bytes(row, 0, b"Save failed"),
-        Message::Wrote(name) => {
-            let at = put_bytes(row, 0, b"Wrote ");
-            put_name(row, at, &name)
-        }
-        _ => unreachable!(),
+        Message::Silent => Some(b""),
+        Message::KeyNotBound => Some(b"Key not bound"),
+        Message::NoBuffer => Some(b"No buffer"),
+        Message::BeginningOfBuffer => Some(b"Beginning of buffer"),
+        Message::EndOfBuffer => Some(b"End of buffer"),
+        Message::BufferFull => Some(b"Buffer full"),
+        Message::NoMemory => Some(b"No memory"),
+        Message::Quitting => Some(b"Quit"),
+        Message::MarkSet => Some(b"Mark set"),
+        Message::NoMark => Some(b"No mark"),
+        Message::KillTooLarge => Some(b"Kill too large"),
+        Message::NothingToYank => Some(b"Nothing to yank"),
+        Message::NoArgument => Some(b"No argument"),
+        Message::BadColumn => Some(b"Bad column"),
+        Message::InMacro => Some(b"In macro"),
+        Message::NotInMacro => Some(b"Not in macro"),
+        Message::NoMacro => Some(b"No macro"),
+        Message::TooMany => Some(b"Too many"),
+        Message::OnlyOneWindow => Some(b"Only one window"),
+        Message::WindowTooSmall => Some(b"Window too small"),
+        Message::TooManyWindows => Some(b"Too many windows"),
+        Message::ImpossibleChange => Some(b"Impossible change"),
+        Message::NoSuchBuffer => Some(b"No such buffer"),
+        Message::BadName => Some(b"Bad name"),
+        Message::TooManyBuffers => Some(b"Too many buffers"),
+        Message::NoMatch => Some(b"No match"),
+        Message::NoSuchCommand => Some(b"No such command"),
+        Message::NotANumber => Some(b"Not a number"),
+        Message::NoSuchEntry => Some(b"No such entry"),
+        Message::ListFull => Some(b"List full"),
+        Message::NoSuchUser => Some(b"No such user"),
+        Message::NoSuchGroup => Some(b"No such group"),
+        Message::NoFurtherUndo => Some(b"No further undo information"),
+        Message::NoFile => Some(b"No file"),
+        Message::SaveFailed => Some(b"Save failed"),
+        Message::NoPattern => Some(b"No pattern"),
+        Message::NotFound => Some(b"Not found"),
+        Message::MacroTooLong => Some(b"Macro too long"),
+        Message::Denied(_)
+        | Message::CharacterAt(_, _)
+        | Message::EndAt(_)
+        | Message::BadEntry(_)
+        | Message::Wrote(_)
+        | Message::Replaced(_) => None,
     }
 }
 
-/// Writes an echo text from column 0 on, and tells the column after it, at most 160.
-pub(crate) fn put_message(row: &mut [char], message: &Message) -> usize
+// Writes the echo text of a message that tells what came of a command, and tells the column after it.
+fn put_told(row: &mut [char], message: &Message) -> usize
+    requires told { is_fixed message.now ≡ false }
     ensures wrote { Wrote row.old 0 (message_text message.now) row.new result }
     ensures few { result ≤ 160 }
 {
     match *message {
-        Message::Silent => 0,
         Message::Denied(decision) => put_denial(row, decision),
-        Message::KeyNotBound => put_bytes(row, 0, b"Key not bound"),
-        Message::NoBuffer => put_bytes(row, 0, b"No buffer"),
-        Message::BeginningOfBuffer => put_bytes(row, 0, b"Beginning of buffer"),
-        Message::EndOfBuffer => put_bytes(row, 0, b"End of buffer"),
-        Message::BufferFull => put_bytes(row, 0, b"Buffer full"),
-        Message::NoMemory => put_bytes(row, 0, b"No memory"),
-        Message::Quitting => put_bytes(row, 0, b"Quit"),
-        Message::MarkSet => put_bytes(row, 0, b"Mark set"),
-        Message::NoMark => put_bytes(row, 0, b"No mark"),
-        Message::KillTooLarge => put_bytes(row, 0, b"Kill too large"),
-        Message::NothingToYank => put_bytes(row, 0, b"Nothing to yank"),
         Message::CharacterAt(character, at) => {
             let at_code = put_bytes(row, 0, b"char ");
             let end = put_decimal(row, at_code, character as usize);
@@ -224,16 +229,28 @@ pub(crate) fn put_message(row: &mut [char], message: &Message) -> usize
             let end = put_bytes(row, 0, b"end");
             put_position(row, end, &at)
         }
-        Message::NoArgument => put_bytes(row, 0, b"No argument"),
-        Message::BadColumn => put_bytes(row, 0, b"Bad column"),
-        Message::NoFurtherUndo => put_bytes(row, 0, b"No further undo information"),
-        Message::NoPattern => put_bytes(row, 0, b"No pattern"),
-        Message::NotFound => put_bytes(row, 0, b"Not found"),
+        Message::BadEntry(fault) => put_fault(row, fault),
+        Message::Wrote(name) => {
+            let at = put_bytes(row, 0, b"Wrote ");
+            put_name(row, at, &name)
+        }
         Message::Replaced(count) => {
             let at = put_bytes(row, 0, b"Replaced ");
             put_decimal(row, at, count)
         }
-        _ => put_other_message(row, message),
+        _ => unreachable!(),
+    }
+}
+
+/// Writes an echo text from column 0 on, and tells the column after it, at most 160.
+#[tactic(auto, using(crate::proofs::Fixed::fixed_plain, crate::proofs::Fixed::fixed_short, crate::proofs::Fixed::fixed_is, crate::proofs::Fixed::told))]
+pub(crate) fn put_message(row: &mut [char], message: &Message) -> usize
+    ensures wrote { Wrote row.old 0 (message_text message.now) row.new result }
+    ensures few { result ≤ 160 }
+{
+    match fixed_text(message) {
+        Some(text) => put_bytes(row, 0, text),
+        None => put_told(row, message),
     }
 }
 

@@ -9,6 +9,10 @@ ghost use Rattle.mgs_maps.specs.declared.table.Binding.{Binding};
 ghost use Rattle.mgs_maps.specs.Table.{rows_of, command_of};
 
 use crate::maps::{Prefix, Stroke};
+use mgs_model::Command::{
+    Alter, Ask, Entries, Exit, Insert, InsertReading, ListEntries, Move, NotModified, Rearrange,
+    SaveBuffer, Scroll, Seek, Set, UndoEdit,
+};
 use mgs_model::{
     Alteration, Arrangement, Command, Direction, EntryChange, Insertion, Motion, Question,
     ReadingInsertion, Scrolling, Seeking, Setting,
@@ -36,430 +40,113 @@ pub struct Binding {
     pub command: Command,
 }
 
-static BINDINGS: [Binding; 73] = [
-    Binding {
-        keys: b"\r",
-        name: "newline",
-        command: Command::Insert(Insertion::Newline),
-    },
-    Binding {
-        keys: b"\x06",
-        name: "forward-char",
-        command: Command::Move(Motion::ForwardChar),
-    },
-    Binding {
-        keys: b"\x02",
-        name: "backward-char",
-        command: Command::Move(Motion::BackwardChar),
-    },
-    Binding {
-        keys: b"\x0F",
-        name: "open-line",
-        command: Command::Insert(Insertion::OpenLine),
-    },
-    Binding {
-        keys: b"\n",
-        name: "newline-and-indent",
-        command: Command::InsertReading(ReadingInsertion::NewlineAndIndent),
-    },
-    Binding {
-        keys: b"\x01",
-        name: "beginning-of-line",
-        command: Command::Move(Motion::BeginningOfLine),
-    },
-    Binding {
-        keys: b"\x05",
-        name: "end-of-line",
-        command: Command::Move(Motion::EndOfLine),
-    },
-    Binding {
-        keys: b"\x0E",
-        name: "next-line",
-        command: Command::Move(Motion::NextLine),
-    },
-    Binding {
-        keys: b"\x10",
-        name: "previous-line",
-        command: Command::Move(Motion::PreviousLine),
-    },
-    Binding {
-        keys: b"\x16",
-        name: "scroll-up",
-        command: Command::Scroll(Scrolling::ScrollUp),
-    },
-    Binding {
-        keys: b"\x1Bv",
-        name: "scroll-down",
-        command: Command::Scroll(Scrolling::ScrollDown),
-    },
-    Binding {
-        keys: b"\x0C",
-        name: "recenter",
-        command: Command::Move(Motion::Recenter),
-    },
-    Binding {
-        keys: b"\x1B<",
-        name: "beginning-of-buffer",
-        command: Command::Move(Motion::BufferStart),
-    },
-    Binding {
-        keys: b"\x1B>",
-        name: "end-of-buffer",
-        command: Command::Move(Motion::BufferEnd),
-    },
-    Binding {
-        keys: b"\x1Bf",
-        name: "forward-word",
-        command: Command::Move(Motion::ForwardWord),
-    },
-    Binding {
-        keys: b"\x1Bb",
-        name: "backward-word",
-        command: Command::Move(Motion::BackwardWord),
-    },
-    Binding {
-        keys: b"\x1B}",
-        name: "forward-paragraph",
-        command: Command::Move(Motion::ForwardParagraph),
-    },
-    Binding {
-        keys: b"\x1B{",
-        name: "backward-paragraph",
-        command: Command::Move(Motion::BackwardParagraph),
-    },
-    Binding {
-        keys: b"\x18g",
-        name: "goto-line",
-        command: Command::Move(Motion::GoToLine),
-    },
-    Binding {
-        keys: b"\x18=",
-        name: "what-cursor-position",
-        command: Command::Move(Motion::WhatCursorPosition),
-    },
-    Binding {
-        keys: b"\x04",
-        name: "delete-char",
-        command: Command::Alter(Alteration::DeleteChar),
-    },
-    Binding {
-        keys: b"\x7F",
-        name: "delete-backward-char",
-        command: Command::Alter(Alteration::DeleteBackwardChar),
-    },
-    Binding {
-        keys: b"\x0B",
-        name: "kill-line",
-        command: Command::Alter(Alteration::KillLine),
-    },
-    Binding {
-        keys: b"\x1Bd",
-        name: "kill-word",
-        command: Command::Alter(Alteration::KillWord),
-    },
-    Binding {
-        keys: b"\x1B\x7F",
-        name: "backward-kill-word",
-        command: Command::Alter(Alteration::BackwardKillWord),
-    },
-    Binding {
-        keys: b"\x17",
-        name: "kill-region",
-        command: Command::Alter(Alteration::KillRegion),
-    },
-    Binding {
-        keys: b"\x1Bw",
-        name: "copy-region-as-kill",
-        command: Command::Move(Motion::CopyRegion),
-    },
-    Binding {
-        keys: b"\x14",
-        name: "transpose-chars",
-        command: Command::Alter(Alteration::TransposeChars),
-    },
-    Binding {
-        keys: b"\x1Bu",
-        name: "upcase-word",
-        command: Command::Alter(Alteration::UpcaseWord),
-    },
-    Binding {
-        keys: b"\x1Bl",
-        name: "downcase-word",
-        command: Command::Alter(Alteration::DowncaseWord),
-    },
-    Binding {
-        keys: b"\x1Bc",
-        name: "capitalize-word",
-        command: Command::Alter(Alteration::CapitalizeWord),
-    },
-    Binding {
-        keys: b"\x18\x15",
-        name: "upcase-region",
-        command: Command::Alter(Alteration::UpcaseRegion),
-    },
-    Binding {
-        keys: b"\x18\x0C",
-        name: "downcase-region",
-        command: Command::Alter(Alteration::DowncaseRegion),
-    },
-    Binding {
-        keys: b"\x1B ",
-        name: "just-one-space",
-        command: Command::Alter(Alteration::JustOneSpace),
-    },
-    Binding {
-        keys: b"\x1B\\",
-        name: "delete-horizontal-space",
-        command: Command::Alter(Alteration::DeleteHorizontalSpace),
-    },
-    Binding {
-        keys: b"\x18\x0F",
-        name: "delete-blank-lines",
-        command: Command::Alter(Alteration::DeleteBlankLines),
-    },
-    Binding {
-        keys: b"\x1B^",
-        name: "join-line",
-        command: Command::Alter(Alteration::JoinLine),
-    },
-    Binding {
-        keys: b"\x1Bq",
-        name: "fill-paragraph",
-        command: Command::Alter(Alteration::FillParagraph),
-    },
-    Binding {
-        keys: b"\x00",
-        name: "set-mark-command",
-        command: Command::Move(Motion::SetMark),
-    },
-    Binding {
-        keys: b"\x18\x18",
-        name: "exchange-point-and-mark",
-        command: Command::Move(Motion::ExchangePointAndMark),
-    },
-    Binding {
-        keys: b"\x18h",
-        name: "mark-whole-buffer",
-        command: Command::Move(Motion::MarkWholeBuffer),
-    },
-    Binding {
-        keys: b"\x19",
-        name: "yank",
-        command: Command::Insert(Insertion::Yank),
-    },
-    Binding {
-        keys: b"\x1F",
-        name: "undo",
-        command: Command::UndoEdit,
-    },
-    Binding {
-        keys: b"\x18u",
-        name: "",
-        command: Command::UndoEdit,
-    },
-    Binding {
-        keys: b"\x1b~",
-        name: "not-modified",
-        command: Command::NotModified,
-    },
-    Binding {
-        keys: b"\x18f",
-        name: "set-fill-column",
-        command: Command::Set(Setting::SetFillColumn),
-    },
-    Binding {
-        keys: b"\x18b",
-        name: "switch-to-buffer",
-        command: Command::Ask(Question::SwitchTo),
-    },
-    Binding {
-        keys: b"\x18\x06",
-        name: "find-file",
-        command: Command::Ask(Question::FindWhich),
-    },
-    Binding {
-        keys: b"\x18k",
-        name: "kill-buffer",
-        command: Command::Ask(Question::KillWhich),
-    },
-    Binding {
-        keys: b"\x1Bx",
-        name: "",
-        command: Command::Ask(Question::RunWhich),
-    },
-    Binding {
-        keys: b"\x13",
-        name: "isearch-forward",
-        command: Command::Seek(Seeking::StartSearch(Direction::Forward)),
-    },
-    Binding {
-        keys: b"\x12",
-        name: "isearch-backward",
-        command: Command::Seek(Seeking::StartSearch(Direction::Backward)),
-    },
-    Binding {
-        keys: b"\x1Bs",
-        name: "search-forward",
-        command: Command::Ask(Question::SearchWhat(Direction::Forward)),
-    },
-    Binding {
-        keys: b"\x1Br",
-        name: "search-backward",
-        command: Command::Ask(Question::SearchWhat(Direction::Backward)),
-    },
-    Binding {
-        keys: b"\x1B%",
-        name: "query-replace",
-        command: Command::Ask(Question::ReplaceWhat),
-    },
-    Binding {
-        keys: b"\x07",
-        name: "keyboard-quit",
-        command: Command::Set(Setting::KeyboardQuit),
-    },
-    Binding {
-        keys: b"\x18(",
-        name: "",
-        command: Command::Set(Setting::StartMacro),
-    },
-    Binding {
-        keys: b"\x18)",
-        name: "",
-        command: Command::Set(Setting::EndMacro),
-    },
-    Binding {
-        keys: b"\x18e",
-        name: "",
-        command: Command::Set(Setting::CallMacro),
-    },
-    Binding {
-        keys: b"\x180",
-        name: "delete-window",
-        command: Command::Rearrange(Arrangement::DeleteWindow),
-    },
-    Binding {
-        keys: b"\x181",
-        name: "delete-other-windows",
-        command: Command::Rearrange(Arrangement::DeleteOtherWindows),
-    },
-    Binding {
-        keys: b"\x182",
-        name: "split-window-vertically",
-        command: Command::Rearrange(Arrangement::SplitWindow),
-    },
-    Binding {
-        keys: b"\x18o",
-        name: "other-window",
-        command: Command::Rearrange(Arrangement::NextWindow),
-    },
-    Binding {
-        keys: b"\x18n",
-        name: "next-window",
-        command: Command::Rearrange(Arrangement::NextWindow),
-    },
-    Binding {
-        keys: b"\x18p",
-        name: "previous-window",
-        command: Command::Rearrange(Arrangement::PreviousWindow),
-    },
-    Binding {
-        keys: b"\x18^",
-        name: "enlarge-window",
-        command: Command::Rearrange(Arrangement::EnlargeWindow),
-    },
-    Binding {
-        keys: b"\x18\x02",
-        name: "list-buffers",
-        command: Command::Rearrange(Arrangement::ListBuffers),
-    },
-    Binding {
-        keys: b"\x18\x13",
-        name: "save-buffer",
-        command: Command::SaveBuffer,
-    },
-    Binding {
-        keys: b"\x18\x03",
-        name: "save-buffers-kill-emacs",
-        command: Command::Exit,
-    },
-    Binding {
-        keys: b"\x1B[A",
-        name: "",
-        command: Command::Move(Motion::PreviousLine),
-    },
-    Binding {
-        keys: b"\x1B[B",
-        name: "",
-        command: Command::Move(Motion::NextLine),
-    },
-    Binding {
-        keys: b"\x1B[C",
-        name: "",
-        command: Command::Move(Motion::ForwardChar),
-    },
-    Binding {
-        keys: b"\x1B[D",
-        name: "",
-        command: Command::Move(Motion::BackwardChar),
-    },
-];
+// Rows of the table: the bytes of a word of keys, the name of its command, and the command.
+macro_rules! rows {
+    ($($keys:literal $name:literal => $command:expr;)*) => {
+        &[$(Binding { keys: $keys, name: $name, command: $command }),*]
+    };
+}
 
-static KEYLESS: [Binding; 8] = [
-    Binding {
-        keys: b"",
-        name: "shrink-window",
-        command: Command::Rearrange(Arrangement::ShrinkWindow),
-    },
-    Binding {
-        keys: b"",
-        name: "insert-buffer",
-        command: Command::Ask(Question::InsertWhich),
-    },
-    Binding {
-        keys: b"",
-        name: "acl-list",
-        command: Command::ListEntries,
-    },
-    Binding {
-        keys: b"",
-        name: "acl-insert",
-        command: Command::Ask(Question::EntryToInsert),
-    },
-    Binding {
-        keys: b"",
-        name: "acl-delete",
-        command: Command::Entries(EntryChange::DeleteEntry),
-    },
-    Binding {
-        keys: b"",
-        name: "acl-replace",
-        command: Command::Ask(Question::EntryToReplace),
-    },
-    Binding {
-        keys: b"",
-        name: "set-owner",
-        command: Command::Ask(Question::WhichOwner),
-    },
-    Binding {
-        keys: b"",
-        name: "set-group",
-        command: Command::Ask(Question::WhichGroup),
-    },
-];
+static BINDINGS: &[Binding] = rows! {
+    b"\r" "newline" => Insert(Insertion::Newline);
+    b"\x06" "forward-char" => Move(Motion::ForwardChar);
+    b"\x02" "backward-char" => Move(Motion::BackwardChar);
+    b"\x0F" "open-line" => Insert(Insertion::OpenLine);
+    b"\n" "newline-and-indent" => InsertReading(ReadingInsertion::NewlineAndIndent);
+    b"\x01" "beginning-of-line" => Move(Motion::BeginningOfLine);
+    b"\x05" "end-of-line" => Move(Motion::EndOfLine);
+    b"\x0E" "next-line" => Move(Motion::NextLine);
+    b"\x10" "previous-line" => Move(Motion::PreviousLine);
+    b"\x16" "scroll-up" => Scroll(Scrolling::ScrollUp);
+    b"\x1Bv" "scroll-down" => Scroll(Scrolling::ScrollDown);
+    b"\x0C" "recenter" => Move(Motion::Recenter);
+    b"\x1B<" "beginning-of-buffer" => Move(Motion::BufferStart);
+    b"\x1B>" "end-of-buffer" => Move(Motion::BufferEnd);
+    b"\x1Bf" "forward-word" => Move(Motion::ForwardWord);
+    b"\x1Bb" "backward-word" => Move(Motion::BackwardWord);
+    b"\x1B}" "forward-paragraph" => Move(Motion::ForwardParagraph);
+    b"\x1B{" "backward-paragraph" => Move(Motion::BackwardParagraph);
+    b"\x18g" "goto-line" => Move(Motion::GoToLine);
+    b"\x18=" "what-cursor-position" => Move(Motion::WhatCursorPosition);
+    b"\x04" "delete-char" => Alter(Alteration::DeleteChar);
+    b"\x7F" "delete-backward-char" => Alter(Alteration::DeleteBackwardChar);
+    b"\x0B" "kill-line" => Alter(Alteration::KillLine);
+    b"\x1Bd" "kill-word" => Alter(Alteration::KillWord);
+    b"\x1B\x7F" "backward-kill-word" => Alter(Alteration::BackwardKillWord);
+    b"\x17" "kill-region" => Alter(Alteration::KillRegion);
+    b"\x1Bw" "copy-region-as-kill" => Move(Motion::CopyRegion);
+    b"\x14" "transpose-chars" => Alter(Alteration::TransposeChars);
+    b"\x1Bu" "upcase-word" => Alter(Alteration::UpcaseWord);
+    b"\x1Bl" "downcase-word" => Alter(Alteration::DowncaseWord);
+    b"\x1Bc" "capitalize-word" => Alter(Alteration::CapitalizeWord);
+    b"\x18\x15" "upcase-region" => Alter(Alteration::UpcaseRegion);
+    b"\x18\x0C" "downcase-region" => Alter(Alteration::DowncaseRegion);
+    b"\x1B " "just-one-space" => Alter(Alteration::JustOneSpace);
+    b"\x1B\\" "delete-horizontal-space" => Alter(Alteration::DeleteHorizontalSpace);
+    b"\x18\x0F" "delete-blank-lines" => Alter(Alteration::DeleteBlankLines);
+    b"\x1B^" "join-line" => Alter(Alteration::JoinLine);
+    b"\x1Bq" "fill-paragraph" => Alter(Alteration::FillParagraph);
+    b"\x00" "set-mark-command" => Move(Motion::SetMark);
+    b"\x18\x18" "exchange-point-and-mark" => Move(Motion::ExchangePointAndMark);
+    b"\x18h" "mark-whole-buffer" => Move(Motion::MarkWholeBuffer);
+    b"\x19" "yank" => Insert(Insertion::Yank);
+    b"\x1F" "undo" => UndoEdit;
+    b"\x18u" "" => UndoEdit;
+    b"\x1B~" "not-modified" => NotModified;
+    b"\x18f" "set-fill-column" => Set(Setting::SetFillColumn);
+    b"\x18b" "switch-to-buffer" => Ask(Question::SwitchTo);
+    b"\x18\x06" "find-file" => Ask(Question::FindWhich);
+    b"\x18k" "kill-buffer" => Ask(Question::KillWhich);
+    b"\x1Bx" "" => Ask(Question::RunWhich);
+    b"\x13" "isearch-forward" => Seek(Seeking::StartSearch(Direction::Forward));
+    b"\x12" "isearch-backward" => Seek(Seeking::StartSearch(Direction::Backward));
+    b"\x1Bs" "search-forward" => Ask(Question::SearchWhat(Direction::Forward));
+    b"\x1Br" "search-backward" => Ask(Question::SearchWhat(Direction::Backward));
+    b"\x1B%" "query-replace" => Ask(Question::ReplaceWhat);
+    b"\x07" "keyboard-quit" => Set(Setting::KeyboardQuit);
+    b"\x18(" "" => Set(Setting::StartMacro);
+    b"\x18)" "" => Set(Setting::EndMacro);
+    b"\x18e" "" => Set(Setting::CallMacro);
+    b"\x180" "delete-window" => Rearrange(Arrangement::DeleteWindow);
+    b"\x181" "delete-other-windows" => Rearrange(Arrangement::DeleteOtherWindows);
+    b"\x182" "split-window-vertically" => Rearrange(Arrangement::SplitWindow);
+    b"\x18o" "other-window" => Rearrange(Arrangement::NextWindow);
+    b"\x18n" "next-window" => Rearrange(Arrangement::NextWindow);
+    b"\x18p" "previous-window" => Rearrange(Arrangement::PreviousWindow);
+    b"\x18^" "enlarge-window" => Rearrange(Arrangement::EnlargeWindow);
+    b"\x18\x02" "list-buffers" => Rearrange(Arrangement::ListBuffers);
+    b"\x18\x13" "save-buffer" => SaveBuffer;
+    b"\x18\x03" "save-buffers-kill-emacs" => Exit;
+    b"\x1B[A" "" => Move(Motion::PreviousLine);
+    b"\x1B[B" "" => Move(Motion::NextLine);
+    b"\x1B[C" "" => Move(Motion::ForwardChar);
+    b"\x1B[D" "" => Move(Motion::BackwardChar);
+};
+
+static KEYLESS: &[Binding] = rows! {
+    b"" "shrink-window" => Rearrange(Arrangement::ShrinkWindow);
+    b"" "insert-buffer" => Ask(Question::InsertWhich);
+    b"" "acl-list" => ListEntries;
+    b"" "acl-insert" => Ask(Question::EntryToInsert);
+    b"" "acl-delete" => Entries(EntryChange::DeleteEntry);
+    b"" "acl-replace" => Ask(Question::EntryToReplace);
+    b"" "set-owner" => Ask(Question::WhichOwner);
+    b"" "set-group" => Ask(Question::WhichGroup);
+};
 
 /// The words of keys that run a command, with their names and commands: the rows by which keys are read. Beside them one
 /// visible ASCII character, the space, TAB and each character past ASCII insert themselves.
 pub fn bindings() -> &'static [Binding]
     ensures { rows_of result.now ≡ key_rows }
 {
-    &BINDINGS
+    BINDINGS
 }
 
 // The commands that no word of keys runs, with their names.
 pub(crate) fn keyless() -> &'static [Binding]
     ensures { rows_of result.now ≡ keyless_rows }
 {
-    &KEYLESS
+    KEYLESS
 }
 
 // The last byte of a word that ends in this key.

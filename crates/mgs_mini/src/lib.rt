@@ -18,7 +18,7 @@ mod recording;
 
 use arrayvec::ArrayVec;
 pub use completing::{completion, narrowed};
-use mgs_model::{Question, Sequence, read_sequence};
+use mgs_model::{Question, Sequence, TYPED_LIMIT, read_sequence};
 pub use recording::Recorder;
 use std::marker::Model;
 
@@ -62,13 +62,13 @@ pub enum Step {
     Unbound,
 }
 
-/// A question and what was typed as its answer so far, at most 120 characters. The second of two questions has the answer to the
-/// first one beside it.
+/// A question and what was typed as its answer so far, at most `TYPED_LIMIT` characters (120). The second of two questions has
+/// the answer to the first one beside it.
 #[derive(Drop)]
 pub struct Prompt {
     question: Question,
-    first: ArrayVec<char, 120>,
-    input: ArrayVec<char, 120>,
+    first: ArrayVec<char, TYPED_LIMIT>,
+    input: ArrayVec<char, TYPED_LIMIT>,
     waiting: Waiting,
 }
 
@@ -135,23 +135,23 @@ fn is_graphic(byte: u8) -> bool
     32 <= byte && byte <= 126
 }
 
-fn drop_last(input: &mut ArrayVec<char, 120>)
+fn drop_last(input: &mut ArrayVec<char, TYPED_LIMIT>)
     ensures { input.new.items ≡ last_dropped input.old.items }
 {
     let _last = input.pop();
 }
 
-// A character behind the input, which has at most 120.
-fn lengthen(input: &mut ArrayVec<char, 120>, c: char)
+// A character behind the input, which has at most `TYPED_LIMIT`.
+fn lengthen(input: &mut ArrayVec<char, TYPED_LIMIT>, c: char)
     ensures { input.new.items ≡ lengthened input.old.items c }
 {
-    if input.len() < 120 {
+    if input.len() < TYPED_LIMIT {
         input.push(c);
     }
 }
 
-fn put_input(input: &mut ArrayVec<char, 120>, text: &[char])
-    requires { length text.now ≤ 120 }
+fn put_input(input: &mut ArrayVec<char, TYPED_LIMIT>, text: &[char])
+    requires { length text.now ≤ TYPED_LIMIT }
     ensures { input.new.items ≡ text.now }
 {
     input.clear();
@@ -159,8 +159,8 @@ fn put_input(input: &mut ArrayVec<char, 120>, text: &[char])
 }
 
 // Each byte of a name is a character.
-fn put_name(input: &mut ArrayVec<char, 120>, name: &[u8])
-    requires { length name.now ≤ 120 }
+fn put_name(input: &mut ArrayVec<char, TYPED_LIMIT>, name: &[u8])
+    requires { length name.now ≤ TYPED_LIMIT }
     ensures { input.new.items ≡ name.now }
 {
     input.clear();
@@ -170,7 +170,7 @@ fn put_name(input: &mut ArrayVec<char, 120>, name: &[u8])
 }
 
 // A key by itself.
-fn feed_key(input: &mut ArrayVec<char, 120>, byte: u8) -> (Step, Waiting)
+fn feed_key(input: &mut ArrayVec<char, TYPED_LIMIT>, byte: u8) -> (Step, Waiting)
     ensures answered { result.0 ≡ Answered → (input.new.items ≡ input.old.items) × (result.1 ≡ NoKey) }
     ensures unbound { result.0 ≡ Unbound → result.1 ≡ NoKey }
     ensures waits { IsWaiting result.1 }
@@ -183,7 +183,7 @@ fn feed_key(input: &mut ArrayVec<char, 120>, byte: u8) -> (Step, Waiting)
         (Step::GoesOn, Waiting::NoKey)
     } else if byte == b'\t' {
         (Step::Completes, Waiting::NoKey)
-    } else if is_graphic(byte) && input.len() < 120 {
+    } else if is_graphic(byte) && input.len() < TYPED_LIMIT {
         input.push(char::from(byte));
         (Step::GoesOn, Waiting::NoKey)
     } else {
@@ -193,7 +193,7 @@ fn feed_key(input: &mut ArrayVec<char, 120>, byte: u8) -> (Step, Waiting)
 
 // The bytes of a character so far, which wait so where more of them are to come.
 fn feed_character(
-    input: &mut ArrayVec<char, 120>,
+    input: &mut ArrayVec<char, TYPED_LIMIT>,
     bytes: &[u8],
     waiting: Waiting,
 ) -> (Step, Waiting)
@@ -231,7 +231,7 @@ fn feed_word(waiting: Waiting, byte: u8) -> (Step, Waiting)
 }
 
 // A byte by itself.
-fn feed_first(input: &mut ArrayVec<char, 120>, byte: u8) -> (Step, Waiting)
+fn feed_first(input: &mut ArrayVec<char, TYPED_LIMIT>, byte: u8) -> (Step, Waiting)
     requires { byte ≡ 7 → ⊥ }
     ensures answered { result.0 ≡ Answered → (input.new.items ≡ input.old.items) × (result.1 ≡ NoKey) }
     ensures unbound { result.0 ≡ Unbound → result.1 ≡ NoKey }
@@ -246,7 +246,7 @@ fn feed_first(input: &mut ArrayVec<char, 120>, byte: u8) -> (Step, Waiting)
 }
 
 // A byte behind keys that may be half read.
-fn feed_byte(input: &mut ArrayVec<char, 120>, waiting: Waiting, byte: u8) -> (Step, Waiting)
+fn feed_byte(input: &mut ArrayVec<char, TYPED_LIMIT>, waiting: Waiting, byte: u8) -> (Step, Waiting)
     requires { IsWaiting waiting }
     ensures answered { result.0 ≡ Answered → (input.new.items ≡ input.old.items) × (result.1 ≡ waiting) × (waiting ≡ NoKey) }
     ensures unbound { result.0 ≡ Unbound → result.1 ≡ NoKey }
@@ -327,8 +327,8 @@ impl Prompt {
         step
     }
 
-    /// What was typed becomes what it is completed to, at most 120 characters. Where that is `None`, it stays as it was, and the
-    /// answer is false: no name begins with it.
+    /// What was typed becomes what it is completed to, at most `TYPED_LIMIT` characters (120). Where that is `None`, it stays as
+    /// it was, and the answer is false: no name begins with it.
     pub fn complete(&mut self, completion: Option<&[u8]>) -> bool
         requires { IfSome completion (λ text. length text.now ≤ 120) }
         ensures question { self.new.question ≡ self.old.question }
@@ -342,7 +342,8 @@ impl Prompt {
         true
     }
 
-    /// The answer to the first of two questions, at most 120 characters. Beside any other question it is empty.
+    /// The answer to the first of two questions, at most `TYPED_LIMIT` characters (120). Beside any other question it is
+    /// empty.
     pub fn first(&self) -> &[char]
         ensures value { result.now ≡ self.now.first }
         ensures within { length result.now ≤ 120 }
@@ -351,7 +352,7 @@ impl Prompt {
         self.first.as_slice()
     }
 
-    /// What was typed, at most 120 characters.
+    /// What was typed, at most `TYPED_LIMIT` characters (120).
     pub fn input(&self) -> &[char]
         ensures value { result.now ≡ self.now.input }
         ensures within { length result.now ≤ 120 }

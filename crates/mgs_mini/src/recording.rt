@@ -6,7 +6,7 @@ use arrayvec::ArrayVec;
 use mgs_model::MACRO_LIMIT;
 use std::marker::Model;
 
-/// The bytes of a macro, at most 512, and whether more are recorded. It has fixed room, and takes no memory.
+/// The bytes of a macro, at most `MACRO_LIMIT` (512), and whether more are recorded. It has fixed room, and takes no memory.
 #[derive(Drop)]
 pub struct Recorder {
     bytes: ArrayVec<u8, MACRO_LIMIT>,
@@ -39,7 +39,7 @@ impl Recorder {
         self.is_recording
     }
 
-    /// The bytes of the macro, at most 512.
+    /// The bytes of the macro, at most `MACRO_LIMIT` (512).
     pub fn as_slice(&self) -> &[u8]
         ensures value { result.now ≡ self.now.macro }
         ensures within { length result.now ≤ 512 }
