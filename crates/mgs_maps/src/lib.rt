@@ -1,6 +1,7 @@
 //! The key map: keys become commands and their arguments, by one table, and so do the names of commands.
 #![tactic(auto)]
 
+mod argument;
 mod keyboard;
 mod maps;
 mod names;

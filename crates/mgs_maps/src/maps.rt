@@ -1,12 +1,13 @@
 // What keys come to.
 ghost use Rattle.std.specs.Prelude.{◌≡◌};
-ghost use Rattle.mgs_model.specs.Keys.{Half, Bound, quoted_read, digit_added as extended, four_times as multiplied, value_of, is_digit as tells_digit};
+ghost use Rattle.mgs_model.specs.Keys.{Half, Bound, quoted_read, value_of};
 ghost use Rattle.mgs_maps.specs.Held.{FedBy, IsBoundRun, argument_held, held_by, key_reads, nothing_held, prefix_bytes};
 ghost use Rattle.mgs_maps.specs.Words.{prefix_after, inserted as inserts, is_empty as begins, is_quote as quotes, is_raw as tells_raw, unquoted, word_reads, plain_reads, meta_reads, wide_reads};
 
+use crate::argument::{digit_added, four_times, is_digit};
 use crate::table::{BRACKET, CONTROL_X, QUOTE, find_command};
 use mgs_keys::Key;
-use mgs_model::{ARGUMENT_LIMIT, Argument, Command, Insertion, Setting};
+use mgs_model::{Argument, Command, Insertion, Setting};
 
 const KEYBOARD_QUIT: u8 = 0x07;
 
@@ -46,43 +47,6 @@ pub(crate) enum Stroke {
 pub struct Maps {
     argument: Option<Argument>,
     prefix: Prefix,
-}
-
-// A digit goes on with a number, or is the first of one.
-fn digit_added(digit: u8, argument: Option<Argument>) -> Argument
-    ensures { result ≡ extended digit argument }
-{
-    let before = match argument {
-        Some(typed) if typed.extends => typed.value,
-        _ => 0,
-    };
-    let value = before
-        .saturating_mul(10)
-        .saturating_add(u32::from(digit))
-        .min(ARGUMENT_LIMIT);
-    Argument {
-        value,
-        extends: true,
-    }
-}
-
-fn four_times(argument: Option<Argument>) -> Argument
-    ensures { result ≡ multiplied argument }
-{
-    let value = match argument {
-        None => 4,
-        Some(argument) => argument.value.saturating_mul(4).min(ARGUMENT_LIMIT),
-    };
-    Argument {
-        value,
-        extends: false,
-    }
-}
-
-fn is_digit(byte: u8) -> bool
-    ensures { result ≡ tells_digit byte }
-{
-    b'0' <= byte && byte <= b'9'
 }
 
 fn is_empty(prefix: Prefix) -> bool
