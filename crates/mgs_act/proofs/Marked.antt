@@ -16,7 +16,8 @@ use Rattle.mgs_model.specs.declared.message.Message.TheVariants.{KillTooLarge}
 use Rattle.mgs_model.proofs.Basics.{or_true}
 use Rattle.mgs_model.proofs.Firsts.{position_or_len-map}
 use Rattle.mgs_marks.specs.Marks.{mark_in}
-use Rattle.mgs_buffers.specs.MarkedBuffer.{HasBuffer, IsMark, MarkedBuffer, marked_at, marked_named, marked_or_none, marked_placed, with_marks}
+use Rattle.mgs_buffers.specs.MarkedBuffer.{HasBuffer, IsMark, MarkedBuffer, marked_at, marked_named, marked_or_none, marked_placed, marked_unmodified, with_marks}
+use Rattle.mgs_buffers.proofs.Places.{place_stays}
 use Rattle.mgs_windows.specs.declared.WindowMarks.{WindowMarks}
 use Rattle.mgs_session.specs.Sessions.{window_marks_of}
 use Rattle.mgs_session.specs.declared.Session.{Session}
@@ -42,7 +43,7 @@ use Rattle.mgs_world.proofs.Worlds.{buffers_placed, same_world}
 use Rattle.mgs_world.proofs.Unmodified.{marks_unmodified}
 use Rattle.mgs_plan.proofs.Deeds.{acting_marks, after_ok, after_sound, at_twice, edited_buffers, edited_sound, ended, finished_there, fresh_state, gone_buffers, gone_sound, no_quit, once_used, set_back, unmarked, set_twice}
 use Rattle.mgs_plan.proofs.Followed.{get_followed, place_followed, sessions_went, set_followed, sound_kept, within_followed}
-use Rattle.mgs_plan.proofs.Leaving.{length_edited_by, mark_edited_by, mark_still, text_gone, used_once}
+use Rattle.mgs_plan.proofs.Leaving.{length_edited_by, mark_edited_by, mark_still, place_edited_by, place_gone, text_gone, used_once}
 
 -- A MARK THAT IS RESERVED
 
@@ -64,6 +65,12 @@ reserved_buffer n None id ks ls r =
     ∙ ap (λ (o : Option MarkedBuffer). (marked_or_none o).buffer) (found_same n n (with_marks r.marks) ks (λ k. refl) (is_same n n refl))
     ∙ same_buffer r.marks (find (marked_named n) ks)
 reserved_buffer n (Some m) id ks ls r = ap (λ (s : List MarkedBuffer). (marked_at n s).buffer) r.1
+
+-- each buffer keeps its place
+pub place_reserved : (n : List ℕ) (o : Option ℕ) (id at : ℕ) (ks ls : List MarkedBuffer) → IsReserved n o id ks ls → at ≡ position_or_len (marked_named n) ks → at ≡ position_or_len (marked_named n) ls
+place_reserved n None id at ks ls r place =
+    place ∙ sym (place_stays n n (with_marks r.marks) (λ k. refl) ks) ∙ ap (λ (s : List MarkedBuffer). position_or_len (marked_named n) s) (sym r.shape)
+place_reserved n (Some m) id at ks ls r place = place ∙ ap (λ (s : List MarkedBuffer). position_or_len (marked_named n) s) (sym r.1)
 
 -- and what is granted in it
 pub granted_still : (directory : Directory) (ks ls : List MarkedBuffer) (user name : List ℕ) (action : Action) → (marked_at name ls).buffer ≡ (marked_at name ks).buffer → IsActionGranted directory ks user name action → IsActionGranted directory ls user name action
@@ -148,6 +155,20 @@ mark_after_action x mid text items kill (Undoes u) ls mark marks =
     mark_there x mid c c.finish ls mark marks
 mark_after_action x mid text items kill (Moves f) ls mark marks = mark_there x mid (record { a = 0; b = 0; put = []; finish = finish_read text kill 0 f }) (finish_read text kill 0 f) ls mark marks
 mark_after_action x mid text items kill Clears ls mark marks = ap (λ (ms : List (Option ℕ)). is_some (mark_in ms mid)) (marks_unmodified x.name x.name ls) ∙ mark
+
+-- the buffer keeps its place
+pub place_left : (x : WindowMarks) (c : plans.Change) (f : plans.Finish) (ls : List MarkedBuffer) (at : ℕ) → at ≡ position_or_len (marked_named x.name) ls → at ≡ position_or_len (marked_named x.name) (marks_gone x f (edited_by x.name c ls))
+place_left x c f ls at place =
+    place_gone x.name x.top f.top (mark_gone x.name x.point f.point (edited_by x.name c ls)) at (place_gone x.name x.point f.point (edited_by x.name c ls) at (place_edited_by x.name c ls at place))
+
+pub place_after_action : (x : WindowMarks) (text : List ℕ) (items : List Item) (kill : List ℕ) (action : Action) (ls : List MarkedBuffer) (at : ℕ) → at ≡ position_or_len (marked_named x.name) ls → at ≡ position_or_len (marked_named x.name) (marked_after x text items kill action ls)
+place_after_action x text items kill (Fails message) ls at place = place
+place_after_action x text items kill (Edits mask c) ls at place = place_left x (change_read text kill c) (change_read text kill c).finish ls at place
+place_after_action x text items kill (Undoes u) ls at place =
+    let c = undone_read text kill (removed_by u.serial items) u in
+    place_left x c c.finish ls at place
+place_after_action x text items kill (Moves f) ls at place = place_left x (record { a = 0; b = 0; put = []; finish = finish_read text kill 0 f }) (finish_read text kill 0 f) ls at place
+place_after_action x text items kill Clears ls at place = place ∙ sym (place_stays x.name x.name marked_unmodified (λ k. refl) ls)
 
 -- where the mark is to be, there is a text
 pub text_left : (x : WindowMarks) (f : plans.Finish) (ls : List MarkedBuffer) → (marked_at x.name (marks_gone x f ls)).buffer.text ≡ (marked_at x.name ls).buffer.text

@@ -50,18 +50,18 @@ through_saves_none state x ks kill Clears = refl
 
 -- AN ACTION
 
-pub through_done : (directory : Directory) (at : ℕ) (ks ls : List MarkedBuffer) (xs ys : List Session) (x : WindowMarks) (action : Action) (touched : Touched)
+pub through_done : (directory : Directory) (at : ℕ) (ks ls : List MarkedBuffer) (xs ys : List Session) (x : WindowMarks) (place : ℕ) (action : Action) (touched : Touched)
     → ((id : ℕ) (next : Option ℕ) → at ≡ position_or_len (session_id id) xs → world_of directory ls ys next ≡ apply (world_of directory ks xs next) id (outcome_through (state_at at xs) x ks (kill_at at xs) action))
     → ((h : Session) → slice_get xs at ≡ Some h → touched ≡ touched_by (outcome_through (state_of h.state) x ks h.kill action).effect)
-    → IsQuietlyDone directory at (Acts x action) ks xs ls ys touched
-through_done directory at ks ls xs ys x action touched done touches = quietly directory at (Acts x action) ks ls xs ys touched (λ id next h place found. (
-  done id next place ∙ ap (λ s. apply (world_of directory ks xs next) id (outcome_through (state_or_first s) x ks (kill_or_none s) action)) found,
+    → IsQuietlyDone directory at (Acts x place action) ks xs ls ys touched
+through_done directory at ks ls xs ys x place action touched done touches = quietly directory at (Acts x place action) ks ls xs ys touched (λ id next h here found. (
+  done id next here ∙ ap (λ s. apply (world_of directory ks xs next) id (outcome_through (state_or_first s) x ks (kill_or_none s) action)) found,
   touches h found,
   through_saves_none (state_of h.state) x ks h.kill action,
 ))
 
-pub through_takes : (at : ℕ) (ks : List MarkedBuffer) (xs : List Session) (r : Session) (x : WindowMarks) (action : Action) → at < length xs → MayBeShort x ks (get_or xs at r).kill action → TakesMemory at (Acts x action) ks xs
-through_takes at ks xs r x action within takes = λ directory id next h place found.
+pub through_takes : (at : ℕ) (ks : List MarkedBuffer) (xs : List Session) (r : Session) (x : WindowMarks) (place : ℕ) (action : Action) → at < length xs → MayBeShort x ks (get_or xs at r).kill action → TakesMemory at (Acts x place action) ks xs
+through_takes at ks xs r x place action within takes = λ directory id next h here found.
     subst (λ (y : Session). MayBeShort x ks y.kill action) (here_is xs at r h within found) takes (state_of h.state)
 
 -- A COPY

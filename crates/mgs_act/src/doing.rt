@@ -24,7 +24,6 @@ use mgs_session::{Session, ask, fail, finish, set_kind};
 use mgs_store::Store;
 use mgs_windows::RowPane;
 use mgs_world::kill_buffer;
-use std::alloc::Global;
 
 /// The buffer of a name goes, by an act of the session at `at`.
 fn kill<T: Marked + Drop>(
@@ -162,7 +161,6 @@ fn save<T: Marked + Drop, S: Store>(
 /// Does what was decided for the session at `at`, which is at rest, and tells what that touched. `Short`: memory was refused, the
 /// world is as it was, the store was not asked, and it takes memory, as no save does.
 pub fn do_decided<T: Marked + Drop, S: Store>(
-    alloc: Global,
     buffers: &mut Buffers<T>,
     directory: &Directory,
     sessions: &mut [Session],
@@ -183,7 +181,9 @@ pub fn do_decided<T: Marked + Drop, S: Store>(
             fail(&mut sessions[at], *message);
             Ok(Touched::Nowhere)
         }
-        Outcome::Acts(by, action) => perform(alloc, buffers, directory, sessions, at, by, action),
+        Outcome::Acts(by, place, action) => {
+            perform(buffers, directory, sessions, at, by, *place, action)
+        }
         Outcome::Kills(name) => Ok(kill(buffers, directory, sessions, at, name)),
         Outcome::SetsOwners(name, new) => Ok(assign(buffers, directory, sessions, at, name, *new)),
         Outcome::SetsList(name, plan) => Ok(set_list(buffers, directory, sessions, at, name, plan)),

@@ -1,9 +1,10 @@
 // A buffer's text is inserted: whole, or not at all.
 ghost use Rattle.std.specs.Prelude.{◌≡◌, ℕ, None, IfOk, OnOk, OnErr};
+ghost use Rattle.std.specs.List.{position_or_len};
 ghost use Rattle.mgs_laws.specs.Apart.{touched_by};
 ghost use Rattle.mgs_model.specs.World.{State};
 ghost use Rattle.mgs_model.specs.declared.entry.Decision.TheVariants.{Granted};
-ghost use Rattle.mgs_buffers.specs.MarkedBuffer.{HasBuffer, marked_at};
+ghost use Rattle.mgs_buffers.specs.MarkedBuffer.{HasBuffer, marked_at, marked_named};
 ghost use Rattle.mgs_plan.specs.Actions.{AreMarks, edited_by};
 ghost use Rattle.mgs_plan.specs.declared.outcome.Outcome.TheVariants.{Copies};
 ghost use Rattle.mgs_plan.specs.Inserting.{CanPut, IsInserted, insertion_of, leaving, put_outcome, target_decision};
@@ -12,7 +13,7 @@ ghost use Rattle.mgs_world.specs.Acted.{IsUnchanged};
 ghost use Rattle.mgs_world.specs.Sound.{IsSound};
 ghost use Rattle.mgs_world.specs.WindowMarks.{WindowMarksDropped};
 
-use crate::performing::{edit_by, leave};
+use crate::performing::leave;
 use mgs_buffers::Buffers;
 use mgs_edit::{Finish, Goes};
 use mgs_marks::Marked;
@@ -41,10 +42,12 @@ fn put_in<T: Marked + Drop>(
     directory: &Directory,
     user: &Name,
     name: &Name,
+    at: usize,
     place: usize,
     put: &[char],
 ) -> Result<(), Short>
     requires kept { HasBuffer name.now buffers.old }
+    requires there { at ≡ position_or_len (marked_named name.now) buffers.old }
     requires granted { target_decision directory.now buffers.old user.now name.now place ≡ Granted }
     requires can { CanPut (marked_at name.now buffers.old).buffer put.now place }
     ensures ok { OnOk result (buffers.new ≡ edited_by name.now (insertion_of place put.now) buffers.old) }
@@ -53,8 +56,8 @@ fn put_in<T: Marked + Drop>(
     if put.is_empty() {
         return Ok(());
     }
-    let mask = insertion_mask(place, buffers.text_len(name));
-    edit_by(buffers, directory, user, name, mask, place, place, put)
+    let mask = insertion_mask(place, buffers.text_len_at(name, at));
+    buffers.edit_at(directory, user, name, at, mask, place, place, put)
 }
 
 /// What an insertion leaves: the mark at the place, and the point behind what came in.
@@ -88,14 +91,16 @@ fn insert_marked<T: Marked + Drop>(
     ensures err { OnErr result (WindowMarksDropped None buffers.old buffers.new) }
     ensures same { OnErr result (session.new ≡ session.old) }
 {
+    let at = buffers.place_of(&window_marks.name);
     // For the range of a place.
-    let _size = buffers.text_len(&window_marks.name);
+    let _size = buffers.text_len_at(&window_marks.name, at);
     let mark = reserve_mark(buffers, window_marks)?;
     match put_in(
         buffers,
         directory,
         &session.user,
         &window_marks.name,
+        at,
         place,
         put,
     ) {
@@ -105,11 +110,12 @@ fn insert_marked<T: Marked + Drop>(
                 buffers,
                 session,
                 window_marks,
+                at,
                 &leaving(place),
                 behind,
                 None,
             );
-            set_mark(buffers, session, window_marks, mark, place);
+            set_mark(buffers, session, window_marks, at, mark, place);
             Ok(())
         }
         Err(short) => {

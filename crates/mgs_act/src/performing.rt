@@ -1,11 +1,10 @@
 // An action is done: in the buffers, and to the session that acts.
 ghost use Rattle.std.specs.Prelude.{◌≡◌, ◌+◌, ◌-◌, ◌<◌, ◌≤◌, ℕ, List, [], length, take, Option, Some, None, IfOk, OnOk, OnErr, false, true};
-ghost use Rattle.mgs_model.specs.Apply.{change_first, kill_after};
-ghost use Rattle.mgs_model.specs.Acts.{is_full};
-ghost use Rattle.mgs_model.specs.Text.{is_edit};
+ghost use Rattle.std.specs.List.{position_or_len};
+ghost use Rattle.mgs_model.specs.Apply.{kill_after};
 ghost use Rattle.mgs_laws.specs.Refusals.{kill_takes_memory};
 ghost use Rattle.mgs_buffers.specs.Changing.{writes};
-ghost use Rattle.mgs_buffers.specs.MarkedBuffer.{HasBuffer, marked_at, marked_edited, marked_named};
+ghost use Rattle.mgs_buffers.specs.MarkedBuffer.{HasBuffer, marked_at, marked_named};
 ghost use Rattle.mgs_edit.specs.Reading.{ChangeWithin, GoesWithin, IsWithin, PieceWithin, kill_read, point_read, put_read, top_read};
 ghost use Rattle.mgs_session.specs.Sessions.{acted, told};
 ghost use Rattle.mgs_plan.specs.declared.action.Action.TheVariants.{Edits, Moves, Undoes};
@@ -18,7 +17,7 @@ ghost use Rattle.mgs_world.specs.Acted.{IsUnchanged};
 ghost use Rattle.mgs_world.specs.Sound.{IsSound};
 ghost use Rattle.mgs_world.specs.WindowMarks.{WindowMarksDropped};
 
-use mgs_buffers::{Buffers, EditFault};
+use mgs_buffers::Buffers;
 use mgs_edit::{
     Change, Finish, Goes, Joins, Piece, Put, Undone, is_edit, is_undo_an_edit, put_chars,
 };
@@ -30,17 +29,18 @@ use mgs_session::{KillBuffer, Session, fail, finish, set_kill};
 use mgs_text::Text;
 use mgs_windows::WindowMarks;
 use mgs_world::{give_up_mark, reserve_mark, set_mark};
-use std::alloc::Global;
 
 /// A piece of a buffer's text is killed, if one is: where it joins behind, it is in the kill buffer then, and for any other the
 /// kill buffer that it makes is handed back, for later. `Short`: memory was refused, and the kill buffer is as it was.
 fn killed_if<T: Marked + Drop>(
     buffers: &Buffers<T>,
     name: &Name,
+    at: usize,
     kill: &mut KillBuffer,
     piece: &Option<Piece>,
 ) -> Result<Option<Vec<char>>, Short>
     requires kept { HasBuffer name.now buffers.now }
+    requires place { at ≡ position_or_len (marked_named name.now) buffers.now }
     requires within { PieceWithin (length (marked_at name.now buffers.now).buffer.text) piece.now }
     ensures ok { IfOk result (λ made. kill_set made kill.new ≡ kill_after (kill_read (marked_at name.now buffers.now).buffer.text kill.old piece.now) kill.old) }
     ensures held { OnOk result (take (length kill.old) kill.new ≡ kill.old) }
@@ -50,7 +50,7 @@ fn killed_if<T: Marked + Drop>(
     let Some(piece) = piece else {
         return Ok(None);
     };
-    let mut chars = buffers.text(name).copy(piece.from, piece.to)?;
+    let mut chars = buffers.text_at(name, at).copy(piece.from, piece.to)?;
     match piece.joins {
         Joins::New => Ok(Some(chars)),
         Joins::Behind => match kill.extend(&chars) {
@@ -64,45 +64,14 @@ fn killed_if<T: Marked + Drop>(
     }
 }
 
-/// The edit of a user, by rights that were granted him when it was planned. `Short`: memory was refused, and nothing was done.
-pub fn edit_by<T: Marked + Drop>(
-    buffers: &mut Buffers<T>,
-    directory: &Directory,
-    user: &Name,
-    name: &Name,
-    mask: Mask,
-    from: usize,
-    to: usize,
-    put: &[char],
-) -> Result<(), Short>
-    requires kept { HasBuffer name.now buffers.old }
-    requires writes { writes mask ≡ true }
-    requires granted { IsGranted directory.now buffers.old user.now name.now mask }
-    requires order { from ≤ to }
-    requires within { to ≤ length (marked_at name.now buffers.old).buffer.text }
-    requires edit { is_edit from to put.now ≡ true }
-    requires room { is_full (length (marked_at name.now buffers.old).buffer.text) (marked_at name.now buffers.old).buffer.serial from to put.now ≡ false }
-    ensures ok { OnOk result (buffers.new ≡ change_first (marked_named name.now) (marked_edited from to put.now) buffers.old) }
-    ensures err { OnErr result (buffers.new ≡ buffers.old) }
-{
-    // For the range of a serial.
-    let _serial = buffers.serial(name);
-    match buffers.edit_as(directory, user, name, mask, from, to, put) {
-        Ok(()) => Ok(()),
-        Err(EditFault::Short) => Err(Short),
-        // It was planned where that is granted.
-        Err(EditFault::Denied(_)) => unreachable!(),
-    }
-}
-
 /// Edits a buffer, where the change takes out or puts in anything, and tells where what is put in ends. `Short`: memory was
 /// refused, and nothing was done.
 fn edit<T: Marked + Drop>(
-    alloc: Global,
     buffers: &mut Buffers<T>,
     directory: &Directory,
     user: &Name,
     name: &Name,
+    at: usize,
     kill: &[char],
     mask: Mask,
     change: &Change,
@@ -110,6 +79,7 @@ fn edit<T: Marked + Drop>(
     requires writes { writes mask ≡ true }
     requires granted { IsGranted directory.now buffers.old user.now name.now mask }
     requires kept { HasBuffer name.now buffers.old }
+    requires place { at ≡ position_or_len (marked_named name.now) buffers.old }
     requires within { ChangeWithin (marked_at name.now buffers.old).buffer.text kill.now change.now }
     requires room { HasRoom name.now buffers.old (change_in name.now buffers.old kill.now change.now) }
     ensures ok { OnOk result (buffers.new ≡ edited_by name.now (change_in name.now buffers.old kill.now change.now) buffers.old) }
@@ -124,26 +94,32 @@ fn edit<T: Marked + Drop>(
     let to = change.to;
     // One character is the common case, and takes no room beside the text's.
     if let Put::Character { put, times: 1 } = change.put {
-        edit_by(buffers, directory, user, name, mask, from, to, &[put])?;
+        buffers.edit_at(directory, user, name, at, mask, from, to, &[put])?;
         return Ok(from + 1);
     }
-    let chars = put_chars(alloc, buffers.text(name), kill, &change.put)?;
-    edit_by(buffers, directory, user, name, mask, from, to, &chars)?;
+    let chars = put_chars(
+        buffers.alloc(),
+        buffers.text_at(name, at),
+        kill,
+        &change.put,
+    )?;
+    buffers.edit_at(directory, user, name, at, mask, from, to, &chars)?;
     Ok(from + chars.len())
 }
 
 /// What the edit of a serial took out, or nothing where it is not kept. `Short`: memory was refused.
 fn removed_by<T: Marked + Drop>(
-    alloc: Global,
     buffers: &Buffers<T>,
     name: &Name,
+    at: usize,
     serial: u64,
 ) -> Result<Vec<char>, Short>
-    requires { HasBuffer name.now buffers.now }
+    requires kept { HasBuffer name.now buffers.now }
+    requires place { at ≡ position_or_len (marked_named name.now) buffers.now }
     ensures { IfOk result (λ v. v.items ≡ removed_by serial (marked_at name.now buffers.now).buffer.items) }
 {
-    let mut chars = Vec::new(alloc);
-    let Some(edit) = buffers.item(name, serial) else {
+    let mut chars = Vec::new(buffers.alloc());
+    let Some(edit) = buffers.item_at(name, at, serial) else {
         return Ok(chars);
     };
     match chars.extend_from_slice(&edit.removed) {
@@ -155,14 +131,15 @@ fn removed_by<T: Marked + Drop>(
 /// Takes an edit back, where that takes out or puts in anything, and tells where what comes back ends. `Short`: memory was
 /// refused, and nothing was done.
 fn restore<T: Marked + Drop>(
-    alloc: Global,
     buffers: &mut Buffers<T>,
     directory: &Directory,
     user: &Name,
     name: &Name,
+    at: usize,
     undone: &Undone,
 ) -> Result<usize, Short>
     requires kept { HasBuffer name.now buffers.old }
+    requires place { at ≡ position_or_len (marked_named name.now) buffers.old }
     requires granted { IsGranted directory.now buffers.old user.now name.now 3 }
     requires can { CanComeBack name.now buffers.old undone.now }
     ensures ok { (kill : List ℕ) → OnOk result (buffers.new ≡ edited_by name.now (undone_in name.now buffers.old kill undone.now) buffers.old) }
@@ -174,12 +151,12 @@ fn restore<T: Marked + Drop>(
         return Ok(undone.from);
     }
     // For the range of a place.
-    let _size = buffers.text_len(name);
-    let back = removed_by(alloc, buffers, name, undone.serial)?;
+    let _size = buffers.text_len_at(name, at);
+    let back = removed_by(buffers, name, at, undone.serial)?;
     let from = undone.from;
     let to = from + undone.gone;
     let mask = Mask::from_bits(Right::ReadData.bit() + Right::WriteData.bit());
-    edit_by(buffers, directory, user, name, mask, from, to, &back)?;
+    buffers.edit_at(directory, user, name, at, mask, from, to, &back)?;
     Ok(from + back.len())
 }
 
@@ -211,11 +188,13 @@ pub fn leave<T: Marked + Drop>(
     buffers: &mut Buffers<T>,
     session: &mut Session,
     window_marks: &WindowMarks,
+    at: usize,
     left: &Finish,
     behind: usize,
     kill: Option<Vec<char>>,
 )
     requires marks { AreMarks buffers.old window_marks.now }
+    requires place { at ≡ position_or_len (marked_named window_marks.now.name) buffers.old }
     requires point { GoesWithin (length (marked_at window_marks.now.name buffers.old).buffer.text) left.now.point }
     requires top { IsWithin (length (marked_at window_marks.now.name buffers.old).buffer.text) left.now.top }
     requires behind { behind ≤ length (marked_at window_marks.now.name buffers.old).buffer.text }
@@ -224,7 +203,7 @@ pub fn leave<T: Marked + Drop>(
 {
     let point = point_target(window_marks, &left.point, behind);
     let top = top_target(window_marks, &left.top);
-    buffers.place_both(&window_marks.name, point, top);
+    buffers.place_both_at(&window_marks.name, at, point, top);
     finish(session, left.kind, left.told);
     match kill {
         None => {}
@@ -234,15 +213,16 @@ pub fn leave<T: Marked + Drop>(
 
 /// A change is done. `Short`: memory was refused, and nothing was done.
 fn change_text<T: Marked + Drop>(
-    alloc: Global,
     buffers: &mut Buffers<T>,
     directory: &Directory,
     session: &mut Session,
     window_marks: &WindowMarks,
+    at: usize,
     mask: Mask,
     change: &Change,
 ) -> Result<(), Short>
     requires marks { AreMarks buffers.old window_marks.now }
+    requires place { at ≡ position_or_len (marked_named window_marks.now.name) buffers.old }
     requires can { CanBeDone buffers.old window_marks.now session.old.kill (Edits mask change.now) }
     requires granted { IsActionGranted directory.now buffers.old session.old.user window_marks.now.name (Edits mask change.now) }
     ensures ok { OnOk result (buffers.new ≡ buffers_acted window_marks.now session.old.kill (Edits mask change.now) buffers.old) }
@@ -253,21 +233,29 @@ fn change_text<T: Marked + Drop>(
 {
     let name = &window_marks.name;
     let held = session.kill.as_slice().len();
-    let made = killed_if(buffers, name, &mut session.kill, &change.finish.kill)?;
+    let made = killed_if(buffers, name, at, &mut session.kill, &change.finish.kill)?;
     // What the edit puts in is of the kill buffer as it was.
     let kill = &session.kill.as_slice()[..held];
     match edit(
-        alloc,
         buffers,
         directory,
         &session.user,
         name,
+        at,
         kill,
         mask,
         change,
     ) {
         Ok(behind) => {
-            leave(buffers, session, window_marks, &change.finish, behind, made);
+            leave(
+                buffers,
+                session,
+                window_marks,
+                at,
+                &change.finish,
+                behind,
+                made,
+            );
             Ok(())
         }
         Err(short) => {
@@ -279,14 +267,15 @@ fn change_text<T: Marked + Drop>(
 
 /// An undo is done. `Short`: memory was refused, and nothing was done.
 fn take_back<T: Marked + Drop>(
-    alloc: Global,
     buffers: &mut Buffers<T>,
     directory: &Directory,
     session: &mut Session,
     window_marks: &WindowMarks,
+    at: usize,
     undone: &Undone,
 ) -> Result<(), Short>
     requires marks { AreMarks buffers.old window_marks.now }
+    requires place { at ≡ position_or_len (marked_named window_marks.now.name) buffers.old }
     requires can { CanBeDone buffers.old window_marks.now session.old.kill (Undoes undone.now) }
     requires granted { IsActionGranted directory.now buffers.old session.old.user window_marks.now.name (Undoes undone.now) }
     ensures ok { OnOk result (buffers.new ≡ buffers_acted window_marks.now session.old.kill (Undoes undone.now) buffers.old) }
@@ -296,21 +285,30 @@ fn take_back<T: Marked + Drop>(
     ensures may { OnErr result (MayBeShort window_marks.now buffers.old session.old.kill (Undoes undone.now)) }
 {
     let name = &window_marks.name;
-    let behind = restore(alloc, buffers, directory, &session.user, name, undone)?;
-    leave(buffers, session, window_marks, &undone.finish, behind, None);
+    let behind = restore(buffers, directory, &session.user, name, at, undone)?;
+    leave(
+        buffers,
+        session,
+        window_marks,
+        at,
+        &undone.finish,
+        behind,
+        None,
+    );
     Ok(())
 }
 
 /// Does what was planned: in the buffers, and to the acting session. `Short`: memory was refused, and nothing was done.
 fn carry_out<T: Marked + Drop>(
-    alloc: Global,
     buffers: &mut Buffers<T>,
     directory: &Directory,
     session: &mut Session,
     window_marks: &WindowMarks,
+    at: usize,
     action: &Action,
 ) -> Result<(), Short>
     requires marks { AreMarks buffers.old window_marks.now }
+    requires place { at ≡ position_or_len (marked_named window_marks.now.name) buffers.old }
     requires can { CanBeDone buffers.old window_marks.now session.old.kill action.now }
     requires granted { IsActionGranted directory.now buffers.old session.old.user window_marks.now.name action.now }
     ensures ok { OnOk result (buffers.new ≡ buffers_acted window_marks.now session.old.kill action.now buffers.old) }
@@ -325,27 +323,19 @@ fn carry_out<T: Marked + Drop>(
             Ok(())
         }
         Action::Edits(mask, change) => {
-            change_text(
-                alloc,
-                buffers,
-                directory,
-                session,
-                window_marks,
-                *mask,
-                change,
-            )
+            change_text(buffers, directory, session, window_marks, at, *mask, change)
         }
         Action::Undoes(undone) => {
-            take_back(alloc, buffers, directory, session, window_marks, undone)
+            take_back(buffers, directory, session, window_marks, at, undone)
         }
         Action::Moves(left) => {
-            let made = killed_if(buffers, &window_marks.name, &mut session.kill, &left.kill)?;
-            leave(buffers, session, window_marks, left, 0, made);
+            let name = &window_marks.name;
+            let made = killed_if(buffers, name, at, &mut session.kill, &left.kill)?;
+            leave(buffers, session, window_marks, at, left, 0, made);
             Ok(())
         }
         Action::Clears => {
-            // It was granted when it was planned.
-            let _done = buffers.unmodify_as(directory, &session.user, &window_marks.name);
+            buffers.unmodify_at(directory, &session.user, &window_marks.name, at);
             finish(session, Kind::Other, Message::Silent);
             Ok(())
         }
@@ -365,14 +355,15 @@ fn mark_of(action: &Action) -> Option<usize>
 
 /// Does what was planned, and sets the mark where the action does. `Short`: memory was refused, and nothing was done.
 fn carry_out_marked<T: Marked + Drop>(
-    alloc: Global,
     buffers: &mut Buffers<T>,
     directory: &Directory,
     session: &mut Session,
     window_marks: &WindowMarks,
+    at: usize,
     action: &Action,
 ) -> Result<(), Short>
     requires marks { AreMarks buffers.old window_marks.now }
+    requires place { at ≡ position_or_len (marked_named window_marks.now.name) buffers.old }
     requires can { CanBeDone buffers.old window_marks.now session.old.kill action.now }
     requires granted { IsActionGranted directory.now buffers.old session.old.user window_marks.now.name action.now }
     ensures ok { OnOk result (IsCarriedOut window_marks.now action.now buffers.old buffers.new session.old session.new) }
@@ -381,13 +372,13 @@ fn carry_out_marked<T: Marked + Drop>(
     ensures may { OnErr result (MayBeShort window_marks.now buffers.old session.old.kill action.now) }
 {
     let position = match mark_of(action) {
-        None => return carry_out(alloc, buffers, directory, session, window_marks, action),
+        None => return carry_out(buffers, directory, session, window_marks, at, action),
         Some(position) => position,
     };
     let mark = reserve_mark(buffers, window_marks)?;
-    match carry_out(alloc, buffers, directory, session, window_marks, action) {
+    match carry_out(buffers, directory, session, window_marks, at, action) {
         Ok(()) => {
-            set_mark(buffers, session, window_marks, mark, position);
+            set_mark(buffers, session, window_marks, at, mark, position);
             Ok(())
         }
         Err(short) => {
@@ -424,30 +415,30 @@ fn touched_by(window_marks: &WindowMarks, action: &Action, killed: usize) -> Tou
 /// Does what was planned, for the session at `at`, and tells what it touched. The positions of all searches go by it. `Short`:
 /// memory was refused, and nothing was done.
 pub fn perform<T: Marked + Drop>(
-    alloc: Global,
     buffers: &mut Buffers<T>,
     directory: &Directory,
     sessions: &mut [Session],
     at: usize,
     window_marks: &WindowMarks,
+    place: usize,
     action: &Action,
 ) -> Result<Touched, Short>
-    requires { IsReady directory.now at buffers.old sessions.old (Acts window_marks.now action.now) }
+    requires { IsReady directory.now at buffers.old sessions.old (Acts window_marks.now place action.now) }
     ensures sound { IsSound buffers.new sessions.new }
-    ensures done { IfOk result (IsQuietlyDone directory.now at (Acts window_marks.now action.now) buffers.old sessions.old buffers.new sessions.new) }
+    ensures done { IfOk result (IsQuietlyDone directory.now at (Acts window_marks.now place action.now) buffers.old sessions.old buffers.new sessions.new) }
     ensures err { OnErr result (IsUnchanged buffers.old sessions.old buffers.new sessions.new) }
-    ensures may { OnErr result (TakesMemory at (Acts window_marks.now action.now) buffers.old sessions.old) }
+    ensures may { OnErr result (TakesMemory at (Acts window_marks.now place action.now) buffers.old sessions.old) }
 {
     let name = &window_marks.name;
     let kill = sessions[at].kill.as_slice();
     let touched = touched_by(window_marks, action, kill.len());
-    let edit = edit_of(buffers, name, kill, action);
+    let edit = edit_of(buffers, name, place, kill, action);
     carry_out_marked(
-        alloc,
         buffers,
         directory,
         &mut sessions[at],
         window_marks,
+        place,
         action,
     )?;
     follow(sessions, name, &edit);

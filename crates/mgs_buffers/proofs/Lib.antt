@@ -8,6 +8,7 @@ pub mod Judged
 pub mod Told
 pub mod Finds
 pub mod Placing
+pub mod Places
 pub mod Permitting
 mod Updates
 pub mod Spelled

@@ -16,7 +16,6 @@ ghost use Rattle.mgs_buffers.specs.Completed.{IsWithinName};
 ghost use Rattle.mgs_buffers.specs.Contents.{marked_of};
 ghost use Rattle.mgs_buffers.specs.Judging.{AreJudged, IsRuled, rules_kept};
 ghost use Rattle.mgs_buffers.specs.Permitting.{PermitAnswers, mask_decision, right_decision};
-ghost use Rattle.mgs_buffers.specs.Placing.{CanStand, placed_if};
 ghost use Rattle.mgs_buffers.specs.Told.{attributes_read, attributes_found};
 ghost use Rattle.mgs_buffers.specs.MarkedBuffer.{AreUnmarked, AreWithinLimit, HasBuffer, IsMark, MarkAdded, MarkDropped};
 ghost use Rattle.mgs_buffers.specs.MarkedBuffer.{has_buffer, mark_at, marked_at, marked_created, marked_named, marked_placed, marked_restored};
@@ -256,9 +255,9 @@ impl<T: Marked + Drop> Buffers<T> {
         Ok((name, Owners { owner, group }))
     }
 
-    // The place of a buffer.
+    /// The place of the buffer among all, in the order of creation.
     #[tactic(auto, using(crate::proofs::MarkedLemmas::place_kept))]
-    pub(crate) fn place_of(&self, name: &Name) -> usize
+    pub fn place_of(&self, name: &Name) -> usize
         requires { HasBuffer name.now self.now }
         ensures value { result ≡ position_or_len (marked_named name.now) self.now }
         ensures within { result < length self.now }
@@ -272,6 +271,7 @@ impl<T: Marked + Drop> Buffers<T> {
         ensures name { result.1.now ≡ name.now }
         ensures buffer { marked_of T.text T.marks name.now result.2.now ≡ marked_at name.now self.now }
         ensures place { IsRuled result.0 result.2.now.owners result.2.now.list (rules_kept self.now) }
+        ensures at { result.0 ≡ position_or_len (marked_named name.now) self.now }
     {
         self.all.get_full(name).unwrap()
     }
@@ -492,25 +492,7 @@ impl<T: Marked + Drop> Buffers<T> {
         ensures { self.new ≡ change_first (marked_named name.now) (marked_placed id p) self.old }
     {
         let at = self.place_of(name);
-        let (_, buffer) = self.all.pair_mut(at);
-        buffer.place(id, p);
-    }
-
-    /// Puts up to two marks of the buffer at positions, one after the other, with one look-up.
-    pub fn place_both(
-        &mut self,
-        name: &Name,
-        first: Option<(MarkId, usize)>,
-        second: Option<(MarkId, usize)>,
-    )
-        requires kept { HasBuffer name.now self.old }
-        requires first { let k = marked_at name.now self.old in CanStand k.marks k.buffer.text first }
-        requires second { let k = marked_at name.now self.old in CanStand k.marks k.buffer.text second }
-        ensures { self.new ≡ placed_if name.now second (placed_if name.now first self.old) }
-    {
-        let at = self.place_of(name);
-        let (_, buffer) = self.all.pair_mut(at);
-        buffer.place_both(first, second);
+        self.place_at(name, at, id, p);
     }
 
     /// A new mark in the buffer, at a position. `Short`: memory was refused, and all is as it was.

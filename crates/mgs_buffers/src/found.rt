@@ -7,7 +7,8 @@ ghost use Rattle.mgs_undo.specs.History.{has_serial};
 ghost use Rattle.mgs_undo.specs.Numbered.{item_of};
 ghost use Rattle.mgs_buffers.specs.Contents.{marked_of};
 ghost use Rattle.mgs_buffers.specs.Judging.{AreJudged, rules_kept};
-ghost use Rattle.mgs_buffers.specs.MarkedBuffer.{HasBuffer, IsMark, mark_at, marked_at};
+ghost use Rattle.mgs_buffers.specs.MarkedBuffer.{HasBuffer, IsMark, mark_at, marked_at, marked_named};
+ghost use Rattle.std.specs.List.{position_or_len};
 ghost use Rattle.mgs_buffers.specs.Permitting.{mask_decision, right_decision};
 
 use crate::buffer::Buffer;
@@ -59,6 +60,13 @@ impl<'a, T: Marked + Drop> Found<'a, T> {
         ensures kept { HasBuffer self.now.name self.now.all }
     {
         self.name
+    }
+
+    /// The buffer's place among all, in the order of creation.
+    pub fn place(&self) -> usize
+        ensures { result ≡ position_or_len (marked_named self.now.name) self.now.all }
+    {
+        self.place
     }
 
     /// What the buffer's access list decides on one right of a user (RFC 8881, section 6.2.1).

@@ -1,6 +1,7 @@
 //! The buffers of a server, in order of creation: each a text with marks, its access list, its owners and its latest edits.
 #![tactic(auto)]
 
+mod at_place;
 mod buffer;
 mod buffers;
 mod changing;

@@ -19,7 +19,6 @@ use mgs_policy::Directory;
 use mgs_seek::{quit_search, replace, search_on, skip, start_replacing, start_search};
 use mgs_session::{Search, SearchString, Session};
 use mgs_store::Store;
-use std::alloc::Global;
 
 /// The mode of a session before an act.
 #[derive(Drop)]
@@ -101,7 +100,6 @@ fn started_by(done: KeyAct) -> Option<Direction>
 
 /// Does an act of the session at `at`: a search that starts takes no memory.
 fn do_key_act<T: Marked + Drop, S: Store>(
-    alloc: Global,
     buffers: &mut Buffers<T>,
     directory: &Directory,
     sessions: &mut [Session],
@@ -125,13 +123,12 @@ fn do_key_act<T: Marked + Drop, S: Store>(
             start_search(buffers, directory, sessions, at, direction);
             Ok(Touched::Nowhere)
         }
-        None => act(alloc, buffers, directory, sessions, at, store, done),
+        None => act(buffers, directory, sessions, at, store, done),
     }
 }
 
 /// Does what is to be done, by the session at `at`, where this was there before. The error: memory was refused, and nothing of it was done.
 pub fn do_byte_act<T: Marked + Drop, S: Store>(
-    alloc: Global,
     buffers: &mut Buffers<T>,
     directory: &Directory,
     sessions: &mut [Session],
@@ -153,14 +150,14 @@ pub fn do_byte_act<T: Marked + Drop, S: Store>(
     ensures further { OnOk result (LeavesFewer act at buffers.old buffers.new sessions.old sessions.new) }
 {
     match act {
-        ByteAct::Act(done) => do_key_act(alloc, buffers, directory, sessions, at, store, done),
+        ByteAct::Act(done) => do_key_act(buffers, directory, sessions, at, store, done),
         ByteAct::Answer(argument) => {
             let prompt = asked(before);
             let question = prompt.question();
             let input = prompt.input();
             let count = counted(argument);
             answer(
-                alloc, buffers, directory, sessions, at, store, question, count, input,
+                buffers, directory, sessions, at, store, question, count, input,
             )
         }
         ByteAct::Seek(step) => {

@@ -31,7 +31,6 @@ use mgs_policy::Directory;
 use mgs_session::{Pending, Session, begin, break_off, next_task, rest, set_echo, set_kind};
 use mgs_store::Store;
 use mgs_world::settle_apart;
-use std::alloc::Global;
 use std::mem;
 
 /// What is touched by one turn and by the next.
@@ -166,7 +165,6 @@ fn forget_touched(judge: &mut Judge, touched: &Touched)
 
 /// Does what a turn asks for by the session at `at`, where this was there before.
 fn act_turn<T: Marked + Drop, S: Store>(
-    alloc: Global,
     buffers: &mut Buffers<T>,
     judge: &mut Judge,
     directory: &Directory,
@@ -192,9 +190,7 @@ fn act_turn<T: Marked + Drop, S: Store>(
     ensures further { OnOk result (LeavesFewer act at buffers.old buffers.new sessions.old sessions.new) }
     ensures touched { IfOk result (λ touched. AreApart touched id directory.now buffers.old buffers.new sessions.old sessions.new) }
 {
-    match do_byte_act(
-        alloc, buffers, directory, sessions, at, store, act, &was.mode,
-    ) {
+    match do_byte_act(buffers, directory, sessions, at, store, act, &was.mode) {
         Ok(touched) => {
             forget_touched(judge, &touched);
             Ok(touched)
@@ -220,7 +216,6 @@ fn answer_without_act(step: ByteStep) -> (Keyed, Touched)
 /// The next of what the session at `at` has still to do is done, or refused for want of memory, or ends its session, which is then to be
 /// taken out. It tells what it touched, and whether it changed so little that each window stands where it stood. No window settles.
 fn take_turn<T: Marked + Drop, S: Store>(
-    alloc: Global,
     buffers: &mut Buffers<T>,
     judge: &mut Judge,
     directory: &Directory,
@@ -258,7 +253,7 @@ fn take_turn<T: Marked + Drop, S: Store>(
     match step {
         ByteStep::Acts(act) => {
             let done = act_turn(
-                alloc, buffers, judge, directory, sessions, at, store, id, act, &mut was,
+                buffers, judge, directory, sessions, at, store, id, act, &mut was,
             );
             let _later = buffers.len();
             match done {
@@ -287,7 +282,6 @@ fn goes_on(keyed: Keyed, sessions: &[Session], at: usize) -> bool
 /// Turn after turn is taken until nothing is left to do, or memory is refused, or the session is to be taken out. No window settles; it tells whether
 /// each stands where it stood.
 pub fn take_turns<T: Marked + Drop, S: Store>(
-    alloc: Global,
     buffers: &mut Buffers<T>,
     judge: &mut Judge,
     directory: &Directory,
@@ -314,9 +308,7 @@ pub fn take_turns<T: Marked + Drop, S: Store>(
     let mut touched = Touched::Nowhere;
     let mut stands = true;
     while goes_on(keyed, sessions, at) {
-        let (next, more, still) = take_turn(
-            alloc, buffers, judge, directory, sessions, at, store, id,
-        );
+        let (next, more, still) = take_turn(buffers, judge, directory, sessions, at, store, id);
         keyed = next;
         touched = touched_both(touched, more);
         stands = stands & still;
@@ -368,7 +360,6 @@ fn begin_at(sessions: &mut [Session], at: usize, byte: u8)
 
 /// A byte of the session at `at`, as `Core::key` says, but that `Quit` changes what the session holds alone: it is to be taken out.
 pub fn type_in<T: Marked + Drop, S: Store>(
-    alloc: Global,
     buffers: &mut Buffers<T>,
     judge: &mut Judge,
     directory: &Directory,
@@ -395,9 +386,7 @@ pub fn type_in<T: Marked + Drop, S: Store>(
 {
     let was = is_bare(&sessions[at]);
     begin_at(sessions, at, byte);
-    let (keyed, touched, stands) = take_turns(
-        alloc, buffers, judge, directory, sessions, at, store, id,
-    );
+    let (keyed, touched, stands) = take_turns(buffers, judge, directory, sessions, at, store, id);
     match keyed {
         Keyed::Quit => (keyed, touched, false),
         _ => {

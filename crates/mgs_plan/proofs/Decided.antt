@@ -60,8 +60,8 @@ no_save NotModified n typed here = refl
 no_save _ n typed here = cc
 
 module _ (directory : Directory) (ks : List MarkedBuffer) (xs : List Session) (next : Option ℕ) (h : Session) (c : Command) (n : Option ℕ) (typed : List ℕ) (here : is_on_text c ≡ true) where
-  pub text_planned : (x : WindowMarks) (action : Action) → window_marks_of h ≡ Some x → AreMarks ks x → state_of h.state ≡ idle (state_of h.state) → IsActionOf directory ks h x c n typed action → IsOutcome directory ks xs next h (Run c n typed) (Acts x action)
-  text_planned x action sel marks fresh planned = λ stored.
+  pub text_planned : (x : WindowMarks) (place : ℕ) (action : Action) → window_marks_of h ≡ Some x → AreMarks ks x → state_of h.state ≡ idle (state_of h.state) → IsActionOf directory ks h x c n typed action → IsOutcome directory ks xs next h (Run c n typed) (Acts x place action)
+  text_planned x place action sel marks fresh planned = λ stored.
       unstored (view_at directory ks xs next h) (Run c n typed) stored (no_save c n typed here)
       ∙ outcome_plan directory ks xs next h x c n typed here sel (mark_is_kept x.name x.point ks marks.point) (no_search_at_rest ks h fresh)
       ∙ sym (subst (λ (state : State). outcome_through state x ks h.kill action ≡ plan_in directory ks state h.user x (selected_height h) c n typed h.kill) (sym fresh) planned)
@@ -74,8 +74,8 @@ module _ (directory : Directory) (ks : List MarkedBuffer) (xs : List Session) (n
 
 -- A SEARCH for what was typed
 module _ (directory : Directory) (ks : List MarkedBuffer) (xs : List Session) (next : Option ℕ) (h : Session) (d : Direction) (n : Option ℕ) (typed : List ℕ) where
-  pub search_planned : (x : WindowMarks) (action : Action) → window_marks_of h ≡ Some x → AreMarks ks x → state_of h.state ≡ idle (state_of h.state) → IsSearchFor directory ks h.user x d typed action → IsOutcome directory ks xs next h (Run (Seek (SearchFor d)) n typed) (Acts x action)
-  search_planned x action sel marks fresh planned = λ stored.
+  pub search_planned : (x : WindowMarks) (place : ℕ) (action : Action) → window_marks_of h ≡ Some x → AreMarks ks x → state_of h.state ≡ idle (state_of h.state) → IsSearchFor directory ks h.user x d typed action → IsOutcome directory ks xs next h (Run (Seek (SearchFor d)) n typed) (Acts x place action)
+  search_planned x place action sel marks fresh planned = λ stored.
       unstored (view_at directory ks xs next h) (Run (Seek (SearchFor d)) n typed) stored refl
       ∙ sought_plan directory ks xs next h x (SearchFor d) n typed sel (mark_is_kept x.name x.point ks marks.point) (no_search_at_rest ks h fresh)
       ∙ sym (planned (state_of h.state) h.kill)

@@ -1,12 +1,15 @@
 -- Marks and texts where marks are placed, and where a text is edited.
-use Rattle.std.proofs.Common.{◌≡◌, ℕ, ◌+◌, ◌-◌, ◌≤◌, ◌||◌, nat_lt, Bool, true, false, cond, List, length, Option, Some, None, refl, ap, ◌∙◌, arith, ltb-false}
+use Rattle.std.proofs.Common.{◌≡◌, ℕ, ◌+◌, ◌-◌, ◌≤◌, ◌||◌, nat_lt, Bool, true, false, cond, List, length, Option, Some, None, refl, sym, ap, ◌∙◌, arith, ltb-false}
 use Rattle.std.specs.Prelude.{find}
 use Rattle.std.specs.Option.{option_map}
+use Rattle.std.specs.List.{position_or_len}
 use Rattle.mgs_model.specs.Text.{is_edit}
 use Rattle.mgs_model.specs.Outcome.{PointPlan, Keep_position, At, At_origin}
 use Rattle.mgs_model.specs.Plans as plans
 use Rattle.mgs_model.specs.Apply.{change_first}
+use Rattle.mgs_model.proofs.Moved.{edited_name}
 use Rattle.mgs_buffers.specs.MarkedBuffer.{HasBuffer, IsMark, MarkedBuffer, marked_at, marked_edited, marked_named, marked_or_none, marked_placed}
+use Rattle.mgs_buffers.proofs.Places.{place_stays}
 use Rattle.mgs_windows.specs.declared.WindowMarks.{WindowMarks}
 use Rattle.mgs_world.specs.Sound.{in_use, one_if}
 use Rattle.mgs_world.proofs.Marks.{found_same, is_same}
@@ -67,3 +70,16 @@ length_edited_by name c ks kept order within = go (is_edit c.a c.b c.put) refl
     go : (f : Bool) → is_edit c.a c.b c.put ≡ f → length (marked_at name (cond f (change_first (marked_named name) (marked_edited c.a c.b c.put) ks) ks)).buffer.text ≡ length (marked_at name ks).buffer.text - (c.b - c.a) + length c.put
     go true e = text_edited name c.a c.b c.put ks kept order within
     go false e = let none = no_edit c.a c.b c.put e in omega (arith, none.0, none.1, order, within)
+
+-- and each buffer keeps its place
+pub place_edited_by : (name : List ℕ) (c : plans.Change) (ks : List MarkedBuffer) (at : ℕ) → at ≡ position_or_len (marked_named name) ks → at ≡ position_or_len (marked_named name) (edited_by name c ks)
+place_edited_by name c ks at place = go (is_edit c.a c.b c.put)
+  where
+    go : (f : Bool) → at ≡ position_or_len (marked_named name) (cond f (change_first (marked_named name) (marked_edited c.a c.b c.put) ks) ks)
+    go true = place ∙ sym (place_stays name name (marked_edited c.a c.b c.put) (λ k. edited_name c.a c.b c.put k.buffer) ks)
+    go false = place
+
+pub place_gone : (name : List ℕ) (id : ℕ) (to : PointPlan) (ks : List MarkedBuffer) (at : ℕ) → at ≡ position_or_len (marked_named name) ks → at ≡ position_or_len (marked_named name) (mark_gone name id to ks)
+place_gone name id Keep_position ks at place = place
+place_gone name id (At p) ks at place = place ∙ sym (place_stays name name (marked_placed id p) (λ k. refl) ks)
+place_gone name id At_origin ks at place = place

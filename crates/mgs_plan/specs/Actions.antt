@@ -142,6 +142,10 @@ around_given directory ks user x g killed =
       fill = g.fill;
     }
 
+-- that it is that, by whomever may read the text
+abbrev pub IsAroundReading : List MarkedBuffer → WindowMarks → Given → ℕ → Around → Type 0
+IsAroundReading ks x g killed around = (directory : Directory) (user : List ℕ) → may directory user ReadData (marked_at x.name ks).buffer ≡ true → around ≡ around_given directory ks user x g killed
+
 -- the same, as the model's plans are given it
 abbrev pub around_in : Directory → List MarkedBuffer → List ℕ → WindowMarks → ℕ → Option ℕ → List ℕ → List ℕ → model.State → plans.Around
 around_in directory ks user x height n typed kill state =
@@ -314,6 +318,11 @@ mask_at (Alter c) place size = 3
 mask_at UndoEdit place size = 3
 mask_at NotModified place size = 3
 mask_at _ place size = 1
+
+-- and with the one to read
+abbrev pub reading_mask_at : Command → ℕ → ℕ → ℕ
+reading_mask_at (Insert c) place size = 1 + insertion_mask place size
+reading_mask_at c place size = mask_at c place size
 
 -- that these rights are those by which an action is done
 abbrev pub IsDoneBy : ℕ → Action → Type 0

@@ -1,5 +1,6 @@
 -- What is decided, as the model has it.
 use Rattle.std.specs.Prelude.{◌≡◌, ℕ, Bool, false, true, List, [], length, Option, Some, Result, Ok, slice_get}
+use Rattle.std.specs.List.{position_or_len}
 use Rattle.mgs_model.specs.Access.{Directory}
 use Rattle.mgs_model.specs.Acts.{creates_buffer, effects, fails, outcome, permitted, list_set, shows_named}
 use Rattle.mgs_model.specs.Outcome.{Act, Create, Effect, Kill, No_effect, SetOwners, Run}
@@ -12,7 +13,7 @@ use Rattle.mgs_model.specs.declared.message.Message.{Message}
 use Rattle.mgs_model.specs.declared.session.Command.TheVariants.{Ask, Rearrange, Set}
 use Rattle.mgs_model.specs.declared.session.Scrolling.{Scrolling}
 use Rattle.mgs_buffers.specs.Changing.{writes}
-use Rattle.mgs_buffers.specs.MarkedBuffer.{HasBuffer, MarkedBuffer, has_buffer, marked_at}
+use Rattle.mgs_buffers.specs.MarkedBuffer.{HasBuffer, MarkedBuffer, has_buffer, marked_at, marked_named}
 use Rattle.mgs_session.specs.Sessions.{window_marks_of}
 use Rattle.mgs_session.specs.declared.Session.{Session}
 use Rattle.mgs_windows.specs.declared.WindowMarks.{WindowMarks}
@@ -36,7 +37,7 @@ view_at directory ks xs next h = view (world_of directory ks xs next) (session_o
 -- what an outcome is in a view, by the buffers and by whether the store saved
 abbrev pub outcome_read : List MarkedBuffer → View → Outcome → Bool → outcomes.Outcome
 outcome_read ks v (Fails message) stored = fails v.session.state message
-outcome_read ks v (Acts x action) stored = outcome_through v.session.state x ks v.session.kill action
+outcome_read ks v (Acts x place action) stored = outcome_through v.session.state x ks v.session.kill action
 outcome_read ks v (Kills name) stored = effects v.session.state (Ok (Kill name))
 outcome_read ks v (SetsOwners name new) stored = effects v.session.state (Ok (SetOwners name new))
 outcome_read ks v (SetsList name plan) stored = effects v.session.state (list_set name (entries_planned plan (marked_at name ks).buffer.entries))
@@ -64,9 +65,10 @@ IsActionGranted directory ks user name (actions.Undoes u) = IsGranted directory 
 IsActionGranted directory ks user name (actions.Moves f) = Unit {0}
 IsActionGranted directory ks user name actions.Clears = IsGranted directory ks user name 3
 
--- through the marks of the window that a session has selected
-pub record CanAct (directory : Directory) (ks : List MarkedBuffer) (h : Session) (x : WindowMarks) (action : Action) : Type 0 where
+-- through the marks of the window that a session has selected, whose buffer stands at this place among all
+pub record CanAct (directory : Directory) (ks : List MarkedBuffer) (h : Session) (x : WindowMarks) (place : ℕ) (action : Action) : Type 0 where
   pub selected : window_marks_of h ≡ Some x
+  pub stands : place ≡ position_or_len (marked_named x.name) ks
   pub can : CanBeDone ks x h.kill action
   pub granted : IsActionGranted directory ks h.user x.name action
 
@@ -92,7 +94,7 @@ pub record CanSave (directory : Directory) (ks : List MarkedBuffer) (user name :
 -- what an outcome asks of the buffers, and of the session that acts
 abbrev pub CanPerform : Directory → List MarkedBuffer → Session → Outcome → Type 0
 CanPerform directory ks h (Fails message) = Unit {0}
-CanPerform directory ks h (Acts x action) = CanAct directory ks h x action
+CanPerform directory ks h (Acts x place action) = CanAct directory ks h x place action
 CanPerform directory ks h (Kills name) = CanRule directory ks h.user name 65536
 CanPerform directory ks h (SetsOwners name new) = CanRule directory ks h.user name 524288
 CanPerform directory ks h (SetsList name plan) = CanList directory ks h.user name plan

@@ -1,6 +1,7 @@
 // The positions of searches go by an edit.
 ghost use Rattle.std.specs.Prelude.{◌≡◌, length};
-ghost use Rattle.mgs_buffers.specs.MarkedBuffer.{HasBuffer, marked_at};
+ghost use Rattle.std.specs.List.{position_or_len};
+ghost use Rattle.mgs_buffers.specs.MarkedBuffer.{HasBuffer, marked_at, marked_named};
 ghost use Rattle.mgs_plan.specs.Actions.{CanDoIn};
 ghost use Rattle.mgs_plan.specs.Following.{CanFollow, action_edit, edit_told, followed, if_edit};
 ghost use Rattle.mgs_plan.specs.Inserting.{CanPut, insertion_of};
@@ -24,19 +25,21 @@ pub fn if_edit(edit: Edited) -> Option<Edited>
     }
 }
 
-/// The edit that an action is, by a session that has this kill buffer, if it is one.
+/// The edit that an action is in the buffer of a name, which stands at a place, by a session that has this kill buffer, if it is one.
 pub fn edit_of<T: Marked + Drop>(
     buffers: &Buffers<T>,
     name: &Name,
+    at: usize,
     kill: &[char],
     action: &Action,
 ) -> Option<Edited>
     requires kept { HasBuffer name.now buffers.now }
+    requires place { at ≡ position_or_len (marked_named name.now) buffers.now }
     requires can { CanDoIn buffers.now name.now kill.now action.now }
     ensures value { result ≡ action_edit (marked_at name.now buffers.now).buffer.text (marked_at name.now buffers.now).buffer.items kill.now action.now }
     ensures can { CanFollow result }
 {
-    let size = buffers.text_len(name);
+    let size = buffers.text_len_at(name, at);
     match action {
         Action::Edits(_, change) => if_edit(Edited {
             size,

@@ -2,7 +2,7 @@
 ghost use Rattle.std.specs.Prelude.{◌≡◌, [], IfSome, true};
 ghost use Rattle.mgs_model.specs.Outcome.{Run};
 ghost use Rattle.mgs_session.specs.Sessions.{window_marks_of};
-ghost use Rattle.mgs_plan.specs.Actions.{AreMarks, CanBeDone, IsActionOf, is_on_text};
+ghost use Rattle.mgs_plan.specs.Actions.{AreMarks, CanDoIn, IsActionOf, is_on_text, marks_in};
 ghost use Rattle.mgs_plan.specs.Deciding.{CanPerform, IsActionGranted, IsPlanned};
 ghost use Rattle.mgs_world.specs.Worlds.{idle, state_of};
 
@@ -11,7 +11,7 @@ use crate::given::Given;
 use crate::outcome::Outcome;
 use crate::planning::plan;
 use crate::rows::plan_rows;
-use mgs_buffers::Buffers;
+use mgs_buffers::{Buffers, Found};
 use mgs_marks::Marked;
 use mgs_model::Command;
 use mgs_policy::Directory;
@@ -20,18 +20,18 @@ use mgs_windows::WindowMarks;
 
 /// What a command comes to in the window that a session has selected.
 fn plan_for<T: Marked + Drop>(
-    buffers: &Buffers<T>,
+    found: &Found<T>,
     directory: &Directory,
     session: &Session,
     window_marks: &WindowMarks,
     command: Command,
     argument: Option<usize>,
 ) -> Action
-    requires marks { AreMarks buffers.now window_marks.now }
+    requires marks { AreMarks found.now.all (marks_in found.now.name window_marks.now) }
     requires here { is_on_text command ≡ true }
-    ensures value { IsActionOf directory.now buffers.now session.now window_marks.now command argument [] result }
-    ensures can { CanBeDone buffers.now window_marks.now session.now.kill result }
-    ensures granted { IsActionGranted directory.now buffers.now session.now.user window_marks.now.name result }
+    ensures value { IsActionOf directory.now found.now.all session.now (marks_in found.now.name window_marks.now) command argument [] result }
+    ensures can { CanDoIn found.now.all found.now.name session.now.kill result }
+    ensures granted { IsActionGranted directory.now found.now.all session.now.user found.now.name result }
 {
     let given = Given {
         argument,
@@ -40,7 +40,7 @@ fn plan_for<T: Marked + Drop>(
         fill: session.state.fill,
     };
     plan(
-        buffers,
+        found,
         directory,
         &session.user,
         window_marks,
@@ -68,13 +68,7 @@ pub(crate) fn plan_text<T: Marked + Drop>(
     let Some(window_marks) = selected_window_marks(session) else {
         return plan_rows(session, command);
     };
-    let action = plan_for(
-        buffers,
-        directory,
-        session,
-        &window_marks,
-        command,
-        argument,
-    );
-    Outcome::Acts(window_marks, action)
+    let found = buffers.find(&window_marks.name);
+    let action = plan_for(&found, directory, session, &window_marks, command, argument);
+    Outcome::Acts(window_marks, found.place(), action)
 }

@@ -19,8 +19,8 @@ pub enum EntryPlan {
 pub enum Outcome {
     /// It fails, and this is told.
     Fails(Message),
-    /// A command on the text that the selected window shows, through that window's marks.
-    Acts(WindowMarks, Action),
+    /// A command on the text that the selected window shows, through that window's marks; the number is the place of its buffer among all.
+    Acts(WindowMarks, usize, Action),
     /// The buffer of a name goes.
     Kills(Name),
     /// The buffer of a name gets an owner, or an owning group, or none.

@@ -4,15 +4,15 @@ ghost use Rattle.mgs_model.specs.declared.entry.Decision.TheVariants.{Granted};
 ghost use Rattle.mgs_model.specs.World.{Item};
 ghost use Rattle.mgs_undo.specs.Numbered.{item_of};
 ghost use Rattle.mgs_buffers.specs.Changing.{writes};
-ghost use Rattle.mgs_buffers.specs.MarkedBuffer.{HasBuffer, marked_at};
+ghost use Rattle.mgs_buffers.specs.MarkedBuffer.{marked_at};
 ghost use Rattle.mgs_edit.specs.Reading.{ChangeWithin, FinishWithin, IsWithin};
-ghost use Rattle.mgs_plan.specs.Actions.{AreMarks, CanBeDone, CanDo, CanDoIn, CanTakeBack, CanUndoSo, around_given, insertion_mask, is_on_text, mark_shown, marks_in, mask_at};
+ghost use Rattle.mgs_plan.specs.Actions.{AreMarks, CanDo, CanDoIn, CanTakeBack, CanUndoSo, IsAroundReading, around_given, insertion_mask, is_on_text, mark_shown, marks_in, mask_at, reading_mask_at};
 ghost use Rattle.mgs_plan.specs.Actions.{IsActionFor, IsDoneBy, IsEditOf, IsGrantedIn, IsMotionOf, IsTakenBack, IsUndoIn, IsUndoneSo};
 ghost use Rattle.mgs_plan.specs.Deciding.{IsActionGranted, Refuses};
 
 use crate::action::Action;
 use crate::given::Given;
-use mgs_buffers::{Buffers, Found};
+use mgs_buffers::Found;
 use mgs_edit::{
     Around, Change, Finish, Undone, alteration, insertion, is_edit, is_kill_too_large, is_too_long,
     is_undo_an_edit, is_undo_too_long, motion, reading_insertion, scroll, undo, undo_target,
@@ -36,6 +36,30 @@ fn mark<T: Marked + Drop>(found: &Found<T>, window_marks: &WindowMarks) -> Optio
     }
 }
 
+/// What a planner is given where the user may read the text.
+fn around_reading<T: Marked + Drop>(
+    found: &Found<T>,
+    window_marks: &WindowMarks,
+    given: &Given,
+    killed: usize,
+) -> Around
+    requires { AreMarks found.now.all (marks_in found.now.name window_marks.now) }
+    ensures value { IsAroundReading found.now.all (marks_in found.now.name window_marks.now) given.now killed result }
+    ensures killed { result.killed ≡ killed }
+    ensures place { result.place ≤ length (marked_at found.now.name found.now.all).buffer.text }
+    ensures mark { IsWithin (length (marked_at found.now.name found.now.all).buffer.text) result.mark }
+{
+    Around {
+        place: found.pos(window_marks.point),
+        mark: mark(found, window_marks),
+        argument: given.argument,
+        killed,
+        kind: given.kind,
+        height: given.height,
+        fill: given.fill,
+    }
+}
+
 /// What a planner is given. A user who may not read the text acts at its end, and has no mark.
 fn around<T: Marked + Drop>(
     found: &Found<T>,
@@ -50,14 +74,12 @@ fn around<T: Marked + Drop>(
     ensures place { result.place ≤ length (marked_at found.now.name found.now.all).buffer.text }
     ensures mark { IsWithin (length (marked_at found.now.name found.now.all).buffer.text) result.mark }
 {
-    let (place, mark) = if found.grants(directory, user, Right::ReadData) {
-        (found.pos(window_marks.point), mark(found, window_marks))
-    } else {
-        (found.text_len(), None)
-    };
+    if found.grants(directory, user, Right::ReadData) {
+        return around_reading(found, window_marks, given, killed);
+    }
     Around {
-        place,
-        mark,
+        place: found.text_len(),
+        mark: None,
         argument: given.argument,
         killed,
         kind: given.kind,
@@ -90,6 +112,19 @@ fn needs(command: &Command, place: usize, size: usize) -> Mask
             Mask::from_bits(read + Right::WriteData.bit())
         }
         _ => Mask::from_bits(read),
+    }
+}
+
+/// These rights, and the one to read.
+fn needs_reading(command: &Command, place: usize, size: usize) -> Mask
+    ensures { result ≡ reading_mask_at command.now place size }
+{
+    match *command {
+        Command::Insert(_) => {
+            let read = Right::ReadData.bit();
+            Mask::from_bits(read + insertion_mask(place, size).bits())
+        }
+        _ => needs(command, place, size),
     }
 }
 
@@ -243,9 +278,38 @@ pub fn denial(decision: Decision) -> Option<Message>
     }
 }
 
-/// What a command on a text comes to through a window's marks, by a user whose session has this kill buffer.
-pub(crate) fn plan<T: Marked + Drop>(
-    buffers: &Buffers<T>,
+/// What a command on a text comes to where one walk over the access list grants the user to read, and all that the command needs.
+fn plan_outright<T: Marked + Drop>(
+    found: &Found<T>,
+    directory: &Directory,
+    user: &Name,
+    window_marks: &WindowMarks,
+    given: &Given,
+    kill: &[char],
+    command: Command,
+) -> Option<Action>
+    requires marks { AreMarks found.now.all (marks_in found.now.name window_marks.now) }
+    requires here { is_on_text command ≡ true }
+    ensures value { IfSome result (IsActionFor directory.now found.now.all user.now (marks_in found.now.name window_marks.now) given.now kill.now command []) }
+    ensures can { IfSome result (CanDoIn found.now.all found.now.name kill.now) }
+    ensures granted { IfSome result (IsActionGranted directory.now found.now.all user.now found.now.name) }
+{
+    let size = found.text_len();
+    let around = around_reading(found, window_marks, given, kill.len());
+    let all = needs_reading(&command, around.place, size);
+    match denial(found.decide_all(directory, user, all)) {
+        Some(_) => None,
+        None => {
+            let mask = needs(&command, around.place, size);
+            Some(plan_granted(found, kill, &around, mask, command))
+        }
+    }
+}
+
+/// What a command on a text comes to through a window's marks, by a user whose session has this kill buffer: whether he may read is
+/// decided first, and then what the command needs.
+fn plan_judged<T: Marked + Drop>(
+    found: &Found<T>,
     directory: &Directory,
     user: &Name,
     window_marks: &WindowMarks,
@@ -253,19 +317,39 @@ pub(crate) fn plan<T: Marked + Drop>(
     kill: &[char],
     command: Command,
 ) -> Action
-    requires kept { HasBuffer window_marks.now.name buffers.now }
-    requires marks { AreMarks buffers.now window_marks.now }
+    requires marks { AreMarks found.now.all (marks_in found.now.name window_marks.now) }
     requires here { is_on_text command ≡ true }
-    ensures value { IsActionFor directory.now buffers.now user.now window_marks.now given.now kill.now command [] result }
-    ensures can { CanBeDone buffers.now window_marks.now kill.now result }
-    ensures granted { IsActionGranted directory.now buffers.now user.now window_marks.now.name result }
+    ensures value { IsActionFor directory.now found.now.all user.now (marks_in found.now.name window_marks.now) given.now kill.now command [] result }
+    ensures can { CanDoIn found.now.all found.now.name kill.now result }
+    ensures granted { IsActionGranted directory.now found.now.all user.now found.now.name result }
 {
-    let found = buffers.find(&window_marks.name);
     let size = found.text_len();
-    let around = around(&found, directory, user, window_marks, given, kill.len());
+    let around = around(found, directory, user, window_marks, given, kill.len());
     let mask = needs(&command, around.place, size);
     match denial(found.decide_all(directory, user, mask)) {
         Some(message) => Action::Fails(message),
-        None => plan_granted(&found, kill, &around, mask, command),
+        None => plan_granted(found, kill, &around, mask, command),
+    }
+}
+
+/// What a command on a text comes to through a window's marks, by a user whose session has this kill buffer.
+pub(crate) fn plan<T: Marked + Drop>(
+    found: &Found<T>,
+    directory: &Directory,
+    user: &Name,
+    window_marks: &WindowMarks,
+    given: &Given,
+    kill: &[char],
+    command: Command,
+) -> Action
+    requires marks { AreMarks found.now.all (marks_in found.now.name window_marks.now) }
+    requires here { is_on_text command ≡ true }
+    ensures value { IsActionFor directory.now found.now.all user.now (marks_in found.now.name window_marks.now) given.now kill.now command [] result }
+    ensures can { CanDoIn found.now.all found.now.name kill.now result }
+    ensures granted { IsActionGranted directory.now found.now.all user.now found.now.name result }
+{
+    match plan_outright(found, directory, user, window_marks, given, kill, command) {
+        Some(action) => action,
+        None => plan_judged(found, directory, user, window_marks, given, kill, command),
     }
 }

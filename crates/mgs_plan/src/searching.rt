@@ -107,5 +107,6 @@ pub(crate) fn plan_search<T: Marked + Drop>(
         return Outcome::Fails(Message::NoBuffer);
     };
     let action = plan_meant(buffers, directory, session, &window_marks, direction, typed);
-    Outcome::Acts(window_marks, action)
+    let place = buffers.place_of(&window_marks.name);
+    Outcome::Acts(window_marks, place, action)
 }

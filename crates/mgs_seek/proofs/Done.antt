@@ -16,7 +16,7 @@ use Rattle.mgs_model.specs.Text.{is_edit}
 use Rattle.mgs_model.specs.World.{State, World, has_id}
 use Rattle.mgs_model.specs.declared.session.Command.TheVariants as commands
 use Rattle.mgs_model.specs.declared.touched.Touched.{Touched}
-use Rattle.mgs_buffers.specs.MarkedBuffer.{HasBuffer, MarkedBuffer, marked_at, IsMark}
+use Rattle.mgs_buffers.specs.MarkedBuffer.{HasBuffer, MarkedBuffer, marked_at, marked_named, IsMark}
 use Rattle.mgs_windows.specs.declared.WindowMarks.{WindowMarks}
 use Rattle.mgs_edit.specs.Reading.{top_read}
 use Rattle.mgs_session.specs.Replacing.{Replacing}
@@ -40,7 +40,7 @@ use Rattle.mgs_world.proofs.Worlds.{same_world}
 use Rattle.mgs_plan.proofs.Commands.{outcome_known}
 use Rattle.mgs_plan.proofs.Deeds.{edited_buffers, edited_sound, gone_buffers, no_quit}
 use Rattle.mgs_plan.proofs.Followed.{place_followed, sessions_went, sound_kept, within_followed}
-use Rattle.mgs_plan.proofs.Leaving.{length_edited_by, mark_edited_by}
+use Rattle.mgs_plan.proofs.Leaving.{length_edited_by, mark_edited_by, place_edited_by}
 use Rattle.mgs_seek.specs.Planning.{CanPerform, IsDone, IsPlanned, buffers_edited, change_planned, counted_if, edit_planned_in, left_at, old_of, one_met, search_after, session_after, size_then, IsTyped, ReplacementFails, IsLeft, touched_edit}
 use Rattle.mgs_seek.specs.Replacing.{point_met, remaining_at, remaining_in, replacement, session_met}
 use Rattle.mgs_seek.specs.declared.replacing.Planned.{Planned}
@@ -97,6 +97,9 @@ module _ {d : Directory} (ks ls : List MarkedBuffer) (h : Session) (p : Planned)
 
   pub mark_then : IsMark called p.window_marks.point ls
   mark_then = subst (λ (k : List MarkedBuffer). IsMark called p.window_marks.point k) (sym edit_is) (mark_edited_by called edit_done ks p.window_marks.point can.mark)
+
+  pub place_then : p.place ≡ position_or_len (marked_named called) ls
+  place_then = subst (λ (k : List MarkedBuffer). p.place ≡ position_or_len (marked_named called) k) (sym edit_is) (place_edited_by called edit_done ks p.place can.place)
 
   length_then : length (marked_at called ls).buffer.text ≡ size_then p (length (marked_at called ks).buffer.text)
   length_then =

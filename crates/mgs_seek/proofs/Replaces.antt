@@ -127,6 +127,7 @@ plans_it d ks h s r last p sought held planned =
       can = record {
         granted = sought.target.granted;
         mark = sought.target.marks.point;
+        place = planned.place;
         order = omega (arith, from, to, order_by d ks h x s r last sought held p planned p.plan.replaces);
         within = omega (arith, to, within_text last (anchor_at x ks s.anchor) r (marked_at x.name ks).buffer.text p.plan (anchored d ks h x s r last sought held) planned.plan);
         size = ap (λ (q : Edited). q.size) planned.edit;

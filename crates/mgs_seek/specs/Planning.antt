@@ -18,7 +18,7 @@ use Rattle.mgs_model.specs.declared.session.Command.TheVariants as commands
 use Rattle.mgs_model.specs.declared.session.Seeking.TheVariants.{SkipMatch, StartReplace}
 use Rattle.mgs_model.specs.declared.touched.Touched.{Touched}
 use Rattle.mgs_model.specs.declared.touched.Touched.TheVariants.{In, Nowhere}
-use Rattle.mgs_buffers.specs.MarkedBuffer.{IsMark, MarkedBuffer, marked_at}
+use Rattle.mgs_buffers.specs.MarkedBuffer.{IsMark, MarkedBuffer, marked_at, marked_named}
 use Rattle.mgs_edit.specs.Reading.{top_read}
 use Rattle.mgs_search.specs.Planned.{IsReplacement}
 use Rattle.mgs_search.specs.declared.replacing.MatchPlan.{MatchPlan}
@@ -89,6 +89,7 @@ abbrev pub anchor_at : WindowMarks → List MarkedBuffer → ℕ → ℕ
 anchor_at x ks anchor = min anchor (length (marked_at x.name ks).buffer.text)
 
 pub record PlannedAt (ks : List MarkedBuffer) (x : WindowMarks) (anchor : ℕ) (r : Replacing) (last : Bool) (p : Planned) : Type 0 where
+  pub place : p.place ≡ position_or_len (marked_named x.name) ks
   pub edit : p.edit ≡ edit_planned (length (marked_at x.name ks).buffer.text) (anchor_at x ks anchor) r p.plan.replaces
   pub plan : IsPlan (marked_at x.name ks).buffer.text (anchor_at x ks anchor) r last p.plan
   pub room : is_full_in ks x.name p.edit.from p.edit.to (put_by p.plan.replaces r.put) ≡ false
@@ -110,6 +111,7 @@ size_then p size = size - (p.edit.to - p.edit.from) + p.edit.added
 pub record CanPerform (d : Directory) (ks : List MarkedBuffer) (h : Session) (p : Planned) : Type 0 where
   pub granted : IsGranted d ks h.user p.window_marks.name 3
   pub mark : IsMark p.window_marks.name p.window_marks.point ks
+  pub place : p.place ≡ position_or_len (marked_named p.window_marks.name) ks
   pub order : p.edit.from ≤ p.edit.to
   pub within : p.edit.to ≤ length (marked_at p.window_marks.name ks).buffer.text
   pub size : p.edit.size ≡ length (marked_at p.window_marks.name ks).buffer.text

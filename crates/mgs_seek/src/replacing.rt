@@ -1,7 +1,8 @@
 // A query-replace: it begins, a match is skipped or replaced, and it is over where no match is left.
 ghost use Rattle.std.specs.Prelude.{IfErr, Ok, ◌≡◌, ℕ, ◌+◌, ◌<◌, ◌≤◌, ◌^◌, List, length, Option, Some, None, IfOk, IfSome, OnOk, OnErr, true, false, slice_get};
 ghost use Rattle.mgs_model.specs.declared.touched.Touched.TheVariants.{Nowhere};
-ghost use Rattle.mgs_buffers.specs.MarkedBuffer.{HasBuffer, IsMark, marked_at};
+ghost use Rattle.std.specs.List.{position_or_len};
+ghost use Rattle.mgs_buffers.specs.MarkedBuffer.{HasBuffer, IsMark, marked_at, marked_named};
 ghost use Rattle.mgs_session.specs.Seeking.{unsearched};
 ghost use Rattle.mgs_session.specs.declared.Session.{Session};
 ghost use Rattle.mgs_session.specs.declared.search.Aim.TheVariants.{Replace};
@@ -19,7 +20,7 @@ ghost use Rattle.mgs_world.specs.Sound.{IsSessionSound, IsSound};
 ghost use Rattle.mgs_world.specs.Worlds.{aim_count, aim_input, aim_old, idle, state_at, state_of};
 
 use crate::target::{go_on, mask, sought, target};
-use mgs_buffers::{Buffers, EditFault};
+use mgs_buffers::Buffers;
 use mgs_marks::Marked;
 use mgs_model::{Kind, Message, Name, Short, TEXT_LIMIT, Touched};
 use mgs_plan::{follow, if_edit};
@@ -125,35 +126,38 @@ fn meet<T: Marked + Drop>(
     buffers: &mut Buffers<T>,
     session: &mut Session,
     window_marks: &WindowMarks,
+    at: usize,
     search: Search,
     left: Option<usize>,
     next: Option<usize>,
 )
     requires mark { IsMark window_marks.now.name window_marks.now.point buffers.old }
+    requires place { at ≡ position_or_len (marked_named window_marks.now.name) buffers.old }
     requires left { IfSome left (λ p. p ≤ length (marked_at window_marks.now.name buffers.old).buffer.text) }
     requires next { IfSome next (λ m. m + length (aim_old search.aim) ≤ length (marked_at window_marks.now.name buffers.old).buffer.text) }
     ensures buffers { buffers.new ≡ mark_gone window_marks.now.name window_marks.now.point (point_met (length (aim_old search.aim)) next left) buffers.old }
     ensures session { session.new ≡ session_met next search session.old }
 {
     // For the limit of a text.
-    let _size = buffers.text_len(&window_marks.name);
+    let _size = buffers.text_len_at(&window_marks.name, at);
     let name = &window_marks.name;
     let size = replaced_text(&search).len();
     match next {
-        Some(found) => buffers.place(name, window_marks.point, found + size),
+        Some(found) => buffers.place_at(name, at, window_marks.point, found + size),
         None => match left {
-            Some(place) => buffers.place(name, window_marks.point, place),
+            Some(place) => buffers.place_at(name, at, window_marks.point, place),
             None => {}
         },
     }
     go_to(session, search, next);
 }
 
-/// A replacement as it is planned: the window in whose text it is, what is taken out and put in, whether the match is still there, and where
+/// A replacement as it is planned: the window in whose text it is, the place of that buffer among all, what is taken out and put in, whether the match is still there, and where
 /// the next one is then.
 #[derive(Clone, Copy)]
 pub struct Planned {
     pub window_marks: WindowMarks,
+    pub place: usize,
     pub edit: Edited,
     pub plan: MatchPlan,
 }
@@ -192,15 +196,16 @@ fn edit_planned(size: usize, anchor: usize, replacing: &Replacing, replaces: boo
 }
 
 /// Whether a buffer has no room for an edit.
-fn is_full<T: Marked + Drop>(buffers: &Buffers<T>, name: &Name, edit: &Edited) -> bool
+fn is_full<T: Marked + Drop>(buffers: &Buffers<T>, name: &Name, at: usize, edit: &Edited) -> bool
     requires kept { HasBuffer name.now buffers.now }
+    requires place { at ≡ position_or_len (marked_named name.now) buffers.now }
     requires order { edit.now.from ≤ edit.now.to }
     requires within { edit.now.to ≤ length (marked_at name.now buffers.now).buffer.text }
     requires added { edit.now.added ≤ 120 }
     ensures { (put : List ℕ) → length put ≡ edit.now.added → result ≡ is_full_in buffers.now name.now edit.now.from edit.now.to put }
 {
-    let size = buffers.text_len(name);
-    let serial = buffers.serial(name);
+    let size = buffers.text_len_at(name, at);
+    let serial = buffers.serial_at(name, at);
     (edit.from < edit.to || edit.added > 0)
         && (size - (edit.to - edit.from) + edit.added > TEXT_LIMIT || serial == u64::MAX)
 }
@@ -221,15 +226,17 @@ fn plan_at<T: Marked + Drop>(
     // For the range of a count.
     let _count = replacing.count();
     let name = &window_marks.name;
-    let size = buffers.text_len(name);
+    let place = buffers.place_of(name);
+    let size = buffers.text_len_at(name, place);
     let anchor = anchor.min(size);
-    let plan = plan(buffers.text(name), anchor, replacing, last);
+    let plan = plan(buffers.text_at(name, place), anchor, replacing, last);
     let edit = edit_planned(size, anchor, replacing, plan.replaces);
-    if is_full(buffers, name, &edit) {
+    if is_full(buffers, name, place, &edit) {
         return Err(Message::BufferFull);
     }
     Ok(Planned {
         window_marks: *window_marks,
+        place,
         edit,
         plan,
     })
@@ -283,19 +290,21 @@ fn edit<T: Marked + Drop>(
     ensures may { OnErr result (if_edit planned.now.edit ≡ Some planned.now.edit) }
 {
     let name = &planned.window_marks.name;
-    // For the ranges of a serial and of a place.
-    let _serial = buffers.serial(name);
-    let _size = buffers.text_len(name);
     let Some(Edited { from, to, .. }) = if_edit(planned.edit) else {
         return Ok(());
     };
     let put = put_of(session, planned.plan.replaces);
-    match buffers.edit_as(directory, &session.user, name, mask(true), from, to, put) {
-        Ok(()) => Ok(()),
-        Err(EditFault::Short) => Err(Short),
-        // It was planned where that is granted.
-        Err(EditFault::Denied(_)) => unreachable!(),
-    }
+    let user = &session.user;
+    buffers.edit_at(
+        directory,
+        user,
+        name,
+        planned.place,
+        mask(true),
+        from,
+        to,
+        put,
+    )
 }
 
 /// One more was replaced, where there was a match.
@@ -312,12 +321,13 @@ fn count_if(search: Search, replaces: bool) -> Search
 /// What the replacement leaves in its session once the text is edited and all positions went by it: it counts, and the next match is met.
 fn leave<T: Marked + Drop>(buffers: &mut Buffers<T>, session: &mut Session, planned: &Planned)
     requires mark { IsMark planned.now.window_marks.name planned.now.window_marks.point buffers.old }
+    requires place { planned.now.place ≡ position_or_len (marked_named planned.now.window_marks.name) buffers.old }
     requires behind { planned.now.edit.from + planned.now.edit.added ≤ length (marked_at planned.now.window_marks.name buffers.old).buffer.text }
     requires next { NextFits buffers.old session.old.state.search planned.now }
     ensures { (s : Search) → session.old.state.search ≡ Some s → IsLeft planned.now s buffers.old buffers.new session.old session.new }
 {
     // For the limit of a text.
-    let _size = buffers.text_len(&planned.window_marks.name);
+    let _size = buffers.text_len_at(&planned.window_marks.name, planned.place);
     match take_search(session) {
         None => {}
         Some(search) => {
@@ -326,7 +336,16 @@ fn leave<T: Marked + Drop>(buffers: &mut Buffers<T>, session: &mut Session, plan
             let left = if replaces { Some(behind) } else { None };
             let search = count_if(search, replaces);
             let next = planned.plan.next;
-            meet(buffers, session, &planned.window_marks, search, left, next);
+            let at = planned.place;
+            meet(
+                buffers,
+                session,
+                &planned.window_marks,
+                at,
+                search,
+                left,
+                next,
+            );
         }
     }
 }
@@ -380,8 +399,9 @@ fn start_in<T: Marked + Drop>(
         Err(message) => fail(session, message),
         Ok(window_marks) => {
             let name = &window_marks.name;
+            let at = buffers.place_of(name);
             let place = buffers.pos(name, window_marks.point);
-            match begin_replacing(buffers.text(name), place, pattern.as_slice()) {
+            match begin_replacing(buffers.text_at(name, at), place, pattern.as_slice()) {
                 Err(message) => fail(session, message),
                 Ok(next) => {
                     let search = Search::replacing(
@@ -390,7 +410,7 @@ fn start_in<T: Marked + Drop>(
                         place,
                         Replacing::new(pattern, put),
                     );
-                    meet(buffers, session, &window_marks, search, None, next);
+                    meet(buffers, session, &window_marks, at, search, None, next);
                 }
             }
         }
@@ -430,9 +450,10 @@ fn skip_in<T: Marked + Drop>(buffers: &mut Buffers<T>, directory: &Directory, se
                 // For the range of a count.
                 let _count = replaced_count(&search);
                 let name = &window_marks.name;
-                let anchor = search.anchor.min(buffers.text_len(name));
-                let next = skip_match(buffers.text(name), anchor, replaced_text(&search));
-                meet(buffers, session, &window_marks, search, None, next);
+                let at = buffers.place_of(name);
+                let anchor = search.anchor.min(buffers.text_len_at(name, at));
+                let next = skip_match(buffers.text_at(name, at), anchor, replaced_text(&search));
+                meet(buffers, session, &window_marks, at, search, None, next);
             }
             None => fail(session, Message::NoBuffer),
         },

@@ -1,6 +1,7 @@
 // The mark of the window that is selected. It is reserved first, which may want memory, and set then, so that an edit that
 // may be refused can stand between.
 ghost use Rattle.std.specs.Prelude.{◌≡◌, ◌≤◌, length, IfOk, OnErr, None};
+ghost use Rattle.std.specs.List.{position_or_len};
 ghost use Rattle.mgs_model.specs.Apply.{change_first};
 ghost use Rattle.mgs_buffers.specs.MarkedBuffer.{HasBuffer, IsMark, marked_at, marked_named, marked_placed};
 ghost use Rattle.mgs_world.specs.Marking.{IsGivenUp, IsReserved, session_marked};
@@ -44,20 +45,23 @@ pub fn give_up_mark<T: Marked + Drop>(
     }
 }
 
-/// The selected window has a mark that was reserved for it, at a position of its buffer. It takes no memory.
+/// The selected window has a mark that was reserved for it, at a position of its buffer, which stands at a place among all. It takes no
+/// memory.
 pub fn set_mark<T: Marked + Drop>(
     buffers: &mut Buffers<T>,
     session: &mut Session,
     window_marks: &WindowMarks,
+    at: usize,
     id: MarkId,
     position: usize,
 )
     requires kept { HasBuffer window_marks.now.name buffers.old }
+    requires place { at ≡ position_or_len (marked_named window_marks.now.name) buffers.old }
     requires mark { IsMark window_marks.now.name id buffers.old }
     requires within { position ≤ length (marked_at window_marks.now.name buffers.old).buffer.text }
     ensures buffers { buffers.new ≡ change_first (marked_named window_marks.now.name) (marked_placed id position) buffers.old }
     ensures session { session.new ≡ session_marked id session.old }
 {
-    buffers.place(&window_marks.name, id, position);
+    buffers.place_at(&window_marks.name, at, id, position);
     session.windows.set_mark(id);
 }

@@ -5,13 +5,18 @@ use Rattle.mgs_buffers.specs.MarkedBuffer.{marked_at, marked_named, marked_place
 use Rattle.mgs_world.specs.Marking.{session_marked}
 use Rattle.mgs_world.proofs.Soundness.{mark_is_kept}
 use Rattle.mgs_plan.specs.Actions.{CanDo, IsMarked, marked_after, session_acted}
-use Rattle.mgs_act.proofs.Marked.{granted_still, mark_after_action, dropped_then, kept_then, mark_then, marks_then, reserved_buffer, within_after}
+use Rattle.mgs_act.proofs.Marked.{granted_still, mark_after_action, dropped_then, kept_then, mark_then, marks_then, place_after_action, place_reserved, reserved_buffer, within_after}
 use Rattle.mgs_act.specs.Performing.{IsCarriedOutBy}
 use Rattle.mgs_act.proofs.performing.carry_out_marked.Goals as goal
 
 pub carry_out-requires-2-clause-marks : goal.carry_out-requires-2-clause-marks
 carry_out-requires-2-clause-marks g c =
     marks_then c.args.window_marks.now c.args.buffers.now c.reserve_mark.new.buffers c.in_ok-mark.mark c.requires.marks c.in_ok-mark.ensures.ok
+
+pub carry_out-requires-2-clause-place : goal.carry_out-requires-2-clause-place
+carry_out-requires-2-clause-place g c =
+    let x = c.args.window_marks.now in
+    place_reserved x.name x.mark c.in_ok-mark.mark c.args.at c.args.buffers.now c.reserve_mark.new.buffers c.in_ok-mark.ensures.ok c.requires.place
 
 pub carry_out-requires-2-clause-can : goal.carry_out-requires-2-clause-can
 carry_out-requires-2-clause-can g c =
@@ -37,6 +42,14 @@ set_mark-requires-clause-mark g c =
 pub set_mark-requires-clause-kept : goal.set_mark-requires-clause-kept
 set_mark-requires-clause-kept g c =
     mark_is_kept c.args.window_marks.now.name c.in_ok-mark.mark c.carry_out-2.new.buffers (set_mark-requires-clause-mark g c)
+
+pub set_mark-requires-clause-place : goal.set_mark-requires-clause-place
+set_mark-requires-clause-place g c =
+    let x = c.args.window_marks.now in
+    let ks = c.args.buffers.now in
+    let ls = c.reserve_mark.new.buffers in
+    let b = (marked_at x.name ls).buffer in
+    rw c.in-Ok.ensures.ok (place_after_action x b.text b.items c.args.session.now.kill c.args.action.now ls c.args.at (place_reserved x.name x.mark c.in_ok-mark.mark c.args.at ks ls c.in_ok-mark.ensures.ok c.requires.place))
 
 pub set_mark-requires-clause-within : goal.set_mark-requires-clause-within
 set_mark-requires-clause-within g c =

@@ -3,7 +3,7 @@ use Rattle.std.specs.Prelude.{take}
 use Rattle.mgs_buffers.specs.MarkedBuffer.{MarkedBuffer, marked_at}
 use Rattle.mgs_edit.specs.Reading.{GoesWithin, IsWithin, change_read, point_read, put_read, top_read}
 use Rattle.mgs_plan.specs.Actions.{edited_by, mark_gone}
-use Rattle.mgs_plan.proofs.Leaving.{length_edited_by, marks_edited_by}
+use Rattle.mgs_plan.proofs.Leaving.{length_edited_by, marks_edited_by, place_edited_by}
 use Rattle.mgs_world.proofs.Soundness.{mark_is_kept}
 use Rattle.mgs_act.proofs.performing.change_text.Goals as goal
 
@@ -13,6 +13,13 @@ leave-requires-clause-marks g c =
     let x = c.args.window_marks.now in
     let change = change_read (marked_at x.name c.args.buffers.now).buffer.text c.args.session.now.kill c.args.change.now in
     rw (c.in-Ok.ensures.ok, held) (marks_edited_by change c.args.buffers.now x c.requires.marks)
+
+pub leave-requires-clause-place : goal.leave-requires-clause-place
+leave-requires-clause-place g c =
+    let held = (λ i. take (length (c.as_slice-held.ensures i)) (c.as_slice.ensures i)) ∙ c.in_ok-made.ensures.held in
+    let x = c.args.window_marks.now in
+    let change = change_read (marked_at x.name c.args.buffers.now).buffer.text c.args.session.now.kill c.args.change.now in
+    rw (c.in-Ok.ensures.ok, held) (place_edited_by x.name change c.args.buffers.now c.args.at c.requires.place)
 
 pub leave-requires-clause-point : goal.leave-requires-clause-point
 leave-requires-clause-point g c =

@@ -22,6 +22,12 @@ edit_of-edit-requires-clause-kept g c =
     let found = slice_get-get_or xs c.args.at r c.requires.within in
     mark_is_kept x.name x.point ks (selected_marks ks xs c.args.at (get_or xs c.args.at r) x c.requires.sound found (c.requires.can (get_or xs c.args.at r) found).selected).point
 
+pub edit_of-edit-requires-clause-place : goal.edit_of-edit-requires-clause-place
+edit_of-edit-requires-clause-place g c =
+    let xs = c.args.sessions.now in
+    let r = c.index-sessions-at.result in
+    (c.requires.can (get_or xs c.args.at r) (slice_get-get_or xs c.args.at r c.requires.within)).stands
+
 pub edit_of-edit-requires-clause-can : goal.edit_of-edit-requires-clause-can
 edit_of-edit-requires-clause-can g c =
     let xs = c.args.sessions.now in
@@ -34,6 +40,12 @@ carry_out_marked-requires-clause-marks g c =
     let r = c.index-sessions-at-2.result in
     let found = slice_get-get_or xs c.args.at r c.requires.within in
     selected_marks c.args.buffers.now xs c.args.at (get_or xs c.args.at r) c.args.window_marks.now c.requires.sound found (c.requires.can (get_or xs c.args.at r) found).selected
+
+pub carry_out_marked-requires-clause-place : goal.carry_out_marked-requires-clause-place
+carry_out_marked-requires-clause-place g c =
+    let xs = c.args.sessions.now in
+    let r = c.index-sessions-at-2.result in
+    (c.requires.can (get_or xs c.args.at r) (slice_get-get_or xs c.args.at r c.requires.within)).stands
 
 pub carry_out_marked-requires-clause-can : goal.carry_out_marked-requires-clause-can
 carry_out_marked-requires-clause-can g c =
@@ -55,7 +67,7 @@ returns-in_err-carry_out_marked-clause-err g c =
 
 pub returns-in_err-carry_out_marked-clause-may : goal.returns-in_err-carry_out_marked-clause-may
 returns-in_err-carry_out_marked-clause-may g c =
-    when_refused c.from_residual.result (through_takes c.args.at c.args.buffers.now c.args.sessions.now c.index-sessions-at-2.result c.args.window_marks.now c.args.action.now c.requires.within c.in_err-carry_out_marked.ensures.may)
+    when_refused c.from_residual.result (through_takes c.args.at c.args.buffers.now c.args.sessions.now c.index-sessions-at-2.result c.args.window_marks.now c.args.place c.args.action.now c.requires.within c.in_err-carry_out_marked.ensures.may)
 
 pub returns-clause-sound : goal.returns-clause-sound
 returns-clause-sound g c =
@@ -78,7 +90,7 @@ returns-clause-done g c =
     let h : Session = get_or xs c.args.at c.index-sessions-at-2.result in
     let found = slice_get-get_or xs c.args.at c.index-sessions-at-2.result c.requires.within in
     let can = c.requires.can h found in
-    through_done d c.args.at ks _ xs _ x c.args.action.now c.touched_by-touched.result
+    through_done d c.args.at ks _ xs _ x c.args.place c.args.action.now c.touched_by-touched.result
     (λ id next place.
     ap (λ (ys : List Session). world_of d c.carry_out_marked.new.buffers ys next)
     (c.follow.ensures

@@ -40,23 +40,23 @@ returns-in_err-back-clause-may g c =
 pub overflow_add-to : goal.overflow_add-to
 overflow_add-to g c = omega (arith, (c.requires.can []).within)
 
-pub edit_by-requires-clause-within : goal.edit_by-requires-clause-within
-edit_by-requires-clause-within g c = (c.requires.can []).within
+pub edit_at-requires-clause-within : goal.edit_at-requires-clause-within
+edit_at-requires-clause-within g c = (c.requires.can []).within
 
-pub edit_by-requires-clause-edit : goal.edit_by-requires-clause-edit
-edit_by-requires-clause-edit g c =
+pub edit_at-requires-clause-edit : goal.edit_at-requires-clause-edit
+edit_at-requires-clause-edit g c =
     let u = c.args.undone.now in
     let removed = removed_by u.serial (marked_at c.args.name.now c.args.buffers.now).buffer.items in
     subst (λ (put : List ℕ). is_edit u.from (u.from + u.gone) put ≡ true) (sym (c.deref.ensures.value ∙ c.in_ok-back.ensures)) (sym (c.is_undo_an_edit.ensures removed (c.requires.can []).len) ∙ c.if-not-is_undo_an_edit.false)
 
-pub edit_by-requires-clause-room : goal.edit_by-requires-clause-room
-edit_by-requires-clause-room g c =
+pub edit_at-requires-clause-room : goal.edit_at-requires-clause-room
+edit_at-requires-clause-room g c =
     let u = c.args.undone.now in
     let b = (marked_at c.args.name.now c.args.buffers.now).buffer in
     subst (λ (put : List ℕ). is_full (length b.text) b.serial u.from (u.from + u.gone) put ≡ false) (sym (c.deref.ensures.value ∙ c.in_ok-back.ensures)) (c.requires.can []).room
 
-pub returns-in_err-edit_by-clause-may : goal.returns-in_err-edit_by-clause-may
-returns-in_err-edit_by-clause-may g c =
+pub returns-in_err-edit_at-clause-may : goal.returns-in_err-edit_at-clause-may
+returns-in_err-edit_at-clause-may g c =
     let removed = removed_by c.args.undone.now.serial (marked_at c.args.name.now c.args.buffers.now).buffer.items in
     when_refused _ (sym (c.is_undo_an_edit.ensures removed (c.requires.can []).len) ∙ c.if-not-is_undo_an_edit.false)
 
@@ -75,6 +75,6 @@ returns-clause-ok g c = λ kill.
     let ks = c.args.buffers.now in
     let removed = removed_by u.serial (marked_at c.args.name.now ks).buffer.items in
     let edited = λ (put : List ℕ). change_first (marked_named c.args.name.now) (marked_edited u.from (u.from + u.gone) put) ks in
-    c.in_ok-edit_by.ensures.ok
+    c.in_ok-edit_at.ensures.ok
     ∙ ap edited (c.deref.ensures.value ∙ c.in_ok-back.ensures)
     ∙ sym (ap (λ (e : Bool). cond e (edited removed) ks) (sym (c.is_undo_an_edit.ensures removed (c.requires.can []).len) ∙ c.if-not-is_undo_an_edit.false))

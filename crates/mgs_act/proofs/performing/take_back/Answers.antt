@@ -2,7 +2,7 @@ use Rattle.std.proofs.Common.{ℕ, ◌≤◌, ◌+◌, List, ◌∙◌, ap, arit
 use Rattle.mgs_buffers.specs.MarkedBuffer.{MarkedBuffer, marked_at}
 use Rattle.mgs_edit.specs.Reading.{point_read, top_read, undone_read}
 use Rattle.mgs_plan.specs.Actions.{edited_by, mark_gone, removed_by}
-use Rattle.mgs_plan.proofs.Leaving.{length_edited_by, marks_edited_by}
+use Rattle.mgs_plan.proofs.Leaving.{length_edited_by, marks_edited_by, place_edited_by}
 use Rattle.mgs_world.proofs.Soundness.{mark_is_kept}
 use Rattle.mgs_act.proofs.performing.take_back.Goals as goal
 
@@ -12,6 +12,13 @@ leave-requires-clause-marks g c =
     let b = (marked_at x.name c.args.buffers.now).buffer in
     let kill = c.args.session.now.kill in
     rw (c.in_ok-behind.ensures.ok kill) (marks_edited_by (undone_read b.text kill (removed_by c.args.undone.now.serial b.items) c.args.undone.now) c.args.buffers.now x c.requires.marks)
+
+pub leave-requires-clause-place : goal.leave-requires-clause-place
+leave-requires-clause-place g c =
+    let x = c.args.window_marks.now in
+    let b = (marked_at x.name c.args.buffers.now).buffer in
+    let kill = c.args.session.now.kill in
+    rw (c.in_ok-behind.ensures.ok kill) (place_edited_by x.name (undone_read b.text kill (removed_by c.args.undone.now.serial b.items) c.args.undone.now) c.args.buffers.now c.args.at c.requires.place)
 
 pub leave-requires-clause-behind : goal.leave-requires-clause-behind
 leave-requires-clause-behind g c =

@@ -2,7 +2,7 @@ use Rattle.std.proofs.Common.{ap, ◌∙◌}
 use Rattle.std.proofs.lemmas.Option.{get_or_from_slice_get, slice_get-get_or}
 use Rattle.mgs_session.specs.declared.Session.{Session}
 use Rattle.mgs_seek.specs.Planning.{buffers_edited}
-use Rattle.mgs_seek.proofs.Done.{behind_then, done_by, follows, mark_then, next_then, went_at}
+use Rattle.mgs_seek.proofs.Done.{behind_then, done_by, follows, mark_then, next_then, place_then, went_at}
 use Rattle.mgs_seek.proofs.replacing.perform.Goals as goal
 
 pub edit-requires : goal.edit-requires
@@ -17,6 +17,11 @@ pub leave-requires-clause-mark : goal.leave-requires-clause-mark
 leave-requires-clause-mark g c =
     let can = c.requires.can _ (slice_get-get_or c.args.sessions.now c.args.at c.index-sessions-at.result c.requires.within) in
     mark_then c.args.buffers.now _ _ c.args.planned.now can c.in_ok-edit.ensures.ok
+
+pub leave-requires-clause-place : goal.leave-requires-clause-place
+leave-requires-clause-place g c =
+    let can = c.requires.can _ (slice_get-get_or c.args.sessions.now c.args.at c.index-sessions-at.result c.requires.within) in
+    place_then c.args.buffers.now _ _ c.args.planned.now can c.in_ok-edit.ensures.ok
 
 pub leave-requires-clause-behind : goal.leave-requires-clause-behind
 leave-requires-clause-behind g c =

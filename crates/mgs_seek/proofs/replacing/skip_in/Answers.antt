@@ -17,8 +17,8 @@ returns-in-Some-clause-only g c =
     let next = c.skip_match-next.result in
     rw (c.meet.ensures.buffers, c.meet.ensures.session, c.take_replacing.ensures.rest)
     (only_skipped c.args.directory.now ks c.args.session.now x s c.requires c.in-Ok.ensures.ok (sym c.take_replacing.ensures.search ∙ c.in-Some.is) (subst (λ (n : ℕ). n < 2 ^ 64) c.replaced_count-count.ensures.value c.replaced_count-count.ensures.small) next
-    (within_read next _ (aim_old s.aim) _ text c.replaced_text.ensures.value c.text.ensures.text c.skip_match-next.ensures.within)
-    (as_read (λ q t p. IsSkipped q t p next) _ (aim_old s.aim) _ text _ (min s.anchor (length text)) c.replaced_text.ensures.value c.text.ensures.text (c.min-anchor.ensures ∙ ap (min s.anchor) c.text_len.ensures.value) c.skip_match-next.ensures.plan))
+    (within_read next _ (aim_old s.aim) _ text c.replaced_text.ensures.value c.text_at.ensures.text c.skip_match-next.ensures.within)
+    (as_read (λ q t p. IsSkipped q t p next) _ (aim_old s.aim) _ text _ (min s.anchor (length text)) c.replaced_text.ensures.value c.text_at.ensures.text (c.min-anchor.ensures ∙ ap (min s.anchor) c.text_len_at.ensures.value) c.skip_match-next.ensures.plan))
 
 pub returns-in-Some-clause-does : goal.returns-in-Some-clause-does
 returns-in-Some-clause-does g c = λ s r held aim.
@@ -29,5 +29,5 @@ returns-in-Some-clause-does g c = λ s r held aim.
     let next = c.skip_match-next.result in
     rw (c.meet.ensures.buffers, c.meet.ensures.session, c.take_replacing.ensures.rest)
     (skip_does c.args.directory.now ks c.args.session.now x t c.requires c.in-Ok.ensures.ok (sym c.take_replacing.ensures.search ∙ c.in-Some.is) (subst (λ (n : ℕ). n < 2 ^ 64) c.replaced_count-count.ensures.value c.replaced_count-count.ensures.small) next
-    (within_read next _ (aim_old t.aim) _ text c.replaced_text.ensures.value c.text.ensures.text c.skip_match-next.ensures.within)
-    (as_read (λ q t p. IsSkipped q t p next) _ (aim_old t.aim) _ text _ (min t.anchor (length text)) c.replaced_text.ensures.value c.text.ensures.text (c.min-anchor.ensures ∙ ap (min t.anchor) c.text_len.ensures.value) c.skip_match-next.ensures.plan) s r held aim)
+    (within_read next _ (aim_old t.aim) _ text c.replaced_text.ensures.value c.text_at.ensures.text c.skip_match-next.ensures.within)
+    (as_read (λ q t p. IsSkipped q t p next) _ (aim_old t.aim) _ text _ (min t.anchor (length text)) c.replaced_text.ensures.value c.text_at.ensures.text (c.min-anchor.ensures ∙ ap (min t.anchor) c.text_len_at.ensures.value) c.skip_match-next.ensures.plan) s r held aim)

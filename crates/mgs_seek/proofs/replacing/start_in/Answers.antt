@@ -18,7 +18,7 @@ returns-in-Err-begin_replacing-clause-does g c =
     let x = c.in-Ok.window_marks in
     rw c.fail-in-Err-begin_replacing.ensures
     (start_refused c.args.directory.now ks c.args.session.now c.args.pattern c.args.put c.requires.fresh x c.in-Ok.ensures.ok c.begin_replacing.result
-    (as_read (λ q t p. IsBegun q t p c.begin_replacing.result) _ c.args.pattern _ (marked_at x.name ks).buffer.text _ (mark_at x.name ks x.point) c.as_slice.ensures.value c.text.ensures.text c.pos-place.ensures.value c.begin_replacing.ensures.plan) c.in-Err-begin_replacing.message c.in-Err-begin_replacing.is)
+    (as_read (λ q t p. IsBegun q t p c.begin_replacing.result) _ c.args.pattern _ (marked_at x.name ks).buffer.text _ (mark_at x.name ks x.point) c.as_slice.ensures.value c.text_at.ensures.text c.pos-place.ensures.value c.begin_replacing.ensures.plan) c.in-Err-begin_replacing.message c.in-Err-begin_replacing.is)
 
 pub returns-in-Ok-begin_replacing-clause-only : goal.returns-in-Ok-begin_replacing-clause-only
 returns-in-Ok-begin_replacing-clause-only g c =
@@ -34,5 +34,5 @@ returns-in-Ok-begin_replacing-clause-does g c =
     let next = c.in-Ok-begin_replacing.next in
     rw (c.meet.ensures.buffers, c.meet.ensures.session, c.replacing-search.ensures, c.new.ensures, c.pos-place.ensures.value)
     (replace_begins c.args.directory.now ks c.args.session.now c.args.pattern c.args.put c.requires.fresh x c.in-Ok.ensures.ok c.begin_replacing.result
-    (as_read (λ q t p. IsBegun q t p c.begin_replacing.result) _ c.args.pattern _ text _ (mark_at x.name ks x.point) c.as_slice.ensures.value c.text.ensures.text c.pos-place.ensures.value c.begin_replacing.ensures.plan)
-    c.requires.sound small next c.in-Ok-begin_replacing.is (within_read next _ c.args.pattern _ text c.as_slice.ensures.value c.text.ensures.text c.in-Ok-begin_replacing.ensures.within))
+    (as_read (λ q t p. IsBegun q t p c.begin_replacing.result) _ c.args.pattern _ text _ (mark_at x.name ks x.point) c.as_slice.ensures.value c.text_at.ensures.text c.pos-place.ensures.value c.begin_replacing.ensures.plan)
+    c.requires.sound small next c.in-Ok-begin_replacing.is (within_read next _ c.args.pattern _ text c.as_slice.ensures.value c.text_at.ensures.text c.in-Ok-begin_replacing.ensures.within))

@@ -4,22 +4,18 @@ use Rattle.mgs_model.specs.declared.entry.Decision.{Decision}
 use Rattle.mgs_buffers.specs.Found.{Named}
 use Rattle.mgs_buffers.specs.MarkedBuffer.{marked_at}
 use Rattle.mgs_edit.specs.declared.plan.Around.{Around}
-use Rattle.mgs_plan.specs.Actions.{AreMarks, CanDoIn, IsActionFor, around_given, marks_in, mask_at}
-use Rattle.mgs_plan.specs.Deciding.{IsActionGranted, Refuses}
-use Rattle.mgs_plan.specs.declared.action.Action.TheVariants.{Fails}
+use Rattle.mgs_plan.specs.Actions.{around_given, marks_in, mask_at}
+use Rattle.mgs_plan.specs.Deciding.{Refuses}
 use Rattle.mgs_plan.proofs.Granted.{action_granted}
 use Rattle.mgs_plan.proofs.Plans.{denied, granted, needed}
-use Rattle.mgs_plan.proofs.planning.plan.Goals as goal
-
-pub around-around-requires : goal.around-around-requires
-around-around-requires g c = subst (λ (f : Named). AreMarks f.all (marks_in f.name c.args.window_marks.now)) (sym c.find-found.ensures) c.requires.marks
+use Rattle.mgs_plan.proofs.planning.plan_judged.Goals as goal
 
 pub plan_granted-requires-clause-mask : goal.plan_granted-requires-clause-mask
 plan_granted-requires-clause-mask g c = c.needs-mask.ensures ∙ ap (mask_at c.args.command c.around-around.result.place) c.text_len-size.ensures.value
 
 pub returns-in-None-clause-value : goal.returns-in-None-clause-value
 returns-in-None-clause-value g c =
-    let f : Named = c.find-found.result in
+    let f : Named = c.args.found.now in
     let ks = f.all in
     let x = marks_in f.name c.args.window_marks.now in
     let b = (marked_at x.name ks).buffer in
@@ -28,22 +24,17 @@ returns-in-None-clause-value g c =
     c.decide_all.ensures
     ∙ ap (decision c.args.directory.now b.owners c.args.user.now b.entries)
     (c.needs-mask.ensures ∙ ap (λ (a : Around). mask_at c.args.command a.place c.text_len-size.result) c.around-around.ensures.value ∙ ap (mask_at c.args.command given_here.place) c.text_len-size.ensures.value) in
-    subst (λ (f : Named). IsActionFor c.args.directory.now f.all c.args.user.now (marks_in f.name c.args.window_marks.now) c.args.given.now c.args.kill.now c.args.command [] c.plan_granted.result) c.find-found.ensures
-    (λ state. granted c.args.directory.now ks c.args.user.now x c.args.given.now c.args.command [] c.args.kill.now c.around-around.result c.plan_granted.result state
-    c.around-around.ensures.value (sym decided ∙ c.in-None.ensures.granted refl) c.plan_granted.ensures.value)
-
-pub returns-in-None-clause-can : goal.returns-in-None-clause-can
-returns-in-None-clause-can g c = subst (λ (f : Named). CanDoIn f.all f.name c.args.kill.now c.plan_granted.result) c.find-found.ensures c.plan_granted.ensures.can
+    λ state. granted c.args.directory.now ks c.args.user.now x c.args.given.now c.args.command [] c.args.kill.now c.around-around.result c.plan_granted.result state
+    c.around-around.ensures.value (sym decided ∙ c.in-None.ensures.granted refl) c.plan_granted.ensures.value
 
 pub returns-in-None-clause-granted : goal.returns-in-None-clause-granted
 returns-in-None-clause-granted g c =
-    let f : Named = c.find-found.result in
-    subst (λ (f : Named). IsActionGranted c.args.directory.now f.all c.args.user.now f.name c.plan_granted.result) c.find-found.ensures
-    (action_granted c.args.directory.now f.all c.args.user.now f.name c.needs-mask.result c.plan_granted.result c.plan_granted.ensures.by (sym c.decide_all.ensures ∙ c.in-None.ensures.granted refl))
+    let f : Named = c.args.found.now in
+    action_granted c.args.directory.now f.all c.args.user.now f.name c.needs-mask.result c.plan_granted.result c.plan_granted.ensures.by (sym c.decide_all.ensures ∙ c.in-None.ensures.granted refl)
 
 pub returns-in-Some-clause-value : goal.returns-in-Some-clause-value
 returns-in-Some-clause-value g c =
-    let f : Named = c.find-found.result in
+    let f : Named = c.args.found.now in
     let ks = f.all in
     let x = marks_in f.name c.args.window_marks.now in
     let b = (marked_at x.name ks).buffer in
@@ -52,6 +43,5 @@ returns-in-Some-clause-value g c =
     c.decide_all.ensures
     ∙ ap (decision c.args.directory.now b.owners c.args.user.now b.entries)
     (c.needs-mask.ensures ∙ ap (λ (a : Around). mask_at c.args.command a.place c.text_len-size.result) c.around-around.ensures.value ∙ ap (mask_at c.args.command given_here.place) c.text_len-size.ensures.value) in
-    subst (λ (f : Named). IsActionFor c.args.directory.now f.all c.args.user.now (marks_in f.name c.args.window_marks.now) c.args.given.now c.args.kill.now c.args.command [] (Fails c.in-Some.message)) c.find-found.ensures
-    (λ state. denied c.args.directory.now ks c.args.user.now x c.args.given.now c.args.command [] c.args.kill.now c.in-Some.message state
-    (subst (λ (d : Decision). Refuses d c.in-Some.message) decided c.in-Some.ensures.denied))
+    λ state. denied c.args.directory.now ks c.args.user.now x c.args.given.now c.args.command [] c.args.kill.now c.in-Some.message state
+    (subst (λ (d : Decision). Refuses d c.in-Some.message) decided c.in-Some.ensures.denied)

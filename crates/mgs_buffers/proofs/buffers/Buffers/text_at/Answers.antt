@@ -1,0 +1,8 @@
+use Rattle.std.proofs.Common.{ap, length, arith}
+use Rattle.mgs_buffers.specs.MarkedBuffer.{MarkedBuffer}
+use Rattle.mgs_buffers.proofs.Limits.{limit-at}
+use Rattle.mgs_buffers.proofs.buffers.Buffers.text_at.Goals as goal
+
+pub returns-clause-limit : goal.returns-clause-limit
+returns-clause-limit g c =
+    omega (arith, limit-at c.args.name.now c.args.self.now c.len-count.ensures.limits, ap (λ (k : MarkedBuffer). length k.buffer.text) c.buffer_at.ensures, ap (λ t. length (g.T.Text.text t)) c.text.ensures)
