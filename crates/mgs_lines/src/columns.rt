@@ -1,5 +1,5 @@
 // Columns of a line, counted character by character.
-ghost use Rattle.std.specs.Prelude.{◌≡◌, ◌+◌, ◌-◌, ◌*◌, ◌<◌, ◌≤◌, ◌^◌, length, slice_range, take, true, All};
+ghost use Rattle.std.specs.Prelude.{◌≡◌, ◌+◌, ◌-◌, ◌*◌, ◌<◌, ◌≤◌, ◌^◌, length, slice_range, take, drop, true, All};
 ghost use Rattle.mgs_model.specs.Cells.{cells_from, IsPrintable};
 
 use crate::width;
@@ -52,6 +52,38 @@ fn column_in(column: usize, piece: &[char], count: usize) -> usize
     ensures few { result ≤ column + 12 * count }
 {
     column_behind(column, &piece[..count])
+}
+
+// How many characters at the start of a run are visible ASCII or spaces.
+fn plain_start(run: &[char]) -> usize
+    ensures within { result ≤ length run.now }
+    ensures plain { All IsPrintable (take result run.now) }
+{
+    for i in 0..run.len() {
+        if !stays_plain(true, run[i]) {
+            return i;
+        }
+    }
+    run.len()
+}
+
+// How many characters from a position on are visible ASCII or spaces, as far as they are looked at: `most` of them at most. 0: there is none.
+pub(crate) fn plain_from<T: Text>(text: &T, at: usize, most: usize) -> usize
+    requires { at ≤ length (T.text text.now) }
+    ensures few { result ≤ most }
+    ensures within { at + result ≤ length (T.text text.now) }
+    ensures plain { All IsPrintable (take result (drop at (T.text text.now))) }
+{
+    let piece = text.piece(at);
+    let run = &piece[..piece.len().min(RUN).min(most)];
+    // Where the first is none, no more is looked at.
+    if run.is_empty() || !stays_plain(true, run[0]) {
+        return 0;
+    }
+    if are_plain(run) {
+        return run.len();
+    }
+    plain_start(run)
 }
 
 /// The column of a position `p`, counted from one before it on: `from`, which is in the column `column`.

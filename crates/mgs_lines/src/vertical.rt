@@ -3,6 +3,7 @@ ghost use Rattle.std.specs.Prelude.{◌≡◌, ◌<◌, ◌≤◌, ◌^◌, leng
 ghost use Rattle.mgs_model.specs.Lines.{line_start};
 ghost use Rattle.mgs_model.specs.Walks.{is_first_line, is_last_line, lines_down, lines_up, column_place, indent_end};
 
+use crate::columns::plain_from;
 use crate::{line_end, line_start, width};
 use mgs_text::Text;
 
@@ -50,7 +51,14 @@ pub fn column_place<T: Text>(text: &T, start: usize, goal: usize) -> usize
     ensures within { result ≤ length (T.text text.now) }
 {
     let mut column = 0;
-    for i in start..text.len() {
+    let mut i = start;
+    while i < text.len() {
+        let plain = plain_from(text, i, goal - column);
+        if 0 < plain {
+            column += plain;
+            i += plain;
+            continue;
+        }
         let c = text.at(i);
         if c == '\n' {
             return i;
@@ -59,6 +67,7 @@ pub fn column_place<T: Text>(text: &T, start: usize, goal: usize) -> usize
         if column > goal {
             return i;
         }
+        i += 1;
     }
     text.len()
 }
