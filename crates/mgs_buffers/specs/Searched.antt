@@ -1,6 +1,6 @@
 -- Searches in a text that fail, one that is remembered, and a step of an incremental search.
-use Rattle.std.specs.Prelude.{◌≡◌, ℕ, List, Option, None, Some}
-use Rattle.mgs_model.specs.Searching.{Sought, looked_for, match_from}
+use Rattle.std.specs.Prelude.{◌≡◌, ℕ, List, length, Option, None, Some}
+use Rattle.mgs_model.specs.Searching.{Sought, looked_for, match_from, match_past}
 use Rattle.mgs_model.specs.declared.search.Direction.{Direction}
 use Rattle.mgs_model.specs.declared.search.SearchPlaces.{SearchPlaces}
 use Rattle.mgs_model.specs.declared.search.SearchStep.{SearchStep}
@@ -11,6 +11,10 @@ use Rattle.mgs_buffers.specs.declared.searched_text.FailedSearch.{FailedSearch}
 -- in this direction a pattern stands nowhere from a place on, which counts
 abbrev pub Fails : Direction → List ℕ → List ℕ → ℕ → Type 0
 Fails d pattern text from = match_from d pattern text from ≡ None
+
+-- of a text of this size, the match past a place is the one from here on
+abbrev pub IsPast : Direction → ℕ → ℕ → ℕ → Type 0
+IsPast d p size from = (pattern text : List ℕ) → size ≡ length text → match_past d pattern text p ≡ match_from d pattern text from
 
 -- what is remembered to have failed does
 abbrev pub HasFailed : List ℕ → Option FailedSearch → Type 0

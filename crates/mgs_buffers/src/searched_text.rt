@@ -1,11 +1,11 @@
 // A text with marks, and the search in it that failed last: what is known to fail is not walked again.
 ghost use Rattle.std.specs.Prelude.{◌≡◌, ◌≢◌, ℕ, ◌≤◌, [], List, Some, None, length, slice_set, true};
 ghost use Rattle.std.specs.Prelude.{IsSome, IfOk, IfSome, OnOk, OnErr};
-ghost use Rattle.mgs_model.specs.Searching.{is_looking, match_from, match_past, places_after, sought_after};
+ghost use Rattle.mgs_model.specs.Searching.{is_looking, places_after, sought_after};
 ghost use Rattle.mgs_model.specs.Text.{edited, shift_all};
 ghost use Rattle.mgs_model.specs.declared.search.Direction.{Direction};
 ghost use Rattle.mgs_marks.specs.Marks.{mark_in};
-ghost use Rattle.mgs_buffers.specs.Searched.{Fails, HasFailed, IsStepPlanned, LooksFrom, places_failed};
+ghost use Rattle.mgs_buffers.specs.Searched.{Fails, HasFailed, IsPast, IsStepPlanned, LooksFrom, places_failed};
 
 use arrayvec::ArrayVec;
 use mgs_marks::Marked;
@@ -80,7 +80,7 @@ fn is_known(
 
 // The place that counts first where a place does not count. `None`: nothing stands past it.
 fn next_place(direction: Direction, p: usize, size: usize) -> Option<usize>
-    ensures { IfSome result (λ from. (chars text : List ℕ) → size ≡ length text → match_past direction chars text p ≡ match_from direction chars text from) }
+    ensures { IfSome result (IsPast direction p size) }
 {
     match direction {
         Direction::Forward if p < size => Some(p + 1),
@@ -268,27 +268,6 @@ impl<T: Marked + Drop> SearchedText<T> {
         self.text.replace(a, b, put)
     }
 
-    // A step of an incremental search: where it is known to fail, the text is not walked.
-    fn step(
-        &mut self,
-        search: &mut IncrementalSearch,
-        step: SearchStep,
-        places: SearchPlaces,
-    ) -> SearchPlaces
-        requires origin { places.origin ≤ length (T.text self.old) }
-        requires anchor { places.anchor ≤ length (T.text self.old) }
-        ensures same { self.new ≡ self.old }
-        ensures sought { search.new ≡ sought_after step search.old (T.text self.old) places }
-        ensures places { result ≡ places_after step search.old (T.text self.old) places }
-        ensures anchor { result.anchor ≤ length (T.text self.old) }
-        ensures point { places.point ≤ length (T.text self.old) → result.point ≤ length (T.text self.old) }
-    {
-        match first_place(step, search, places, self.text.len()) {
-            None => search.look(&self.text, step, places),
-            Some(from) => look_from(&self.text, &mut self.failed, search, step, places, from),
-        }
-    }
-
     /// Does a step of an incremental search, as `IncrementalSearch::look`. A search that failed is remembered until the next edit: where
     /// one of the same way, of a pattern that begins with its own, looks at no other places, the text is not walked.
     #[tactic(auto, using(mgs_search::proofs::Failures::step_is_planned))]
@@ -307,6 +286,9 @@ impl<T: Marked + Drop> SearchedText<T> {
         ensures anchor { result.anchor ≤ length (T.text self.old) }
         ensures point { places.point ≤ length (T.text self.old) → result.point ≤ length (T.text self.old) }
     {
-        self.step(search, step, places)
+        match first_place(step, search, places, self.text.len()) {
+            None => search.look(&self.text, step, places),
+            Some(from) => look_from(&self.text, &mut self.failed, search, step, places, from),
+        }
     }
 }

@@ -45,10 +45,14 @@ Enters {E = E} does live name (Ok o) rest old next new =
     (answer : Result ℕ OpenFault) × (mid : E) × does old (Open o.user o.rows o.cols answer) mid × Answered does live answer rest mid next new
 Enters does live name (Err r) rest old next new = TurnsAway does name r old next new
 
+-- this login line is whole
+abbrev pub EntersBy : {E : Type 0} → (E → Call → E → Type 0) → (ℕ → E → Bool) → List (List ℕ × List ℕ) → List ℕ → List ℕ → E → Connection → E → Type 0
+EntersBy does live tickets line rest old next new = Enters does live (name_in line) (admission tickets line) rest old next new
+
 -- the line is whole where a line feed was read
 abbrev pub Continues : {E : Type 0} → (E → Call → E → Type 0) → (ℕ → E → Bool) → List (List ℕ × List ℕ) → List ℕ → Option (List ℕ) → E → Connection → E → Type 0
 Continues does live tickets line None old next new = (next ≡ Logging_in line) × (new ≡ old)
-Continues does live tickets line (Some rest) old next new = Enters does live (name_in line) (admission tickets line) rest old next new
+Continues does live tickets line (Some rest) old next new = EntersBy does live tickets line rest old next new
 
 -- these are all bytes since the connection began: a login line of at most 128 bytes before its line feed, and what stands
 -- after it; a longer one is refused as soon as its 129th byte is read

@@ -3,7 +3,7 @@ ghost use Rattle.std.specs.Prelude.{◌≡◌, ◌++◌, ◌≤◌, true, false,
 ghost use Rattle.mgs_wire.specs.Login.{admission, name_in};
 ghost use Rattle.mgs_wire.specs.Calls.{Typed};
 ghost use Rattle.mgs_wire.specs.declared.refusal.Refusal.TheVariants.{Line};
-ghost use Rattle.mgs_wire.specs.Connections.{Connection, Logging_in, refused, TurnsAway, Enters, ReadsLogin, Receives, is_logging_in, is_over, is_reading, session_of, stopped, Ends, Breaks, waiting, Writes};
+ghost use Rattle.mgs_wire.specs.Connections.{Connection, Logging_in, refused, TurnsAway, EntersBy, ReadsLogin, Receives, is_logging_in, is_over, is_reading, session_of, stopped, Ends, Breaks, waiting, Writes};
 ghost use Rattle.mgs_wire.specs.Stages.{connection, IsStage, LogsIn};
 ghost use Rattle.mgs_wire.specs.LinesRead.{IsLoginLine};
 
@@ -106,7 +106,7 @@ fn log_in<E: Sessions>(engine: &mut E, tickets: &Tickets, line: &[u8]) -> Result
 // A login line is whole: its session, and the bytes after it.
 fn enter<E: Sessions>(line: &mut Vec<u8>, engine: &mut E, tickets: &Tickets, rest: &[u8]) -> Stage
     requires { LOGIN_LIMIT ≤ vec_capacity line.old }
-    ensures enters { Enters E.does E.live (name_in line.old.items) (admission tickets.now line.old.items) rest.now engine.old (connection result line.new.items) engine.new }
+    ensures enters { EntersBy E.does E.live tickets.now line.old.items rest.now engine.old (connection result line.new.items) engine.new }
     ensures form { IsStage result line.new.items }
     ensures room { LOGIN_LIMIT ≤ vec_capacity line.new }
 {
