@@ -28,10 +28,13 @@ impl Room {
         self.block = Vec::new(self.alloc);
     }
 
-    /// Sets the memory aside again, where there is so much.
+    /// Sets the memory aside again: all of it, or half, a quarter and so on, whichever there is.
     pub fn take_back(&mut self) {
-        if let Ok(block) = Vec::with_capacity(self.alloc, self.size) {
-            self.block = block;
+        for halvings in 0..usize::BITS {
+            if let Ok(block) = Vec::with_capacity(self.alloc, self.size >> halvings) {
+                self.block = block;
+                return;
+            }
         }
     }
 }
