@@ -13,7 +13,7 @@ use Rattle.mgs_fill.specs.declared.rewrite.Point.TheVariants.{Stays, To, Behind}
 use Rattle.mgs_fill.specs.declared.rewrite.Rewrite.{Rewrite}
 use Rattle.mgs_fill.specs.declared.rewrite.Written.{Written}
 use Rattle.mgs_fill.specs.declared.rewrite.Written.TheVariants.{Nothing, Space, Cased, Filled}
-use Rattle.mgs_edit.specs.Reading.{ChangeWithin, FinishWithin, GoesWithin, IsChange, PutWithin, change_read, edit_read, finish_read, put_read, surrounded}
+use Rattle.mgs_edit.specs.Reading.{ChangeWithin, GoesWithin, IsChange, PutWithin, change_read, edit_read, finish_read, put_read, surrounded}
 use Rattle.mgs_edit.specs.Rewriting.{changed, changed_or, finish_for, given_of, goes_for, put_for}
 use Rattle.mgs_edit.specs.declared.plan.Around.{Around}
 use Rattle.mgs_edit.specs.declared.plan.Change.{Change}

@@ -1,5 +1,5 @@
 -- What mgs_fill rewrites, as a change.
-use Rattle.std.specs.Prelude.{◌≡◌, ℕ, List, Option, None, Result, Ok, Err}
+use Rattle.std.specs.Prelude.{◌≡◌, ℕ, List, None, Result, Ok, Err}
 use Rattle.mgs_fill.specs.Rewriting.{IsRewrite}
 use Rattle.mgs_fill.specs.declared.rewrite.Given.{Given}
 use Rattle.mgs_fill.specs.declared.rewrite.Point.{Point}

@@ -1,6 +1,6 @@
 // What commands ask of what they are given.
 ghost use Rattle.std.specs.Prelude.{◌≡◌, ℕ, List, nat_le, nat_lt, ◌==◌, ◌&&◌};
-ghost use Rattle.mgs_model.specs.Plans.{count_of, goal_in, killed};
+ghost use Rattle.mgs_model.specs.Plans.{count_of, killed};
 ghost use Rattle.mgs_model.specs.declared.search.Direction.TheVariants.{Backward, Forward};
 ghost use Rattle.mgs_edit.specs.Reading.{gone, kill_joined};
 
@@ -48,16 +48,6 @@ pub(crate) fn joins_in_front(kind: Kind) -> Joins
     match kind {
         Kind::Kill => Joins::InFront,
         Kind::Other | Kind::Line { .. } | Kind::Undo { .. } => Joins::New,
-    }
-}
-
-/// The column that a motion by lines goes for, from a column and after a command of that kind.
-pub(crate) fn goal(kind: Kind, column: usize) -> usize
-    ensures { result ≡ goal_in kind column }
-{
-    match kind {
-        Kind::Line { goal } => goal,
-        Kind::Other | Kind::Kill | Kind::Undo { .. } => column,
     }
 }
 

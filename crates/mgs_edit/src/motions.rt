@@ -1,10 +1,11 @@
 // Motions, which edit nothing.
-ghost use Rattle.std.specs.Prelude.{◌≤◌, ◌<◌, ◌^◌, length, IfOk, Ok};
-ghost use Rattle.mgs_model.specs.Plans.{lined, motion};
+ghost use Rattle.std.specs.Prelude.{◌≡◌, ◌≤◌, ◌<◌, ◌^◌, length, IfOk, Ok};
+ghost use Rattle.mgs_model.specs.Lines.{column};
+ghost use Rattle.mgs_model.specs.Plans.{goal_in, lined, motion};
 ghost use Rattle.mgs_model.specs.declared.session.Motion.TheVariants.{ForwardChar, BackwardChar, GoToLine, NextLine, PreviousLine, ForwardWord, BackwardWord, ForwardParagraph, BackwardParagraph, Recenter, WhatCursorPosition, ExchangePointAndMark, CopyRegion};
 ghost use Rattle.mgs_edit.specs.Reading.{FinishWithin, IsWithin, IsMotion};
 
-use crate::around::{goal, goes, is_at_end, is_at_start, joins_behind, times};
+use crate::around::{goes, is_at_end, is_at_start, joins_behind, times};
 use crate::plan::{Around, Finish, Piece, STAYS};
 use mgs_lines::{
     backward_paragraph, backward_word, column, column_place, forward_paragraph, forward_word,
@@ -40,6 +41,18 @@ fn backward_char<T: Text>(text: &T, around: &Around) -> Result<Finish, Message>
     Ok(goes(around.place.saturating_sub(times(around))))
 }
 
+/// The column that a motion by lines goes for: that of the motion before, or, where that was none by lines, the point's.
+fn goal<T: Text>(text: &T, around: &Around) -> usize
+    requires place { around.now.place ≤ length (T.text text.now) }
+    requires short { length (T.text text.now) < 2 ^ 32 }
+    ensures { result ≡ goal_in around.now.kind (column (T.text text.now) around.now.place) }
+{
+    match around.kind {
+        Kind::Line { goal } => goal,
+        Kind::Other | Kind::Kill | Kind::Undo { .. } => column(text, around.place),
+    }
+}
+
 /// To the column that a motion by lines goes for, in the line that starts at a position.
 fn lined<T: Text>(text: &T, around: &Around, start: usize) -> Finish
     requires place { around.now.place ≤ length (T.text text.now) }
@@ -48,7 +61,7 @@ fn lined<T: Text>(text: &T, around: &Around, start: usize) -> Finish
     ensures plan { IsMotion (λ text x. Ok (lined text x start)) around.now (T.text text.now) (Ok result) }
     ensures within { FinishWithin (length (T.text text.now)) (length (T.text text.now)) result }
 {
-    let goal = goal(around.kind, column(text, around.place));
+    let goal = goal(text, around);
     Finish {
         kind: Kind::Line { goal },
         ..goes(column_place(text, start, goal))

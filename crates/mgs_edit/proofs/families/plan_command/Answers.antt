@@ -1,4 +1,4 @@
-use Rattle.std.proofs.Common.{◌≡◌, ℕ, sym, subst}
+use Rattle.std.proofs.Common.{ℕ, sym, subst}
 use Rattle.std.specs.Prelude.{Err}
 use Rattle.mgs_model.specs.Plans as model
 use Rattle.mgs_model.specs.declared.session.Command.{Command}
