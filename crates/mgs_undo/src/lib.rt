@@ -9,12 +9,9 @@ ghost use Rattle.mgs_model.specs.Plans.{undone_from, undone_to};
 ghost use Rattle.mgs_undo.specs.Undoing.{IsEdited, UndosGoBack, TargetsAreKept};
 
 use circular_buffer::HeapCircularBuffer;
-use mgs_model::Short;
+use mgs_model::{Short, UNDO_LIMIT};
 use std::alloc::Global;
 use std::marker::Model;
-
-/// The most edits that are kept.
-const LIMIT: usize = 1000;
 
 /// An edit of a text.
 #[derive(Drop)]
@@ -75,7 +72,7 @@ impl Record {
     pub fn new(alloc: Global) -> Result<Record, Short>
         ensures { IfOk result (λ r. r ≡ record { items = []; serial = 0 }) }
     {
-        let edits = HeapCircularBuffer::with_capacity(alloc, LIMIT).map_err(|_| Short)?;
+        let edits = HeapCircularBuffer::with_capacity(alloc, UNDO_LIMIT).map_err(|_| Short)?;
         Ok(Record { edits, serial: 0 })
     }
 
