@@ -141,6 +141,7 @@ def rows(large):
     yield Row("an idle connection, instructions a key", idle_connection, 60)
     yield added("a viewer of the same rows to the typist", replace(PLAIN, same=1), PLAIN, 0.3)
     yield added("a viewer elsewhere in the text to the typist", replace(PLAIN, elsewhere=1), PLAIN, 0.1)
+    yield pair("typing, 63 marks elsewhere in the text to none", replace(PLAIN, left=63), PLAIN, 1.3)
     yield pair("two typists at both ends of 1000000, to both at the start", replace(HUGE, second="end"), replace(HUGE, second="start"), 25)
     yield pair("typing at the end of a line of 100000, to its start", replace(LONG, place="end"), LONG, 1.5)
     down = Case(text=160, line=80, keys=10, before=("C-e",), tokens=("C-n", "C-p"))

@@ -4,8 +4,8 @@
 A case is played as a script for `mgd replay`, which this program writes, or over a server (`served.py`). The keys are measured against a run
 of twice as many, so all that comes before them falls out. Without `place` the point stays at the text's start.
 
-usage: bench/script.py [--keys N] [--text N] [--line N] [--word N] [--place start|middle|end] [--same N] [--elsewhere N] [--others N]
-                       [--listings N] [--buffers N] [--second start|middle|end] [--rows N] [--cols N] [--entries N]
+usage: bench/script.py [--keys N] [--text N] [--line N] [--word N] [--place start|middle|end] [--same N] [--elsewhere N] [--left N]
+                       [--others N] [--listings N] [--buffers N] [--second start|middle|end] [--rows N] [--cols N] [--entries N]
                        [--before TOKEN ..] [--tokens TOKEN ..]
 """
 import argparse
@@ -29,6 +29,7 @@ class Case:
     place: str = "start"  # where the point is at first
     same: int = 0  # idle sessions whose windows show the same buffer
     elsewhere: int = 0  # idle sessions whose windows show the end of the same buffer
+    left: int = 0  # idle sessions whose windows left the end of the same buffer, and have marks there
     others: int = 0  # idle sessions whose windows show another one
     listings: int = 0  # idle sessions whose windows show the list of buffers
     buffers: int = 2  # the buffers of that list
@@ -63,7 +64,7 @@ def buffers_of(case):
     """The buffers in their order: name, owner, entries. A session shows the first one whose attributes its user may read: bob shows `busy`,
     and cat, who may not, shows `calm`. ann sees all of them in a list of buffers."""
     busy = ["ALLOW cat a"] * (case.entries - 1)
-    if case.same or case.elsewhere:
+    if case.same or case.elsewhere or case.left:
         busy.append("ALLOW bob rt")
     yield "busy", "ann", [*busy, f"ALLOW OWNER@ {ALL_RIGHTS}"]
     yield "calm", "cat", [f"ALLOW OWNER@ {ALL_RIGHTS}", *["ALLOW ann t"] * (case.listings > 0)]
@@ -76,7 +77,8 @@ def opened(case):
     yield "a", "ann"
     if case.second:
         yield "b", "ann"
-    for letter, user, count in (("s", "bob", case.same), ("e", "bob", case.elsewhere), ("o", "cat", case.others), ("l", "ann", case.listings)):
+    bobs = ("s", "bob", case.same), ("e", "bob", case.elsewhere), ("f", "bob", case.left)
+    for letter, user, count in (*bobs, ("o", "cat", case.others), ("l", "ann", case.listings)):
         yield from ((f"{letter}{number}", user) for number in range(count))
 
 
@@ -94,6 +96,7 @@ def prepared(case):
     for label, place in (("a", case.place), ("b", case.second or "start")):
         yield from ((label, tokens) for tokens in motions(case, place))
     yield from ((f"e{number}", ["M->"]) for number in range(case.elsewhere))
+    yield from ((f"f{number}", ["M->", "C-x", "'b", "'bobs", "RET"]) for number in range(case.left))
     yield from ((f"l{number}", ["C-x", "C-b"]) for number in range(case.listings))
     if case.before:
         yield "a", case.before

@@ -1077,11 +1077,9 @@ def try_memory():
         expect("with it full, a list is changed and shown", is_typed and is_seen and server.process.poll() is None, (is_typed, is_seen, server.told()))
         server.kill()
         expect("and kept", ("ann", "list", "notes") in [line[:3] for line in desk.events("--user", "ann")])
-        words = (text_kept(desk, "notes") or ("",))[0]
-        expect("and so is a text", words.startswith("kept The door"), words[:20])
-        # What is set aside goes to texts that were not kept before, so a large one may be kept late.
-        is_kept = (text_kept(desk, "long") or ("",))[0].startswith("kept words and")
-        print(f"      the text of 1,000,000 characters is kept {'too' if is_kept else 'later'}")
+        for name, first in (("notes", "kept The door"), ("long", "kept words and")):
+            words = (text_kept(desk, name) or ("",))[0]
+            expect(f"and so is the text of {name}", words.startswith(first), words[:20])
 
 
 def try_closed_pipe():
