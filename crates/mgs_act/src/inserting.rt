@@ -14,6 +14,7 @@ ghost use Rattle.mgs_world.specs.Sound.{IsSound};
 ghost use Rattle.mgs_world.specs.WindowMarks.{WindowMarksDropped};
 
 use crate::performing::leave;
+use crate::writer::Writer;
 use mgs_buffers::Buffers;
 use mgs_edit::{Finish, Goes};
 use mgs_marks::Marked;
@@ -39,23 +40,26 @@ fn touched_by_insertion(name: &Name, put: &[char]) -> Touched
 /// Puts characters into a buffer at a place. `Short`: memory was refused, and nothing was done.
 fn put_in<T: Marked + Drop>(
     buffers: &mut Buffers<T>,
-    directory: &Directory,
-    user: &Name,
-    name: &Name,
-    at: usize,
+    writer: Writer<'_>,
     place: usize,
     put: &[char],
 ) -> Result<(), Short>
-    requires kept { HasBuffer name.now buffers.old }
-    requires there { at ≡ position_or_len (marked_named name.now) buffers.old }
-    requires granted { target_decision directory.now buffers.old user.now name.now place ≡ Granted }
-    requires can { CanPut (marked_at name.now buffers.old).buffer put.now place }
-    ensures ok { OnOk result (buffers.new ≡ edited_by name.now (insertion_of place put.now) buffers.old) }
+    requires kept { HasBuffer writer.name.now buffers.old }
+    requires there { writer.at ≡ position_or_len (marked_named writer.name.now) buffers.old }
+    requires granted { target_decision writer.directory.now buffers.old writer.user.now writer.name.now place ≡ Granted }
+    requires can { CanPut (marked_at writer.name.now buffers.old).buffer put.now place }
+    ensures ok { OnOk result (buffers.new ≡ edited_by writer.entry.name.now (insertion_of place put.now) buffers.old) }
     ensures err { OnErr result (buffers.new ≡ buffers.old) }
 {
     if put.is_empty() {
         return Ok(());
     }
+    let Writer {
+        directory,
+        user,
+        name,
+        at,
+    } = writer;
     let mask = insertion_mask(place, buffers.text_len_at(name, at));
     buffers.edit_at(directory, user, name, at, mask, place, place, put)
 }
@@ -95,15 +99,13 @@ fn insert_marked<T: Marked + Drop>(
     // For the range of a place.
     let _size = buffers.text_len_at(&window_marks.name, at);
     let mark = reserve_mark(buffers, window_marks)?;
-    match put_in(
-        buffers,
+    let writer = Writer {
         directory,
-        &session.user,
-        &window_marks.name,
+        user: &session.user,
+        name: &window_marks.name,
         at,
-        place,
-        put,
-    ) {
+    };
+    match put_in(buffers, writer, place, put) {
         Ok(()) => {
             let behind = place + put.len();
             leave(

@@ -7,5 +7,6 @@ mod inserting;
 mod performing;
 mod setting;
 mod switching;
+mod writer;
 
 pub use acts::{act, answer};

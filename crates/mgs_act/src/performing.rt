@@ -17,6 +17,7 @@ ghost use Rattle.mgs_world.specs.Acted.{IsUnchanged};
 ghost use Rattle.mgs_world.specs.Sound.{IsSound};
 ghost use Rattle.mgs_world.specs.WindowMarks.{WindowMarksDropped};
 
+use crate::writer::Writer;
 use mgs_buffers::Buffers;
 use mgs_edit::{
     Change, Finish, Goes, Joins, Piece, Put, Undone, is_edit, is_undo_an_edit, put_chars,
@@ -68,25 +69,28 @@ fn killed_if<T: Marked + Drop>(
 /// refused, and nothing was done.
 fn edit<T: Marked + Drop>(
     buffers: &mut Buffers<T>,
-    directory: &Directory,
-    user: &Name,
-    name: &Name,
-    at: usize,
+    writer: Writer<'_>,
     kill: &[char],
     mask: Mask,
     change: &Change,
 ) -> Result<usize, Short>
     requires writes { writes mask ≡ true }
-    requires granted { IsGranted directory.now buffers.old user.now name.now mask }
-    requires kept { HasBuffer name.now buffers.old }
-    requires place { at ≡ position_or_len (marked_named name.now) buffers.old }
-    requires within { ChangeWithin (marked_at name.now buffers.old).buffer.text kill.now change.now }
-    requires room { HasRoom name.now buffers.old (change_in name.now buffers.old kill.now change.now) }
-    ensures ok { OnOk result (buffers.new ≡ edited_by name.now (change_in name.now buffers.old kill.now change.now) buffers.old) }
-    ensures end { IfOk result (λ end. end ≡ change.now.from + length (put_read (marked_at name.now buffers.old).buffer.text kill.now change.now.put)) }
+    requires granted { IsGranted writer.directory.now buffers.old writer.user.now writer.name.now mask }
+    requires kept { HasBuffer writer.name.now buffers.old }
+    requires place { writer.at ≡ position_or_len (marked_named writer.name.now) buffers.old }
+    requires within { ChangeWithin (marked_at writer.name.now buffers.old).buffer.text kill.now change.now }
+    requires room { HasRoom writer.name.now buffers.old (change_in writer.name.now buffers.old kill.now change.now) }
+    ensures ok { OnOk result (buffers.new ≡ edited_by writer.entry.name.now (change_in writer.entry.name.now buffers.old kill.now change.now) buffers.old) }
+    ensures end { IfOk result (λ end. end ≡ change.now.from + length (put_read (marked_at writer.entry.name.now buffers.old).buffer.text kill.now change.now.put)) }
     ensures err { OnErr result (buffers.new ≡ buffers.old) }
-    ensures may { OnErr result (IsEdit (change_in name.now buffers.old kill.now change.now)) }
+    ensures may { OnErr result (IsEdit (change_in writer.entry.name.now buffers.old kill.now change.now)) }
 {
+    let Writer {
+        directory,
+        user,
+        name,
+        at,
+    } = writer;
     if !is_edit(change, kill.len()) {
         return Ok(change.from);
     }
@@ -132,24 +136,27 @@ fn removed_by<T: Marked + Drop>(
 /// refused, and nothing was done.
 fn restore<T: Marked + Drop>(
     buffers: &mut Buffers<T>,
-    directory: &Directory,
-    user: &Name,
-    name: &Name,
-    at: usize,
+    writer: Writer<'_>,
     undone: &Undone,
 ) -> Result<usize, Short>
-    requires kept { HasBuffer name.now buffers.old }
-    requires place { at ≡ position_or_len (marked_named name.now) buffers.old }
-    requires granted { IsGranted directory.now buffers.old user.now name.now 3 }
-    requires can { CanComeBack name.now buffers.old undone.now }
-    ensures ok { (kill : List ℕ) → OnOk result (buffers.new ≡ edited_by name.now (undone_in name.now buffers.old kill undone.now) buffers.old) }
-    ensures end { IfOk result (λ end. end ≡ undone.now.from + length (back_in name.now buffers.old undone.now)) }
+    requires kept { HasBuffer writer.name.now buffers.old }
+    requires place { writer.at ≡ position_or_len (marked_named writer.name.now) buffers.old }
+    requires granted { IsGranted writer.directory.now buffers.old writer.user.now writer.name.now 3 }
+    requires can { CanComeBack writer.name.now buffers.old undone.now }
+    ensures ok { (kill : List ℕ) → OnOk result (buffers.new ≡ edited_by writer.entry.name.now (undone_in writer.entry.name.now buffers.old kill undone.now) buffers.old) }
+    ensures end { IfOk result (λ end. end ≡ undone.now.from + length (back_in writer.entry.name.now buffers.old undone.now)) }
     ensures err { OnErr result (buffers.new ≡ buffers.old) }
-    ensures may { OnErr result (IsEdit (undone_in name.now buffers.old [] undone.now)) }
+    ensures may { OnErr result (IsEdit (undone_in writer.entry.name.now buffers.old [] undone.now)) }
 {
     if !is_undo_an_edit(undone) {
         return Ok(undone.from);
     }
+    let Writer {
+        directory,
+        user,
+        name,
+        at,
+    } = writer;
     // For the range of a place.
     let _size = buffers.text_len_at(name, at);
     let back = removed_by(buffers, name, at, undone.serial)?;
@@ -236,16 +243,13 @@ fn change_text<T: Marked + Drop>(
     let made = killed_if(buffers, name, at, &mut session.kill, &change.finish.kill)?;
     // What the edit puts in is of the kill buffer as it was.
     let kill = &session.kill.as_slice()[..held];
-    match edit(
-        buffers,
+    let writer = Writer {
         directory,
-        &session.user,
+        user: &session.user,
         name,
         at,
-        kill,
-        mask,
-        change,
-    ) {
+    };
+    match edit(buffers, writer, kill, mask, change) {
         Ok(behind) => {
             leave(
                 buffers,
@@ -284,8 +288,13 @@ fn take_back<T: Marked + Drop>(
     ensures same { OnErr result (session.new ≡ session.old) }
     ensures may { OnErr result (MayBeShort window_marks.now buffers.old session.old.kill (Undoes undone.now)) }
 {
-    let name = &window_marks.name;
-    let behind = restore(buffers, directory, &session.user, name, at, undone)?;
+    let writer = Writer {
+        directory,
+        user: &session.user,
+        name: &window_marks.name,
+        at,
+    };
+    let behind = restore(buffers, writer, undone)?;
     leave(
         buffers,
         session,
