@@ -15,6 +15,14 @@ use mgs_mini::narrowed;
 use mgs_model::{Name, Right};
 use mgs_policy::Directory;
 
+// Who typed the name of a buffer, and what.
+#[derive(Clone, Copy)]
+struct Typed<'a> {
+    directory: &'a Directory,
+    user: &'a Name,
+    input: &'a [char],
+}
+
 // What the names so far have in common, and one name more where it counts.
 fn with_name<'a>(
     found: Option<&'a [u8]>,
@@ -36,19 +44,18 @@ fn with_buffer<'a, T: Marked + Drop>(
     found: Option<&'a [u8]>,
     judge: &mut Judge,
     place: usize,
-    directory: &Directory,
-    user: &Name,
-    input: &[char],
+    typed: Typed<'_>,
     name: &'a Name,
     buffer: &Buffer<T>,
 ) -> Option<&'a [u8]>
-    requires { AreRight place directory.now buffer.now.owners buffer.now.list judge.old }
+    requires { AreRight place typed.directory.now buffer.now.owners buffer.now.list judge.old }
     ensures within { IsWithinName (option_copied found.entry) → IsWithinName (option_copied result) }
-    ensures value { IsFoundWith directory.now user.now input.now (marked_of T.text T.marks name.now buffer.now).buffer found.entry result }
-    ensures stays { StaysRight place directory.now buffer.now.owners buffer.now.list judge.old judge.new }
+    ensures value { IsFoundWith typed.entry.directory.now typed.entry.user.now typed.entry.input.now (marked_of T.text T.marks name.now buffer.now).buffer found.entry result }
+    ensures stays { StaysRight place typed.entry.directory.now buffer.now.owners buffer.now.list judge.old judge.new }
 {
-    let counts = buffer.grants_by(judge, place, directory, user, Right::ReadAttributes);
-    with_name(found, input, name.as_bytes(), counts)
+    let right = Right::ReadAttributes;
+    let counts = buffer.grants_by(judge, place, typed.directory, typed.user, right);
+    with_name(found, typed.input, name.as_bytes(), counts)
 }
 
 // The buffer at a place more, where one stands there.
@@ -57,19 +64,15 @@ fn with_place<'a, T: Marked + Drop>(
     all: &'a IndexMap<Name, Buffer<T>>,
     judge: &mut Judge,
     place: usize,
-    directory: &Directory,
-    user: &Name,
-    input: &[char],
+    typed: Typed<'_>,
 ) -> Option<&'a [u8]>
-    requires { AreJudged directory.now (rules_kept (marked_all T.text T.marks all.now.entries)) judge.old }
+    requires { AreJudged typed.directory.now (rules_kept (marked_all T.text T.marks all.now.entries)) judge.old }
     ensures within { IsWithinName (option_copied found.entry) → IsWithinName (option_copied result) }
-    ensures same { IsFoundNext directory.now user.now input.now (marked_all T.text T.marks all.now.entries) place found.entry result }
-    ensures judged { AreJudged directory.now (rules_kept (marked_all T.text T.marks all.now.entries)) judge.new }
+    ensures same { IsFoundNext typed.entry.directory.now typed.entry.user.now typed.entry.input.now (marked_all T.text T.marks all.now.entries) place found.entry result }
+    ensures judged { AreJudged typed.entry.directory.now (rules_kept (marked_all T.text T.marks all.now.entries)) judge.new }
 {
     match all.get_index(place) {
-        Some((name, buffer)) => {
-            with_buffer(found, judge, place, directory, user, input, name, buffer)
-        }
+        Some((name, buffer)) => with_buffer(found, judge, place, typed, name, buffer),
         None => found,
     }
 }
@@ -87,9 +90,14 @@ pub(crate) fn completion<'a, T: Marked + Drop>(
     ensures value { option_copied result ≡ completion (names_shown directory.now user.now (marked_all T.text T.marks all.now.entries)) input.now }
     ensures judged { AreJudged directory.now (rules_kept (marked_all T.text T.marks all.now.entries)) judge.new }
 {
+    let typed = Typed {
+        directory,
+        user,
+        input,
+    };
     let mut found = None;
     for place in 0..all.len() {
-        found = with_place(found, all, judge, place, directory, user, input);
+        found = with_place(found, all, judge, place, typed);
     }
     found
 }
