@@ -1,7 +1,7 @@
 -- What a journal is asked for, one part after another.
 use Rattle.std.proofs.Common.{◌≡◌, ℕ, ◌+◌, ◌≤◌, Bool, true, false, List, [], ◌∷◌, ◌++◌, map, drop, length, Option, Some, None, refl, sym, ap, ◌∙◌, subst, arith, length-append}
 use Rattle.std.specs.Prelude.{IfSome, slice_get}
-use Rattle.mgs_journal.specs.Acts.{Act, Tell, Tick, AreChanges, AreDone, IsChange}
+use Rattle.mgs_journal.specs.Acts.{Act, Tell, AreChanges, AreDone, IsChange}
 use Rattle.mgs_journal.specs.declared.Told.{Told}
 use Rattle.mgs_engine.specs.Serving.{Serving}
 use Rattle.mgs_keep.specs.Keeping.{AreEnds, Asked, HasChanged, HasPut, IsEnd, IsSnapshot, OrFails, TellsEnds, WereTold, listed}

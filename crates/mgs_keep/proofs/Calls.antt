@@ -1,5 +1,5 @@
 -- What calls come to, by what the server and the journal did.
-use Rattle.std.proofs.Common.{◌≡◌, ℕ, Bool, true, false, List, [], ◌∷◌, length, Option, None, Some, Result, Ok, Err, refl, sym, ap, ◌∙◌, subst}
+use Rattle.std.proofs.Common.{◌≡◌, ℕ, Bool, false, List, [], ◌∷◌, length, Option, None, Result, Ok, Err, refl, sym, ap, ◌∙◌, subst}
 use Rattle.mgs_model.specs.World.{find_session}
 use Rattle.mgs_model.specs.declared.errors.Keyed.{Keyed}
 use Rattle.mgs_model.specs.declared.errors.OpenFault.{OpenFault}
@@ -11,7 +11,7 @@ use Rattle.mgs_engine.specs.Does.{Does}
 use Rattle.mgs_engine.specs.Serving.{Serving}
 use Rattle.mgs_journal.specs.Acts.{Act, AreDone, Tick}
 use Rattle.mgs_journal.specs.declared.Told.{Told}
-use Rattle.mgs_keep.specs.Keeping.{AreKept, Asked, EndsTold, HasChanged, HasPut, HasTold, Held, Keeps, OrFails, TellsEnds, WereTold, held, listed, said_to, told_of, user_by}
+use Rattle.mgs_keep.specs.Keeping.{AreKept, Asked, EndsTold, HasChanged, HasPut, HasTold, Keeps, OrFails, TellsEnds, WereTold, held, listed, said_to, told_of, user_by}
 use Rattle.mgs_keep.proofs.Asking.{asked_then, asks_nothing, asks_so, asks_then, stayed, told_alone}
 use Rattle.mgs_keep.proofs.Rules.{closed_rules, opened_rules}
 

@@ -5,7 +5,6 @@ use Rattle.mgs_model.specs.Names.{IsName, is_name}
 use Rattle.mgs_model.specs.World.{Session}
 use Rattle.mgs_keys.specs.Words.{◌>>=◌}
 use Rattle.mgs_core.specs.Calls.{echo_in, user_in}
-use Rattle.mgs_journal.specs.declared.Told.{Told}
 use Rattle.mgs_keep.specs.Keeping.{name_in_text, said, said_to}
 
 some_is : {A : Type 0} (a b : A) → Some a ≡ Some b → a ≡ b

@@ -126,6 +126,28 @@ fn keep_text<T: Marked + Drop, S: Store + Drop, J: Journal>(
     true
 }
 
+// The same, with what is set aside lent to a text that takes the place of one: it gives back what it takes, and a first one would not.
+fn keep_in_room<T: Marked + Drop, S: Store + Drop, J: Journal>(
+    alloc: Global,
+    engine: &Engine<T, S>,
+    journal: &mut J,
+    failed: &mut bool,
+    room: &mut Room,
+    i: usize,
+) -> bool
+    requires { failed.old ≡ false → AreKept J.kept engine.now journal.old }
+    ensures kept { failed.new ≡ false → J.kept journal.new ≡ J.kept journal.old }
+    ensures journal { OrFails J.fails (HasPut J.does engine.now) failed.old journal.old failed.new journal.new }
+{
+    if journal.text(i).is_none() {
+        return keep_text(alloc, engine, journal, failed, i);
+    }
+    room.lend();
+    let is_done = keep_text(alloc, engine, journal, failed, i);
+    room.take_back();
+    is_done
+}
+
 // The place of the first buffer from one on that does not stand as it did when its text was kept.
 fn unkept_from<T: Marked + Drop, S: Store + Drop>(
     engine: &Engine<T, S>,
@@ -162,13 +184,11 @@ pub(crate) fn keep_next<T: Marked + Drop, S: Store + Drop, J: Journal>(
         round.go_on(None);
         return;
     };
-    room.lend();
-    if keep_text(alloc, engine, journal, failed, place) {
+    if keep_in_room(alloc, engine, journal, failed, room, place) {
         round.note(place, standing);
     } else {
         round.type_on(false);
     }
-    room.take_back();
     round.go_on(place.checked_add(1));
 }
 
@@ -203,8 +223,6 @@ pub(crate) fn keep_saved<T: Marked + Drop, S: Store + Drop, J: Journal>(
         return;
     };
     if let Some(place) = place_named(engine, &name) {
-        room.lend();
-        keep_text(alloc, engine, journal, failed, place);
-        room.take_back();
+        keep_in_room(alloc, engine, journal, failed, room, place);
     }
 }

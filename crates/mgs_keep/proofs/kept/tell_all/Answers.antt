@@ -1,4 +1,4 @@
-use Rattle.std.proofs.Common.{rules, ℕ, ◌+◌, length, ap, arith}
+use Rattle.std.proofs.Common.{rules, ◌+◌, length, ap, arith}
 use Rattle.mgs_engine.specs.Serving.{Serving}
 use Rattle.mgs_keep.specs.Keeping.{TellsEnds, WereTold, listed}
 use Rattle.mgs_keep.proofs.Asking.{asks_then, ends_then, one_less}
