@@ -5,7 +5,7 @@ use mgs_grid::{Grid, Line};
 use mgs_marks::PlainMarked;
 use mgs_model::{Mask, Name, Right};
 use mgs_policy::Directory;
-use mgs_screen::{draw_entries, draw_listing};
+use mgs_screen::{Sight, Viewer, draw_entries, draw_listing};
 use std::alloc::Global;
 use std::process::Abort;
 use std::test::Fail;
@@ -74,17 +74,18 @@ fn lists(
     let all = two(alloc, group, rt);
     let user = named(rt, user);
     assert!(rt; grid.rows() > 3);
+    let directory = Directory::new(alloc);
     let mut judge = all.judge()?;
-    draw_listing(
-        &all,
-        &mut judge,
-        &Directory::new(alloc),
-        &user,
-        0,
-        3,
+    let viewer = Viewer {
+        directory: &directory,
+        user: &user,
+    };
+    let sight = Sight {
+        first: 0,
+        height: 3,
         row,
-        &mut grid,
-    );
+    };
+    draw_listing(&all, &mut judge, &viewer, sight, &mut grid);
     Ok(shows(&grid, text, "-Buffers----------------------"))
 }
 
@@ -114,18 +115,18 @@ fn acl_shows(
     let notes = named(rt, "notes");
     assert!(rt; all.has(&notes));
     assert!(rt; grid.rows() > 3);
+    let directory = Directory::new(alloc);
     let mut judge = all.judge()?;
-    draw_entries(
-        &all,
-        &mut judge,
-        &Directory::new(alloc),
-        &user,
-        &notes,
-        0,
-        3,
-        0,
-        &mut grid,
-    );
+    let viewer = Viewer {
+        directory: &directory,
+        user: &user,
+    };
+    let sight = Sight {
+        first: 0,
+        height: 3,
+        row: 0,
+    };
+    draw_entries(&all, &mut judge, &viewer, &notes, sight, &mut grid);
     Ok(shows(&grid, text, mode))
 }
 

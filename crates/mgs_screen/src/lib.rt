@@ -9,7 +9,9 @@ mod measuring;
 mod redrawing;
 mod screen;
 mod tab_stops;
+mod viewer;
 
 pub use drawn_texts::DrawnTexts;
-pub use listing::{draw_entries, draw_listing};
+pub use listing::{Sight, draw_entries, draw_listing};
 pub use screen::redraw_session;
+pub use viewer::Viewer;

@@ -9,21 +9,24 @@ ghost use Rattle.mgs_buffers.specs.Judging.{AreJudged, rules_kept};
 ghost use Rattle.mgs_buffers.specs.Told.{attributes_read};
 ghost use Rattle.mgs_screen.specs.Listings.{IsPaneDrawn, listing_to, entries_to, entries_told, rows_to, name_to, place_in, past_sight, row_drawn, buffer_drawn, drawn, listed};
 
+use crate::viewer::Viewer;
 use mgs_acl::{Entry, print_entry};
 use mgs_buffers::{Attributes, Buffers, Found};
 use mgs_cache::Judge;
 use mgs_grid::Grid;
 use mgs_marks::Marked;
 use mgs_model::{Decision, Name, Right};
-use mgs_policy::Directory;
-use mgs_windows::RowPane;
+use mgs_windows::{RowPane, Window};
 
 /// Where the rows of a list are drawn: `height` rows from row `first` on, of which the first shows the row of number `row`.
 #[derive(Clone, Copy)]
-struct Sight {
-    first: usize,
-    height: usize,
-    row: usize,
+pub struct Sight {
+    /// The first row of the screen, counted from 0.
+    pub first: usize,
+    /// How many rows.
+    pub height: usize,
+    /// The number of the list's row that the first one shows, counted from 0.
+    pub row: usize,
 }
 
 /// In which row the one of a number is drawn, where it is in sight.
@@ -88,15 +91,14 @@ fn draw_buffer(
 fn draw_buffers<T: Marked + Drop>(
     buffers: &Buffers<T>,
     judge: &mut Judge,
-    directory: &Directory,
-    user: &Name,
+    viewer: &Viewer<'_>,
     sight: Sight,
     grid: &mut Grid,
 )
     requires room { sight.first + sight.height ≤ grid.old.rows }
-    requires judged { AreJudged directory.now (rules_kept buffers.now) judge.old }
-    ensures grid { grid.new ≡ drawn sight (map listing_text (listed directory.now user.now buffers.now)) grid.old }
-    ensures judged { AreJudged directory.now (rules_kept buffers.now) judge.new }
+    requires judged { AreJudged viewer.now.directory.now (rules_kept buffers.now) judge.old }
+    ensures grid { grid.new ≡ drawn sight (map listing_text (listed viewer.now.directory.now viewer.now.user.now buffers.now)) grid.old }
+    ensures judged { AreJudged viewer.now.directory.now (rules_kept buffers.now) judge.new }
 {
     let _rows = grid.rows();
     grid.draw_blank(sight.first, sight.height);
@@ -106,33 +108,29 @@ fn draw_buffers<T: Marked + Drop>(
         if is_past(sight, number) {
             break;
         }
-        let attributes = buffers.attributes(judge, directory, user, i);
+        let attributes = buffers.attributes(judge, viewer.directory, viewer.user, i);
         number = draw_buffer(attributes, number, sight, grid);
     }
 }
 
-/// Draws the listing of all buffers, and its mode line: into `height` rows from row `first` on, and the one below. The first
-/// shows the row of number `row`, counted from 0. Only the buffers on which the user is granted READ_ATTRIBUTES have rows, in
-/// the order of creation. Who may see what is decided by a judge that keeps what was decided on these buffers.
+/// Draws the listing of all buffers, and its mode line in the row below those in sight. Only the buffers on which the user is
+/// granted READ_ATTRIBUTES have rows, in the order of creation. Who may see what is decided by a judge that keeps what was
+/// decided on these buffers.
 pub fn draw_listing<T: Marked + Drop>(
     buffers: &Buffers<T>,
     judge: &mut Judge,
-    directory: &Directory,
-    user: &Name,
-    first: usize,
-    height: usize,
-    row: usize,
+    viewer: &Viewer<'_>,
+    sight: Sight,
     grid: &mut Grid,
 )
-    requires room { first + height < grid.old.rows }
-    requires judged { AreJudged directory.now (rules_kept buffers.now) judge.old }
-    ensures grid { IsPaneDrawn first height (listing_to directory.now user.now buffers.now row) grid.old grid.new }
-    ensures judged { AreJudged directory.now (rules_kept buffers.now) judge.new }
+    requires room { sight.first + sight.height < grid.old.rows }
+    requires judged { AreJudged viewer.now.directory.now (rules_kept buffers.now) judge.old }
+    ensures grid { IsPaneDrawn sight.first sight.height (listing_to viewer.now.directory.now viewer.now.user.now buffers.now sight.row) grid.old grid.new }
+    ensures judged { AreJudged viewer.now.directory.now (rules_kept buffers.now) judge.new }
 {
     let _rows = grid.rows();
-    let sight = Sight { first, height, row };
-    draw_buffers(buffers, judge, directory, user, sight, grid);
-    grid.draw_buffers_mode(first + height);
+    draw_buffers(buffers, judge, viewer, sight, grid);
+    grid.draw_buffers_mode(sight.first + sight.height);
 }
 
 /// Draws a row of an access list, where it is in sight: the entry of an index, counted from 0.
@@ -189,20 +187,19 @@ fn draw_unlisted(decision: Decision, sight: Sight, grid: &mut Grid)
 fn draw_acl<T: Marked + Drop>(
     found: &Found<T>,
     judge: &mut Judge,
-    directory: &Directory,
-    user: &Name,
+    viewer: &Viewer<'_>,
     sight: Sight,
     grid: &mut Grid,
 )
     requires room { sight.first + sight.height ≤ grid.old.rows }
-    requires judged { AreJudged directory.now (rules_kept found.now.all) judge.old }
-    ensures judged { AreJudged directory.now (rules_kept found.now.all) judge.new }
-    ensures grid { grid.new ≡ drawn sight (entries_shown (entries_told directory.now user.now (marked_at found.now.name found.now.all).buffer)) grid.old }
+    requires judged { AreJudged viewer.now.directory.now (rules_kept found.now.all) judge.old }
+    ensures judged { AreJudged viewer.now.directory.now (rules_kept found.now.all) judge.new }
+    ensures grid { grid.new ≡ drawn sight (entries_shown (entries_told viewer.now.directory.now viewer.now.user.now (marked_at found.now.name found.now.all).buffer)) grid.old }
 {
-    if found.grants_by(judge, directory, user, Right::ReadAcl) {
+    if found.grants_by(judge, viewer.directory, viewer.user, Right::ReadAcl) {
         draw_list(found.entries(), sight, grid);
     } else {
-        let decision = found.decide_by(judge, directory, user, Right::ReadAcl);
+        let decision = found.decide_by(judge, viewer.directory, viewer.user, Right::ReadAcl);
         draw_unlisted(decision, sight, grid);
     }
 }
@@ -211,46 +208,41 @@ fn draw_acl<T: Marked + Drop>(
 fn shown_name<T: Marked + Drop>(
     found: &Found<T>,
     judge: &mut Judge,
-    directory: &Directory,
-    user: &Name,
+    viewer: &Viewer<'_>,
 ) -> Option<Name>
-    requires { AreJudged directory.now (rules_kept found.now.all) judge.old }
-    ensures value { result ≡ name_to directory.now user.now found.now.all found.now.name }
-    ensures judged { AreJudged directory.now (rules_kept found.now.all) judge.new }
+    requires { AreJudged viewer.now.directory.now (rules_kept found.now.all) judge.old }
+    ensures value { result ≡ name_to viewer.now.directory.now viewer.now.user.now found.now.all found.now.name }
+    ensures judged { AreJudged viewer.now.directory.now (rules_kept found.now.all) judge.new }
 {
-    if found.grants_by(judge, directory, user, Right::ReadAttributes) {
+    if found.grants_by(judge, viewer.directory, viewer.user, Right::ReadAttributes) {
         Some(*found.name())
     } else {
         None
     }
 }
 
-/// Draws the access list of a buffer, and its mode line: into `height` rows from row `first` on, and the one below. The first
-/// shows the row of number `row`, counted from 0. Where READ_ACL is not granted to the user, the one row says why, and where
-/// READ_ATTRIBUTES is not, the mode line has no name. It is decided by a judge that keeps what was decided on these buffers.
+/// Draws the access list of a buffer, and its mode line in the row below those in sight. Where READ_ACL is not granted to the
+/// user, the one row says why, and where READ_ATTRIBUTES is not, the mode line has no name. It is decided by a judge that keeps
+/// what was decided on these buffers.
 pub fn draw_entries<T: Marked + Drop>(
     buffers: &Buffers<T>,
     judge: &mut Judge,
-    directory: &Directory,
-    user: &Name,
+    viewer: &Viewer<'_>,
     name: &Name,
-    first: usize,
-    height: usize,
-    row: usize,
+    sight: Sight,
     grid: &mut Grid,
 )
     requires kept { HasBuffer name.now buffers.now }
-    requires room { first + height < grid.old.rows }
-    requires judged { AreJudged directory.now (rules_kept buffers.now) judge.old }
-    ensures judged { AreJudged directory.now (rules_kept buffers.now) judge.new }
-    ensures grid { IsPaneDrawn first height (entries_to directory.now user.now buffers.now name.now row) grid.old grid.new }
+    requires room { sight.first + sight.height < grid.old.rows }
+    requires judged { AreJudged viewer.now.directory.now (rules_kept buffers.now) judge.old }
+    ensures judged { AreJudged viewer.now.directory.now (rules_kept buffers.now) judge.new }
+    ensures grid { IsPaneDrawn sight.first sight.height (entries_to viewer.now.directory.now viewer.now.user.now buffers.now name.now sight.row) grid.old grid.new }
 {
     let _rows = grid.rows();
-    let sight = Sight { first, height, row };
     let found = buffers.find(name);
-    draw_acl(&found, judge, directory, user, sight, grid);
-    let shown = shown_name(&found, judge, directory, user);
-    grid.draw_acl_mode(first + height, shown);
+    draw_acl(&found, judge, viewer, sight, grid);
+    let shown = shown_name(&found, judge, viewer);
+    grid.draw_acl_mode(sight.first + sight.height, shown);
 }
 
 /// Draws blank rows, and the mode line of a window that shows nothing.
@@ -263,32 +255,31 @@ fn draw_none(first: usize, height: usize, grid: &mut Grid)
     grid.draw_none_mode(first + height);
 }
 
-/// Draws what a window without a text shows, and its mode line: into `height` rows from row `first` on, and the one below.
-pub fn draw_rows<T: Marked + Drop>(
+/// Draws what a window without a text shows, and its mode line: into its rows from row `first` on, and the one below.
+pub(crate) fn draw_rows<T: Marked + Drop>(
     buffers: &Buffers<T>,
     judge: &mut Judge,
-    directory: &Directory,
-    user: &Name,
-    rows: &RowPane,
+    viewer: &Viewer<'_>,
+    window: &Window,
     first: usize,
-    height: usize,
     grid: &mut Grid,
 )
-    requires room { first + height < grid.old.rows }
-    requires judged { AreJudged directory.now (rules_kept buffers.now) judge.old }
-    ensures judged { AreJudged directory.now (rules_kept buffers.now) judge.new }
-    ensures grid { IsPaneDrawn first height (rows_to directory.now user.now buffers.now rows.now) grid.old grid.new }
+    requires room { first + window.now.height < grid.old.rows }
+    requires judged { AreJudged viewer.now.directory.now (rules_kept buffers.now) judge.old }
+    ensures judged { AreJudged viewer.now.directory.now (rules_kept buffers.now) judge.new }
+    ensures grid { IsPaneDrawn first window.now.height (rows_to viewer.now.directory.now viewer.now.user.now buffers.now window.now.rows) grid.old grid.new }
 {
-    match rows {
+    let height = window.height;
+    match window.rows {
         RowPane::NoRows => draw_none(first, height, grid),
         RowPane::Buffers { row } => {
-            draw_listing(buffers, judge, directory, user, first, height, *row, grid);
+            let sight = Sight { first, height, row };
+            draw_listing(buffers, judge, viewer, sight, grid);
         }
         RowPane::Entries { name, row } => {
-            if buffers.has(name) {
-                draw_entries(
-                    buffers, judge, directory, user, name, first, height, *row, grid,
-                );
+            if buffers.has(&name) {
+                let sight = Sight { first, height, row };
+                draw_entries(buffers, judge, viewer, &name, sight, grid);
             } else {
                 draw_none(first, height, grid);
             }

@@ -15,6 +15,13 @@ use mgs_grid::{Grid, RowSet};
 use mgs_marks::Marked;
 use mgs_text::Text;
 
+/// A row of a text, and the column from which it is shown.
+#[derive(Clone, Copy)]
+struct ShiftedRow {
+    row: usize,
+    shift: usize,
+}
+
 /// Draws all rows of a text.
 fn draw_rows_of<T: Text>(text: &T, drawn: &DrawnText, rows: &mut RowSet, grid: &mut Grid)
     requires pane { IsPane (T.text text.now) drawn.now grid.old }
@@ -38,75 +45,72 @@ fn draw_rows_of<T: Text>(text: &T, drawn: &DrawnText, rows: &mut RowSet, grid: &
 fn draw_row_of<T: Text>(
     text: &T,
     drawn: &DrawnText,
-    row: usize,
-    shift: usize,
+    at: ShiftedRow,
     rows: &mut RowSet,
     grid: &mut Grid,
 )
     requires pane { IsPane (T.text text.now) drawn.now grid.old }
-    requires shift { shift < 2 ^ 62 }
-    ensures grid { CompletesRow drawn.now row shift (T.text text.now) grid.old grid.new }
+    requires shift { at.shift < 2 ^ 62 }
+    ensures grid { CompletesRow drawn.now at.row at.shift (T.text text.now) grid.old grid.new }
     ensures drawn { IsDrawnOn rows.old rows.new grid.old grid.new }
 {
     let _rows = grid.rows();
-    if row >= drawn.height {
+    if at.row >= drawn.height {
         return;
     }
-    let begin = begin_at(text, drawn.shown.above + row, shift, drawn.shown.stop);
-    grid.draw_text_row(drawn.first + row, text, begin.place, begin.shift);
-    rows.insert(drawn.first + row);
+    let begin = begin_at(text, drawn.shown.above + at.row, at.shift, drawn.shown.stop);
+    grid.draw_text_row(drawn.first + at.row, text, begin.place, begin.shift);
+    rows.insert(drawn.first + at.row);
 }
 
-/// Shows row `row` of a text that stands from column `to`. It is shown from column `from` before.
+/// Shows a row of a text that stands from column `to`.
 fn shift_row<T: Text>(
     text: &T,
     drawn: &DrawnText,
-    row: usize,
-    from: usize,
+    from: ShiftedRow,
     to: usize,
     rows: &mut RowSet,
     grid: &mut Grid,
 )
     requires pane { IsPane (T.text text.now) drawn.now grid.old }
     requires shift { to < 2 ^ 62 }
-    ensures grid { DoesShow drawn.now row from (T.text text.now) grid.old → grid.new ≡ showing drawn.now row to (T.text text.now) grid.old }
+    ensures grid { DoesShow drawn.now from.row from.shift (T.text text.now) grid.old → grid.new ≡ showing drawn.now from.row to (T.text text.now) grid.old }
     ensures drawn { IsDrawnOn rows.old rows.new grid.old grid.new }
 {
     let _rows = grid.rows();
-    if from == to {
+    if from.shift == to {
         return;
     }
-    draw_row_of(text, drawn, row, to, rows, grid);
+    let at = ShiftedRow {
+        row: from.row,
+        shift: to,
+    };
+    draw_row_of(text, drawn, at, rows, grid);
 }
 
-/// Shows a text that stands, of which row `row` is shown from column `shift`, with its own row shifted.
+/// Shows a text that stands, and of which one row is shifted, with its own row shifted.
 fn shift_rows<T: Text>(
     text: &T,
     drawn: &DrawnText,
-    row: usize,
-    shift: usize,
+    from: ShiftedRow,
     rows: &mut RowSet,
     grid: &mut Grid,
 )
     requires pane { IsPane (T.text text.now) drawn.now grid.old }
-    ensures grid { CompletesShifts drawn.now row shift (T.text text.now) grid.old grid.new }
+    ensures grid { CompletesShifts drawn.now from.row from.shift (T.text text.now) grid.old grid.new }
     ensures drawn { IsDrawnOn rows.old rows.new grid.old grid.new }
 {
     let _rows = grid.rows();
-    if row == drawn.shown.row {
-        shift_row(text, drawn, row, shift, drawn.shown.shift, rows, grid);
+    if from.row == drawn.shown.row {
+        shift_row(text, drawn, from, drawn.shown.shift, rows, grid);
         return;
     }
-    shift_row(text, drawn, row, shift, 0, rows, grid);
-    shift_row(
-        text,
-        drawn,
-        drawn.shown.row,
-        0,
-        drawn.shown.shift,
-        rows,
-        grid,
-    );
+    shift_row(text, drawn, from, 0, rows, grid);
+    let own = ShiftedRow {
+        row: drawn.shown.row,
+        shift: 0,
+    };
+    shift_row(text, drawn, own, drawn.shown.shift, rows, grid);
 }
 
 /// From which column a text shows a row.
@@ -122,28 +126,32 @@ fn shift_of(drawn: &DrawnText, row: usize) -> usize
     }
 }
 
-/// Draws the row of the one line that changed, in a text whose other rows stand, with row `row` shown from column `shift`. Tells from
-/// which column row `row` is shown then.
+/// Draws the row of the one line that changed, in a text whose other rows stand, and of which one row is shifted. Tells from which column
+/// this is shown then.
 fn draw_line_of<T: Text>(
     text: &T,
     drawn: &DrawnText,
     down: usize,
-    row: usize,
-    shift: usize,
+    from: ShiftedRow,
     rows: &mut RowSet,
     grid: &mut Grid,
 ) -> usize
     requires pane { IsPane (T.text text.now) drawn.now grid.old }
-    ensures grid { CompletesLine drawn.now down row shift result (T.text text.now) grid.old grid.new }
+    ensures grid { CompletesLine drawn.now down from.row from.shift result (T.text text.now) grid.old grid.new }
     ensures drawn { IsDrawnOn rows.old rows.new grid.old grid.new }
 {
-    if down != row {
-        draw_row_of(text, drawn, down, 0, rows, grid);
-        return shift;
+    if down != from.row {
+        let at = ShiftedRow {
+            row: down,
+            shift: 0,
+        };
+        draw_row_of(text, drawn, at, rows, grid);
+        return from.shift;
     }
-    let now = shift_of(drawn, row);
-    draw_row_of(text, drawn, down, now, rows, grid);
-    now
+    let shift = shift_of(drawn, from.row);
+    let at = ShiftedRow { row: down, shift };
+    draw_row_of(text, drawn, at, rows, grid);
+    shift
 }
 
 /// Draws those rows of a text that are not as they were when it was drawn earlier.
@@ -160,13 +168,15 @@ fn redraw_rows<T: Text>(
     ensures drawn { IsDrawnOn rows.old rows.new grid.old grid.new }
 {
     let _rows = grid.rows();
+    let from = ShiftedRow {
+        row: earlier.row,
+        shift: earlier.shift,
+    };
     match change {
-        Change::Nothing => {
-            shift_rows(text, drawn, earlier.row, earlier.shift, rows, grid);
-        }
+        Change::Nothing => shift_rows(text, drawn, from, rows, grid),
         Change::Line(down) => {
-            let shift = draw_line_of(text, drawn, down, earlier.row, earlier.shift, rows, grid);
-            shift_rows(text, drawn, earlier.row, shift, rows, grid);
+            let shift = draw_line_of(text, drawn, down, from, rows, grid);
+            shift_rows(text, drawn, ShiftedRow { shift, ..from }, rows, grid);
         }
         Change::Anything => draw_rows_of(text, drawn, rows, grid),
     }

@@ -24,6 +24,7 @@ use crate::listing::draw_rows;
 use crate::measuring::measure;
 use crate::redrawing::redraw_pane;
 use crate::tab_stops::TabStop;
+use crate::viewer::Viewer;
 use mgs_buffers::{Buffers, Found};
 use mgs_cache::Judge;
 use mgs_grid::{Grid, RowSet};
@@ -33,6 +34,7 @@ use mgs_policy::Directory;
 use mgs_session::Session;
 use mgs_text::Text;
 use mgs_windows::{Window, WindowMarks};
+use std::mem;
 
 /// A window's place on the screen: where its first row is, which of the windows it is, and whether it is the selected one.
 #[derive(Clone, Copy)]
@@ -42,18 +44,28 @@ struct Place {
     selected: bool,
 }
 
+/// What was drawn of a screen so far.
+#[derive(Drop)]
+struct Redraw {
+    /// The texts that it showed before.
+    before: DrawnTexts,
+    /// Those that it shows now, from the top.
+    texts: DrawnTexts,
+    /// The rows that were drawn.
+    rows: RowSet,
+}
+
 /// Whether the buffer is modified, where its attributes may be read.
 fn heading<T: Marked + Drop>(
     found: &Found<T>,
     judge: &mut Judge,
-    directory: &Directory,
-    user: &Name,
+    viewer: &Viewer<'_>,
 ) -> Option<bool>
-    requires { AreJudged directory.now (rules_kept found.now.all) judge.old }
-    ensures value { told_as found.now.name result ≡ heading_to directory.now user.now found.now.all found.now.name }
-    ensures judged { AreJudged directory.now (rules_kept found.now.all) judge.new }
+    requires { AreJudged viewer.now.directory.now (rules_kept found.now.all) judge.old }
+    ensures value { told_as found.now.name result ≡ heading_to viewer.now.directory.now viewer.now.user.now found.now.all found.now.name }
+    ensures judged { AreJudged viewer.now.directory.now (rules_kept found.now.all) judge.new }
 {
-    if found.grants_by(judge, directory, user, Right::ReadAttributes) {
+    if found.grants_by(judge, viewer.directory, viewer.user, Right::ReadAttributes) {
         Some(found.is_modified())
     } else {
         None
@@ -74,29 +86,28 @@ fn named(name: &Name, heading: Option<bool>) -> Option<(Name, bool)>
 const READS: u32 = 0x81;
 
 /// Whether one walk over a list, of which a judge keeps nothing, tells that both a buffer's text and its attributes may be read.
-fn reads_all<T: Marked + Drop>(found: &Found<T>, directory: &Directory, user: &Name) -> bool
-    ensures { result ≡ true → ReadsAll directory.now user.now (marked_at found.now.name found.now.all).buffer }
+fn reads_all<T: Marked + Drop>(found: &Found<T>, viewer: &Viewer<'_>) -> bool
+    ensures { result ≡ true → ReadsAll viewer.now.directory.now viewer.now.user.now (marked_at found.now.name found.now.all).buffer }
 {
-    found.grants_outright(directory, user, Mask::from_bits(READS))
+    found.grants_outright(viewer.directory, viewer.user, Mask::from_bits(READS))
 }
 
 /// What may be seen of a buffer: whether it is modified, where its attributes may be read, and whether its text may be.
 fn seen<T: Marked + Drop>(
     found: &Found<T>,
     judge: &mut Judge,
-    directory: &Directory,
-    user: &Name,
+    viewer: &Viewer<'_>,
 ) -> (Option<bool>, bool)
-    requires { AreJudged directory.now (rules_kept found.now.all) judge.old }
-    ensures heading { told_as found.now.name result.0 ≡ heading_to directory.now user.now found.now.all found.now.name }
-    ensures reads { result.1 ≡ may directory.now user.now ReadData (marked_at found.now.name found.now.all).buffer }
-    ensures judged { AreJudged directory.now (rules_kept found.now.all) judge.new }
+    requires { AreJudged viewer.now.directory.now (rules_kept found.now.all) judge.old }
+    ensures heading { told_as found.now.name result.0 ≡ heading_to viewer.now.directory.now viewer.now.user.now found.now.all found.now.name }
+    ensures reads { result.1 ≡ may viewer.now.directory.now viewer.now.user.now ReadData (marked_at found.now.name found.now.all).buffer }
+    ensures judged { AreJudged viewer.now.directory.now (rules_kept found.now.all) judge.new }
 {
-    if reads_all(found, directory, user) {
+    if reads_all(found, viewer) {
         return (Some(found.is_modified()), true);
     }
-    let heading = heading(found, judge, directory, user);
-    let reads = found.grants_by(judge, directory, user, Right::ReadData);
+    let heading = heading(found, judge, viewer);
+    let reads = found.grants_by(judge, viewer.directory, viewer.user, Right::ReadData);
     (heading, reads)
 }
 
@@ -151,24 +162,22 @@ fn redraw_text<T: Marked + Drop>(
     window_marks: &WindowMarks,
     height: usize,
     place: Place,
-    drawn_texts: &DrawnTexts,
-    texts: &mut DrawnTexts,
-    rows: &mut RowSet,
+    redraw: &mut Redraw,
     grid: &mut Grid,
 ) -> (usize, usize)
     requires marks { AreMarksOf found.now window_marks.now }
     requires room { IsRoom place.first height grid.old }
-    requires stands { AreStandingAround place.first (buffers_of found.now.all) grid.old drawn_texts.now texts.old }
+    requires stands { AreStandingAround place.first (buffers_of found.now.all) grid.old redraw.old.before redraw.old.texts }
     ensures lines { grid.new.lines ≡ rows_put place.first (found_rows place.selected grid.old.cols height found.now heading window_marks.now) grid.old.lines }
     ensures cursor { place.selected ≡ true → result ≡ window_marks_cursor grid.old.cols height (marked_at found.now.name found.now.all) window_marks.now }
     ensures cell { IsCell height grid.old.cols result }
-    ensures stands { AreStandingAround (place.first + (height + 1)) (buffers_of found.now.all) grid.new drawn_texts.now texts.new }
-    ensures drawn { IsDrawnOn rows.old rows.new grid.old grid.new }
+    ensures stands { AreStandingAround (place.first + (height + 1)) (buffers_of found.now.all) grid.new redraw.new.before redraw.new.texts }
+    ensures drawn { IsDrawnOn redraw.old.rows redraw.new.rows grid.old grid.new }
 {
     let cols = grid.cols();
     let text = found.text();
     let name = found.name();
-    let earlier = drawn_texts.drawn(place.index, name, place.first, height);
+    let earlier = redraw.before.drawn(place.index, name, place.first, height);
     let known = known_stop(found, &earlier);
     let measures = measure(text, window_marks, place.selected, cols, known);
     let mode = ModeLine {
@@ -192,24 +201,26 @@ fn redraw_text<T: Marked + Drop>(
         height,
         shown,
     };
-    redraw_pane(found, text, &drawn, &earlier, rows, grid);
-    redraw_mode(name, &mode, &earlier, place.first + height, rows, grid);
-    texts.push(Some(drawn));
+    redraw_pane(found, text, &drawn, &earlier, &mut redraw.rows, grid);
+    redraw_mode(
+        name,
+        &mode,
+        &earlier,
+        place.first + height,
+        &mut redraw.rows,
+        grid,
+    );
+    redraw.texts.push(Some(drawn));
     (measures.row.min(height - 1), measures.col)
 }
 
 /// Why a buffer's text may not be read.
-fn denial<T: Marked + Drop>(
-    found: &Found<T>,
-    judge: &mut Judge,
-    directory: &Directory,
-    user: &Name,
-) -> Decision
-    requires { AreJudged directory.now (rules_kept found.now.all) judge.old }
-    ensures value { result ≡ right_decision directory.now (marked_at found.now.name found.now.all).buffer user.now ReadData }
-    ensures judged { AreJudged directory.now (rules_kept found.now.all) judge.new }
+fn denial<T: Marked + Drop>(found: &Found<T>, judge: &mut Judge, viewer: &Viewer<'_>) -> Decision
+    requires { AreJudged viewer.now.directory.now (rules_kept found.now.all) judge.old }
+    ensures value { result ≡ right_decision viewer.now.directory.now (marked_at found.now.name found.now.all).buffer viewer.now.user.now ReadData }
+    ensures judged { AreJudged viewer.now.directory.now (rules_kept found.now.all) judge.new }
 {
-    found.decide_by(judge, directory, user, Right::ReadData)
+    found.decide_by(judge, viewer.directory, viewer.user, Right::ReadData)
 }
 
 /// Draws the mode line of a text that may not be read: it tells no place in it.
@@ -231,66 +242,44 @@ fn note_rows(first: usize, height: usize, texts: &mut DrawnTexts, rows: &mut Row
     texts.push(None);
 }
 
-/// Draws a window, in those rows alone that changed since these texts were drawn. Tells where the cursor is, from the
-/// window's first cell, if the window is the selected one.
+/// Draws a window, in those rows alone that changed since it was drawn before. Tells where the cursor is, from the window's first cell, if
+/// the window is the selected one.
 fn redraw_window<T: Marked + Drop>(
     buffers: &Buffers<T>,
     judge: &mut Judge,
-    directory: &Directory,
-    user: &Name,
+    viewer: &Viewer<'_>,
     window: &Window,
     place: Place,
-    drawn_texts: &DrawnTexts,
-    texts: &mut DrawnTexts,
-    rows: &mut RowSet,
+    redraw: &mut Redraw,
     grid: &mut Grid,
 ) -> (usize, usize)
     requires sound { IsWindowSound buffers.now window.now }
     requires room { IsRoom place.first window.now.height grid.old }
-    requires judged { AreJudged directory.now (rules_kept buffers.now) judge.old }
-    requires stands { AreStandingAround place.first (buffers_of buffers.now) grid.old drawn_texts.now texts.old }
-    ensures judged { AreJudged directory.now (rules_kept buffers.now) judge.new }
-    ensures lines { grid.new.lines ≡ window_lines place.selected place.first directory.now user.now buffers.now window.now grid.old }
-    ensures cursor { place.selected ≡ true → result ≡ window_cursor grid.old.cols (Some (window_to directory.now user.now buffers.now window.now)) }
+    requires judged { AreJudged viewer.now.directory.now (rules_kept buffers.now) judge.old }
+    requires stands { AreStandingAround place.first (buffers_of buffers.now) grid.old redraw.old.before redraw.old.texts }
+    ensures judged { AreJudged viewer.now.directory.now (rules_kept buffers.now) judge.new }
+    ensures lines { grid.new.lines ≡ window_lines place.selected place.first viewer.now.directory.now viewer.now.user.now buffers.now window.now grid.old }
+    ensures cursor { place.selected ≡ true → result ≡ window_cursor grid.old.cols (Some (window_to viewer.now.directory.now viewer.now.user.now buffers.now window.now)) }
     ensures cell { IsCell window.now.height grid.old.cols result }
-    ensures stands { AreStandingAround (place.first + (window.now.height + 1)) (buffers_of buffers.now) grid.new drawn_texts.now texts.new }
-    ensures drawn { IsDrawnOn rows.old rows.new grid.old grid.new }
+    ensures stands { AreStandingAround (place.first + (window.now.height + 1)) (buffers_of buffers.now) grid.new redraw.new.before redraw.new.texts }
+    ensures drawn { IsDrawnOn redraw.old.rows redraw.new.rows grid.old grid.new }
 {
     let _cols = grid.cols();
     let height = window.height;
     let Some(window_marks) = window.shows else {
-        draw_rows(
-            buffers,
-            judge,
-            directory,
-            user,
-            &window.rows,
-            place.first,
-            height,
-            grid,
-        );
-        note_rows(place.first, height, texts, rows);
+        draw_rows(buffers, judge, viewer, window, place.first, grid);
+        note_rows(place.first, height, &mut redraw.texts, &mut redraw.rows);
         return (0, 0);
     };
     let found = buffers.find(&window_marks.name);
-    let (heading, reads) = seen(&found, judge, directory, user);
+    let (heading, reads) = seen(&found, judge, viewer);
     if reads {
-        return redraw_text(
-            &found,
-            heading,
-            &window_marks,
-            height,
-            place,
-            drawn_texts,
-            texts,
-            rows,
-            grid,
-        );
+        return redraw_text(&found, heading, &window_marks, height, place, redraw, grid);
     }
-    let decision = denial(&found, judge, directory, user);
+    let decision = denial(&found, judge, viewer);
     grid.draw_unread(place.first, height, decision);
     draw_unread_mode(found.name(), heading, place.first + height, grid);
-    note_rows(place.first, height, texts, rows);
+    note_rows(place.first, height, &mut redraw.texts, &mut redraw.rows);
     (0, 0)
 }
 
@@ -317,8 +306,15 @@ pub fn redraw_session<T: Marked + Drop>(
 {
     let _rows = grid.rows();
     let selected = session.windows.selected();
-    let mut texts = DrawnTexts::new();
-    let mut rows = RowSet::none();
+    let viewer = Viewer {
+        directory,
+        user: &session.user,
+    };
+    let mut redraw = Redraw {
+        before: mem::replace(drawn_texts, DrawnTexts::new()),
+        texts: DrawnTexts::new(),
+        rows: RowSet::none(),
+    };
     let mut first = 0;
     let mut cursor = (0, 0);
     for (i, window) in session.windows.as_slice().iter().enumerate() {
@@ -327,24 +323,13 @@ pub fn redraw_session<T: Marked + Drop>(
             index: i,
             selected: i == selected,
         };
-        let (row, col) = redraw_window(
-            buffers,
-            judge,
-            directory,
-            &session.user,
-            window,
-            place,
-            drawn_texts,
-            &mut texts,
-            &mut rows,
-            grid,
-        );
+        let (row, col) = redraw_window(buffers, judge, &viewer, window, place, &mut redraw, grid);
         if i == selected {
             cursor = (first + row, col);
         }
         first += window.height + 1;
     }
-    redraw_last_row(&session.state, first, cursor, &mut rows, grid);
-    *drawn_texts = texts;
-    rows
+    redraw_last_row(&session.state, first, cursor, &mut redraw.rows, grid);
+    *drawn_texts = redraw.texts;
+    redraw.rows
 }

@@ -12,8 +12,8 @@ use Rattle.mgs_screen.proofs.listing.draw_buffers.Goals as goal
 
 pub loop-i-preserved : goal.loop-i-preserved
 loop-i-preserved g c =
-    let d : Directory = c.args.directory.now in
-    let user : List ℕ = c.args.user.now in
+    let d : Directory = c.args.viewer.now.directory.now in
+    let user : List ℕ = c.args.viewer.now.user.now in
     let ks : List MarkedBuffer = c.args.buffers.now in
     let i : ℕ = c.loop-i.i in
     let n : ℕ = c.loop-i.number in
@@ -38,4 +38,4 @@ loop-i-preserved g c =
 pub returns-then-is_past-clause-grid : goal.returns-then-is_past-clause-grid
 returns-then-is_past-clause-grid g c =
     c.loop-i.invariant.grid
-    ∙ listing_past c.args.sight c.loop-i.number c.loop-i.i c.args.directory.now c.args.user.now c.args.buffers.now c.args.grid.now c.loop-i.invariant.number (sym c.if-is_past.ensures)
+    ∙ listing_past c.args.sight c.loop-i.number c.loop-i.i c.args.viewer.now.directory.now c.args.viewer.now.user.now c.args.buffers.now c.args.grid.now c.loop-i.invariant.number (sym c.if-is_past.ensures)

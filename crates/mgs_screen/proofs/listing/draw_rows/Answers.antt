@@ -17,16 +17,16 @@ rows_drawn d user ks first height selected p rows = with_rows first (pane_rows s
 pub returns-in-NoRows-clause-grid : goal.returns-in-NoRows-clause-grid
 returns-in-NoRows-clause-grid g c = λ selected.
     c.draw_none.ensures selected
-    ∙ sym (ap (rows_drawn c.args.directory.now c.args.user.now c.args.buffers.now c.args.first c.args.height selected c.args.grid.now) c.in-NoRows.is)
+    ∙ sym (ap (rows_drawn c.args.viewer.now.directory.now c.args.viewer.now.user.now c.args.buffers.now c.args.first c.args.window.now.height selected c.args.grid.now) c.in-NoRows.is)
 
 pub returns-in-Buffers-clause-grid : goal.returns-in-Buffers-clause-grid
 returns-in-Buffers-clause-grid g c = λ selected.
     c.draw_listing.ensures.grid selected
-    ∙ sym (ap (rows_drawn c.args.directory.now c.args.user.now c.args.buffers.now c.args.first c.args.height selected c.args.grid.now) c.in-Buffers.is)
+    ∙ sym (ap (rows_drawn c.args.viewer.now.directory.now c.args.viewer.now.user.now c.args.buffers.now c.args.first c.args.window.now.height selected c.args.grid.now) c.in-Buffers.is)
 
 pub returns-else-has-clause-grid : goal.returns-else-has-clause-grid
 returns-else-has-clause-grid g c = λ selected.
     let p : Picture = c.args.grid.now in
     c.draw_none-else-has.ensures selected
-    ∙ ap (λ (pane : Pane). with_rows c.args.first (pane_rows selected p.cols c.args.height pane) p) (sym (entries_gone c.args.directory.now c.args.user.now _ c.args.buffers.now _ (sym c.has.ensures ∙ c.if-has.false)))
-    ∙ sym (ap (rows_drawn c.args.directory.now c.args.user.now c.args.buffers.now c.args.first c.args.height selected p) c.in-Entries.is)
+    ∙ ap (λ (pane : Pane). with_rows c.args.first (pane_rows selected p.cols c.args.window.now.height pane) p) (sym (entries_gone c.args.viewer.now.directory.now c.args.viewer.now.user.now _ c.args.buffers.now _ (sym c.has.ensures ∙ c.if-has.false)))
+    ∙ sym (ap (rows_drawn c.args.viewer.now.directory.now c.args.viewer.now.user.now c.args.buffers.now c.args.first c.args.window.now.height selected p) c.in-Entries.is)

@@ -15,30 +15,30 @@ returns-clause-grid g c = λ top from olds column stand same.
     let p : Picture = c.args.grid.now in
     let d = c.args.drawn.now in
     let text : List ℕ = g.T.Text.text c.args.text.now in
-    let row : ℕ = c.args.row in
+    let row : ℕ = c.args.at.row in
     let at : ℕ = d.first + row in
     let begin = c.begin_at-begin.result in
     let start : ℕ = start_of (d.shown.above + row) text in
-    let drawn = but_one row d.first d.height d.shown.start start top from c.args.shift text olds p c.rows-rows.ensures.picture.count c.requires.pane.room c.if-row-drawn.false
+    let drawn = but_one row d.first d.height d.shown.start start top from c.args.at.shift text olds p c.rows-rows.ensures.picture.count c.requires.pane.room c.if-at-drawn.false
     (start_down d.shown.above row d.shown.start text c.requires.pane.top.begins) column stand same in
     c.draw_text_row.ensures.row
     ∙ ap (λ (ls : List Row). record p { lines = ls }) (
-    row_same at begin.shift c.args.shift begin.place start text p (c.begin_at-begin.ensures.row p.cols)
-    ∙ text_by_row row at start c.args.shift d.first d.height text d.shown.start top from p c.rows-rows.ensures.picture.count drawn)
+    row_same at begin.shift c.args.at.shift begin.place start text p (c.begin_at-begin.ensures.row p.cols)
+    ∙ text_by_row row at start c.args.at.shift d.first d.height text d.shown.start top from p c.rows-rows.ensures.picture.count drawn)
 
 pub returns-clause-drawn : goal.returns-clause-drawn
 returns-clause-drawn g c =
     let p : Picture = c.args.grid.now in
     let q : Picture = c.draw_text_row.new.self in
-    let at : ℕ = c.args.drawn.now.first + c.args.row in
+    let at : ℕ = c.args.drawn.now.first + c.args.at.row in
     let begin = c.begin_at-begin.result in
     let rest : List ℕ = drop begin.place (g.T.Text.text c.args.text.now) in
     let pane : List Row = text_rows p.cols (shift_at 0 begin.shift) 0 1 rest in
     let size : length pane ≡ 1 = length-text_rows p.cols (shift_at 0 begin.shift) 0 1 rest in
     row_drawn c.args.rows.now c.insert.new.self at pane p q
-    (is_put at pane p q c.draw_text_row.ensures.row (omega (arith, size, c.requires.pane.room, c.if-row-drawn.false, c.rows-rows.ensures.picture.count))) size c.insert.ensures.kept c.insert.ensures.put
+    (is_put at pane p q c.draw_text_row.ensures.row (omega (arith, size, c.requires.pane.room, c.if-at-drawn.false, c.rows-rows.ensures.picture.count))) size c.insert.ensures.kept c.insert.ensures.put
 
-pub returns-then-row-drawn-clause-grid : goal.returns-then-row-drawn-clause-grid
-returns-then-row-drawn-clause-grid g c = λ top from olds column stand same.
+pub returns-then-at-drawn-clause-grid : goal.returns-then-at-drawn-clause-grid
+returns-then-at-drawn-clause-grid g c = λ top from olds column stand same.
     let d = c.args.drawn.now in
-    out_of_sight c.args.row d.first d.height d.shown.start top from (g.T.Text.text c.args.text.now) olds c.args.grid.now c.rows-rows.ensures.picture.count c.requires.pane.room c.if-row-drawn.true stand same
+    out_of_sight c.args.at.row d.first d.height d.shown.start top from (g.T.Text.text c.args.text.now) olds c.args.grid.now c.rows-rows.ensures.picture.count c.requires.pane.room c.if-at-drawn.true stand same

@@ -74,7 +74,7 @@ loop-i-preserved g c =
     ] in
     record {
       judged = c.redraw_window-row.ensures.judged;
-      drawn = drawn_then c.none-rows.result c.loop-i.rows c.redraw_window-row.new.rows c.args.grid.now c.loop-i.grid c.redraw_window-row.new.grid inv.drawn c.redraw_window-row.ensures.drawn;
+      drawn = drawn_then c.none.result c.loop-i.redraw.rows c.redraw_window-row.new.redraw.rows c.args.grid.now c.loop-i.grid c.redraw_window-row.new.grid inv.drawn c.redraw_window-row.ensures.drawn;
       count = ap length put ∙ length-rows_put first mine old (omega (arith, size, inv.room, inv.count, next)) ∙ inv.count;
       room = omega (arith, inv.room, next);
       cell = record { row = row; col = col };
@@ -126,4 +126,4 @@ returns-clause-stands g c =
       wide = c.redraw_last_row.ensures.drawn.cols;
       fits = omega (arith, inv.room, inv.count);
     } in
-    above_all c.loop-i.first (buffers_of ks) q c.loop-i.texts (above_stay (buffers_of ks) p q c.loop-i.first c.loop-i.first (echo ∷ []) c.loop-i.texts put (omega arith) inv.stands.above)
+    above_all c.loop-i.first (buffers_of ks) q c.loop-i.redraw.texts (above_stay (buffers_of ks) p q c.loop-i.first c.loop-i.first (echo ∷ []) c.loop-i.redraw.texts put (omega arith) inv.stands.above)

@@ -32,29 +32,29 @@ returns-then-reads-clause-lines g c =
     let ks : List MarkedBuffer = c.args.buffers.now in
     let w : Window = c.args.window.now in
     let cols : ℕ = c.args.grid.now.cols in
-    let user : List ℕ = c.args.user.now in
+    let user : List ℕ = c.args.viewer.now.user.now in
     let kept : HasBuffer x.name ks = shown_kept ks w x c.requires.sound c.in-Some.is in
-    let can : may c.args.directory.now user ReadData (marked_at x.name ks).buffer ≡ true =
-    sym (ap (λ (f : Named). may c.args.directory.now user ReadData (marked_at f.name f.all).buffer) c.find-found.ensures) ∙ sym c.seen-heading.ensures.reads ∙ c.if-reads.true in
+    let can : may c.args.viewer.now.directory.now user ReadData (marked_at x.name ks).buffer ≡ true =
+    sym (ap (λ (f : Named). may c.args.viewer.now.directory.now user ReadData (marked_at f.name f.all).buffer) c.find-found.ensures) ∙ sym c.seen-heading.ensures.reads ∙ c.if-reads.true in
     let drawn : Named → Option (List ℕ × Bool) → List Row = λ (f : Named) (h : Option (List ℕ × Bool)).
     rows_put c.args.place.first (window_marks_rows c.args.place.selected cols w.height (marked_at f.name f.all) h x) c.args.grid.now.lines in
     c.redraw_text.ensures.lines
     ∙ ap (drawn c.find-found.result) c.seen-heading.ensures.heading
-    ∙ ap (λ (f : Named). drawn f (heading_to c.args.directory.now user f.all f.name)) c.find-found.ensures
-    ∙ ap (λ (rows : List Row). rows_put c.args.place.first rows c.args.grid.now.lines) (sym (window_read c.args.place.selected cols c.args.directory.now user ks w x c.in-Some.is kept can))
+    ∙ ap (λ (f : Named). drawn f (heading_to c.args.viewer.now.directory.now user f.all f.name)) c.find-found.ensures
+    ∙ ap (λ (rows : List Row). rows_put c.args.place.first rows c.args.grid.now.lines) (sym (window_read c.args.place.selected cols c.args.viewer.now.directory.now user ks w x c.in-Some.is kept can))
 
 pub returns-then-reads-clause-cursor : goal.returns-then-reads-clause-cursor
 returns-then-reads-clause-cursor g c = λ selected.
     let x : WindowMarks = c.in-Some.window_marks in
     let ks : List MarkedBuffer = c.args.buffers.now in
     let w : Window = c.args.window.now in
-    let user : List ℕ = c.args.user.now in
+    let user : List ℕ = c.args.viewer.now.user.now in
     let kept : HasBuffer x.name ks = shown_kept ks w x c.requires.sound c.in-Some.is in
-    let can : may c.args.directory.now user ReadData (marked_at x.name ks).buffer ≡ true =
-    sym (ap (λ (f : Named). may c.args.directory.now user ReadData (marked_at f.name f.all).buffer) c.find-found.ensures) ∙ sym c.seen-heading.ensures.reads ∙ c.if-reads.true in
+    let can : may c.args.viewer.now.directory.now user ReadData (marked_at x.name ks).buffer ≡ true =
+    sym (ap (λ (f : Named). may c.args.viewer.now.directory.now user ReadData (marked_at f.name f.all).buffer) c.find-found.ensures) ∙ sym c.seen-heading.ensures.reads ∙ c.if-reads.true in
     c.redraw_text.ensures.cursor selected
     ∙ ap (λ (f : Named). window_marks_cursor c.args.grid.now.cols w.height (marked_at f.name f.all) x) c.find-found.ensures
-    ∙ sym (window_cursor_read c.args.grid.now.cols c.args.directory.now user ks w x c.in-Some.is kept can)
+    ∙ sym (window_cursor_read c.args.grid.now.cols c.args.viewer.now.directory.now user ks w x c.in-Some.is kept can)
 
 pub returns-clause-lines : goal.returns-clause-lines
 returns-clause-lines g c =
@@ -62,12 +62,12 @@ returns-clause-lines g c =
     let ks : List MarkedBuffer = c.args.buffers.now in
     let w : Window = c.args.window.now in
     let cols : ℕ = c.args.grid.now.cols in
-    let user : List ℕ = c.args.user.now in
+    let user : List ℕ = c.args.viewer.now.user.now in
     let kept : HasBuffer x.name ks = shown_kept ks w x c.requires.sound c.in-Some.is in
-    let cannot : may c.args.directory.now user ReadData (marked_at x.name ks).buffer ≡ false =
-    sym (ap (λ (f : Named). may c.args.directory.now user ReadData (marked_at f.name f.all).buffer) c.find-found.ensures) ∙ sym c.seen-heading.ensures.reads ∙ c.if-reads.false in
-    let head : Named → Option (List ℕ × Bool) = λ (f : Named). heading_to c.args.directory.now user f.all f.name in
-    let why : Named → Decision = λ (f : Named). right_decision c.args.directory.now (marked_at f.name f.all).buffer user ReadData in
+    let cannot : may c.args.viewer.now.directory.now user ReadData (marked_at x.name ks).buffer ≡ false =
+    sym (ap (λ (f : Named). may c.args.viewer.now.directory.now user ReadData (marked_at f.name f.all).buffer) c.find-found.ensures) ∙ sym c.seen-heading.ensures.reads ∙ c.if-reads.false in
+    let head : Named → Option (List ℕ × Bool) = λ (f : Named). heading_to c.args.viewer.now.directory.now user f.all f.name in
+    let why : Named → Decision = λ (f : Named). right_decision c.args.viewer.now.directory.now (marked_at f.name f.all).buffer user ReadData in
     let drawn : Option (List ℕ × Bool) → Decision → List Row = λ (h : Option (List ℕ × Bool)) (d : Decision).
     rows_put c.args.place.first (unread_rows cols w.height d ++ mode_row cols (buffer_mode h None) ∷ []) c.args.grid.now.lines in
     (pane_put c.args.place.first w.height (unread_rows cols w.height c.denial-decision.result) (buffer_mode (told_as c.name.result.now c.seen-heading.result.0) None) c.args.grid.now c.draw_unread.new.self c.draw_unread_mode.new.grid
@@ -75,18 +75,18 @@ returns-clause-lines g c =
     ∙ ap (λ (h : Option (List ℕ × Bool)). drawn h c.denial-decision.result) (ap (λ (n : List ℕ). told_as n c.seen-heading.result.0) c.name.ensures.value ∙ c.seen-heading.ensures.heading)
     ∙ ap (drawn (head c.find-found.result)) c.denial-decision.ensures.value
     ∙ ap (λ (f : Named). drawn (head f) (why f)) c.find-found.ensures
-    ∙ ap (λ (rows : List Row). rows_put c.args.place.first rows c.args.grid.now.lines) (sym (window_unread c.args.place.selected cols c.args.directory.now user ks w x c.in-Some.is kept cannot))
+    ∙ ap (λ (rows : List Row). rows_put c.args.place.first rows c.args.grid.now.lines) (sym (window_unread c.args.place.selected cols c.args.viewer.now.directory.now user ks w x c.in-Some.is kept cannot))
 
 pub returns-clause-cursor : goal.returns-clause-cursor
 returns-clause-cursor g c = λ selected.
     let x : WindowMarks = c.in-Some.window_marks in
     let ks : List MarkedBuffer = c.args.buffers.now in
     let w : Window = c.args.window.now in
-    let user : List ℕ = c.args.user.now in
+    let user : List ℕ = c.args.viewer.now.user.now in
     let kept : HasBuffer x.name ks = shown_kept ks w x c.requires.sound c.in-Some.is in
-    let cannot : may c.args.directory.now user ReadData (marked_at x.name ks).buffer ≡ false =
-    sym (ap (λ (f : Named). may c.args.directory.now user ReadData (marked_at f.name f.all).buffer) c.find-found.ensures) ∙ sym c.seen-heading.ensures.reads ∙ c.if-reads.false in
-    sym (window_cursor_unread c.args.grid.now.cols c.args.directory.now user ks w x c.in-Some.is kept cannot)
+    let cannot : may c.args.viewer.now.directory.now user ReadData (marked_at x.name ks).buffer ≡ false =
+    sym (ap (λ (f : Named). may c.args.viewer.now.directory.now user ReadData (marked_at f.name f.all).buffer) c.find-found.ensures) ∙ sym c.seen-heading.ensures.reads ∙ c.if-reads.false in
+    sym (window_cursor_unread c.args.grid.now.cols c.args.viewer.now.directory.now user ks w x c.in-Some.is kept cannot)
 
 pub returns-in_default-clause-stands : goal.returns-in_default-clause-stands
 returns-in_default-clause-stands g c =
@@ -94,10 +94,10 @@ returns-in_default-clause-stands g c =
     let q : Picture = c.draw_rows.new.grid in
     let w : Window = c.args.window.now in
     let first : ℕ = c.args.place.first in
-    let rows : List Row = pane_rows c.args.place.selected p.cols w.height (rows_to c.args.directory.now c.args.user.now c.args.buffers.now w.rows) in
-    let size : length rows ≡ w.height + 1 = length_rows c.args.place.selected p.cols w.height c.args.directory.now c.args.user.now c.args.buffers.now w.rows in
+    let rows : List Row = pane_rows c.args.place.selected p.cols w.height (rows_to c.args.viewer.now.directory.now c.args.viewer.now.user.now c.args.buffers.now w.rows) in
+    let size : length rows ≡ w.height + 1 = length_rows c.args.place.selected p.cols w.height c.args.viewer.now.directory.now c.args.viewer.now.user.now c.args.buffers.now w.rows in
     let put : IsPut first rows p q = is_put first rows p q (c.draw_rows.ensures.grid c.args.place.selected) (omega (arith, size, c.requires.room.rows, c.cols-cols.ensures.picture.count)) in
-    texts_passed (buffers_of c.args.buffers.now) p q first (first + (w.height + 1)) rows c.args.drawn_texts.now c.args.texts.now c.note_rows.new.texts put (omega (arith, size)) c.note_rows.ensures.texts c.requires.stands
+    texts_passed (buffers_of c.args.buffers.now) p q first (first + (w.height + 1)) rows c.args.redraw.now.before c.args.redraw.now.texts c.note_rows.new.texts put (omega (arith, size)) c.note_rows.ensures.texts c.requires.stands
 
 pub returns-in_default-clause-drawn : goal.returns-in_default-clause-drawn
 returns-in_default-clause-drawn g c =
@@ -105,10 +105,10 @@ returns-in_default-clause-drawn g c =
     let q : Picture = c.draw_rows.new.grid in
     let w : Window = c.args.window.now in
     let first : ℕ = c.args.place.first in
-    let rows : List Row = pane_rows c.args.place.selected p.cols w.height (rows_to c.args.directory.now c.args.user.now c.args.buffers.now w.rows) in
-    let size : length rows ≡ w.height + 1 = length_rows c.args.place.selected p.cols w.height c.args.directory.now c.args.user.now c.args.buffers.now w.rows in
+    let rows : List Row = pane_rows c.args.place.selected p.cols w.height (rows_to c.args.viewer.now.directory.now c.args.viewer.now.user.now c.args.buffers.now w.rows) in
+    let size : length rows ≡ w.height + 1 = length_rows c.args.place.selected p.cols w.height c.args.viewer.now.directory.now c.args.viewer.now.user.now c.args.buffers.now w.rows in
     let put : IsPut first rows p q = is_put first rows p q (c.draw_rows.ensures.grid c.args.place.selected) (omega (arith, size, c.requires.room.rows, c.cols-cols.ensures.picture.count)) in
-    put_drawn c.args.rows.now c.note_rows.new.rows first (w.height + 1) rows p q put size c.note_rows.ensures.kept c.note_rows.ensures.put
+    put_drawn c.args.redraw.now.rows c.note_rows.new.rows first (w.height + 1) rows p q put size c.note_rows.ensures.kept c.note_rows.ensures.put
 
 pub returns-clause-stands : goal.returns-clause-stands
 returns-clause-stands g c =
@@ -120,7 +120,7 @@ returns-clause-stands g c =
     let size : length pane ≡ w.height = length-unread_rows p.cols w.height c.denial-decision.result in
     let mode : List ℕ = buffer_mode (told_as c.name.result.now c.seen-heading.result.0) None in
     let put : IsPut first (pane ++ mode_row p.cols mode ∷ []) p q = pane_put first w.height pane mode p c.draw_unread.new.self q c.requires.room.rows c.cols-cols.ensures.picture.count size c.draw_unread.ensures c.draw_unread_mode.ensures in
-    texts_passed (buffers_of c.args.buffers.now) p q first (first + (w.height + 1)) (pane ++ mode_row p.cols mode ∷ []) c.args.drawn_texts.now c.args.texts.now c.note_rows-2.new.texts put
+    texts_passed (buffers_of c.args.buffers.now) p q first (first + (w.height + 1)) (pane ++ mode_row p.cols mode ∷ []) c.args.redraw.now.before c.args.redraw.now.texts c.note_rows-2.new.texts put
     (omega (arith, length-append pane (mode_row p.cols mode ∷ []), size)) c.note_rows-2.ensures.texts c.requires.stands
 
 pub returns-clause-drawn : goal.returns-clause-drawn
@@ -133,4 +133,4 @@ returns-clause-drawn g c =
     let size : length pane ≡ w.height = length-unread_rows p.cols w.height c.denial-decision.result in
     let mode : List ℕ = buffer_mode (told_as c.name.result.now c.seen-heading.result.0) None in
     let put : IsPut first (pane ++ mode_row p.cols mode ∷ []) p q = pane_put first w.height pane mode p c.draw_unread.new.self q c.requires.room.rows c.cols-cols.ensures.picture.count size c.draw_unread.ensures c.draw_unread_mode.ensures in
-    put_drawn c.args.rows.now c.note_rows-2.new.rows first (w.height + 1) (pane ++ mode_row p.cols mode ∷ []) p q put (omega (arith, length-append pane (mode_row p.cols mode ∷ []), size)) c.note_rows-2.ensures.kept c.note_rows-2.ensures.put
+    put_drawn c.args.redraw.now.rows c.note_rows-2.new.rows first (w.height + 1) (pane ++ mode_row p.cols mode ∷ []) p q put (omega (arith, length-append pane (mode_row p.cols mode ∷ []), size)) c.note_rows-2.ensures.kept c.note_rows-2.ensures.put
