@@ -1,4 +1,4 @@
-use Rattle.std.proofs.Common.{◌≡◌, ◌∙◌, arith, length}
+use Rattle.std.proofs.Common.{◌∙◌}
 use Rattle.mgs_screen.proofs.TabStops.{cells_behind}
 use Rattle.mgs_screen.proofs.tab_stops.cells_to.Goals as goal
 
