@@ -34,7 +34,6 @@ use mgs_policy::Directory;
 use mgs_session::Session;
 use mgs_text::Text;
 use mgs_windows::{Window, WindowMarks};
-use std::mem;
 
 /// A window's place on the screen: where its first row is, which of the windows it is, and whether it is the selected one.
 #[derive(Clone, Copy)]
@@ -46,9 +45,9 @@ struct Place {
 
 /// What was drawn of a screen so far.
 #[derive(Drop)]
-struct Redraw {
+struct Redraw<'a> {
     /// The texts that it showed before.
-    before: DrawnTexts,
+    before: &'a DrawnTexts,
     /// Those that it shows now, from the top.
     texts: DrawnTexts,
     /// The rows that were drawn.
@@ -162,16 +161,16 @@ fn redraw_text<T: Marked + Drop>(
     window_marks: &WindowMarks,
     height: usize,
     place: Place,
-    redraw: &mut Redraw,
+    redraw: &mut Redraw<'_>,
     grid: &mut Grid,
 ) -> (usize, usize)
     requires marks { AreMarksOf found.now window_marks.now }
     requires room { IsRoom place.first height grid.old }
-    requires stands { AreStandingAround place.first (buffers_of found.now.all) grid.old redraw.old.before redraw.old.texts }
+    requires stands { AreStandingAround place.first (buffers_of found.now.all) grid.old redraw.old.before.now redraw.old.texts }
     ensures lines { grid.new.lines ≡ rows_put place.first (found_rows place.selected grid.old.cols height found.now heading window_marks.now) grid.old.lines }
     ensures cursor { place.selected ≡ true → result ≡ window_marks_cursor grid.old.cols height (marked_at found.now.name found.now.all) window_marks.now }
     ensures cell { IsCell height grid.old.cols result }
-    ensures stands { AreStandingAround (place.first + (height + 1)) (buffers_of found.now.all) grid.new redraw.new.before redraw.new.texts }
+    ensures stands { AreStandingAround (place.first + (height + 1)) (buffers_of found.now.all) grid.new redraw.new.before.now redraw.new.texts }
     ensures drawn { IsDrawnOn redraw.old.rows redraw.new.rows grid.old grid.new }
 {
     let cols = grid.cols();
@@ -250,18 +249,18 @@ fn redraw_window<T: Marked + Drop>(
     viewer: &Viewer<'_>,
     window: &Window,
     place: Place,
-    redraw: &mut Redraw,
+    redraw: &mut Redraw<'_>,
     grid: &mut Grid,
 ) -> (usize, usize)
     requires sound { IsWindowSound buffers.now window.now }
     requires room { IsRoom place.first window.now.height grid.old }
     requires judged { AreJudged viewer.now.directory.now (rules_kept buffers.now) judge.old }
-    requires stands { AreStandingAround place.first (buffers_of buffers.now) grid.old redraw.old.before redraw.old.texts }
+    requires stands { AreStandingAround place.first (buffers_of buffers.now) grid.old redraw.old.before.now redraw.old.texts }
     ensures judged { AreJudged viewer.now.directory.now (rules_kept buffers.now) judge.new }
     ensures lines { grid.new.lines ≡ window_lines place.selected place.first viewer.now.directory.now viewer.now.user.now buffers.now window.now grid.old }
     ensures cursor { place.selected ≡ true → result ≡ window_cursor grid.old.cols (Some (window_to viewer.now.directory.now viewer.now.user.now buffers.now window.now)) }
     ensures cell { IsCell window.now.height grid.old.cols result }
-    ensures stands { AreStandingAround (place.first + (window.now.height + 1)) (buffers_of buffers.now) grid.new redraw.new.before redraw.new.texts }
+    ensures stands { AreStandingAround (place.first + (window.now.height + 1)) (buffers_of buffers.now) grid.new redraw.new.before.now redraw.new.texts }
     ensures drawn { IsDrawnOn redraw.old.rows redraw.new.rows grid.old grid.new }
 {
     let _cols = grid.cols();
@@ -311,7 +310,7 @@ pub fn redraw_session<T: Marked + Drop>(
         user: &session.user,
     };
     let mut redraw = Redraw {
-        before: mem::replace(drawn_texts, DrawnTexts::new()),
+        before: drawn_texts,
         texts: DrawnTexts::new(),
         rows: RowSet::none(),
     };
@@ -330,6 +329,7 @@ pub fn redraw_session<T: Marked + Drop>(
         first += window.height + 1;
     }
     redraw_last_row(&session.state, first, cursor, &mut redraw.rows, grid);
-    *drawn_texts = redraw.texts;
-    redraw.rows
+    let Redraw { texts, rows, .. } = redraw;
+    *drawn_texts = texts;
+    rows
 }

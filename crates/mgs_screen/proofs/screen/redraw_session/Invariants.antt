@@ -28,4 +28,4 @@ pub record Drawing (d : Directory) (user : List ℕ) (ks : List MarkedBuffer) (s
   pub stands : AreStandingAround first (buffers_of ks) new olds news
 
 abbrev pub invariant-loop-i : goal.invariant-loop-i
-invariant-loop-i g l = Drawing l.directory l.session.user l.buffers l.selected l.i l.first l.window-items l.cursor l.judge l.redraw.before l.redraw.texts l.initial.redraw.rows l.redraw.rows l.initial.grid l.grid
+invariant-loop-i g l = Drawing l.directory l.session.user l.buffers l.selected l.i l.first l.window-items l.cursor l.judge l.redraw.before.now l.redraw.texts l.initial.redraw.rows l.redraw.rows l.initial.grid l.grid

@@ -27,7 +27,7 @@ measure-measures-requires-clause-known g c =
     let name : List ℕ = c.args.found.now.name in
     let bs : List Buffer = buffers_of c.args.found.now.all in
     let o : Option Shown = c.drawn-earlier.result in
-    let stands : IfSome o (λ e. Stands bs p (text_then name first c.args.height e)) = found_stands bs p c.args.redraw.now.before c.args.place.index c.name-name.result.now name first c.args.height o c.requires.stands.from c.name-name.ensures.value c.drawn-earlier.ensures in
+    let stands : IfSome o (λ e. Stands bs p (text_then name first c.args.height e)) = found_stands bs p c.args.redraw.now.before.now c.args.place.index c.name-name.result.now name first c.args.height o c.requires.stands.from c.name-name.ensures.value c.drawn-earlier.ensures in
     subst (λ (ys : List ℕ). IfSome c.known_stop-known.result (IsTabStop ys)) (sym c.text-text.ensures.text) (c.known_stop-known.ensures p first c.args.height stands)
 
 pub returns-clause-lines : goal.returns-clause-lines
@@ -74,7 +74,7 @@ returns-clause-stands g c =
     let put : IsPut first (pane ++ mode_row p.cols mode ∷ []) p q =
     pane_put first height pane mode p c.redraw_pane.new.grid q c.requires.room.rows c.cols-cols.ensures.picture.count size c.redraw_pane.ensures.grid c.redraw_mode.ensures.grid in
     let there : find_buffer d.name (buffers_of ks) ≡ Some b = ap (λ (n : List ℕ). find_buffer n (buffers_of ks)) c.name-name.ensures.value ∙ found_buffer c.args.found.now.name ks c.name-name.ensures.kept in
-    texts_kept (buffers_of ks) p q d b text c.args.redraw.now.before c.args.redraw.now.texts c.push.new.self put
+    texts_kept (buffers_of ks) p q d b text c.args.redraw.now.before.now c.args.redraw.now.texts c.push.new.self put
     there c.serial.ensures c.len.ensures.value c.measure-measures.ensures.top.within c.measure-measures.ensures.stop c.text-text.ensures.text c.push.ensures c.requires.stands
 
 pub redraw_mode-requires-clause-stands : goal.redraw_mode-requires-clause-stands
@@ -90,7 +90,7 @@ redraw_mode-requires-clause-stands g c =
     let pane : List Row = text_rows p.cols (shift_at m.row m.shift) 0 height rest in
     let size : length pane ≡ height = length-text_rows p.cols (shift_at m.row m.shift) 0 height rest in
     let put : IsPut first pane p c.redraw_pane.new.grid = is_put first pane p c.redraw_pane.new.grid c.redraw_pane.ensures.grid (omega (arith, size, c.requires.room.rows, c.cols-cols.ensures.picture.count)) in
-    let stands = found_stands bs p c.args.redraw.now.before c.args.place.index c.name-name.result.now name first height o c.requires.stands.from c.name-name.ensures.value c.drawn-earlier.ensures in
+    let stands = found_stands bs p c.args.redraw.now.before.now c.args.place.index c.name-name.result.now name first height o c.requires.stands.from c.name-name.ensures.value c.drawn-earlier.ensures in
     let there : IfSome o (λ e. DoesShowMode (first + height) name e.mode c.redraw_pane.new.grid) =
     mode_stays (first + height) first name pane p c.redraw_pane.new.grid o put (omega (arith, size)) (mode_stands bs p name first height o stands) in
     subst (λ (n : List ℕ). IfSome o (λ e. DoesShowMode (first + height) n e.mode c.redraw_pane.new.grid)) (sym c.name-name.ensures.value) there

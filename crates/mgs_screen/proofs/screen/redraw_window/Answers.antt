@@ -97,7 +97,7 @@ returns-in_default-clause-stands g c =
     let rows : List Row = pane_rows c.args.place.selected p.cols w.height (rows_to c.args.viewer.now.directory.now c.args.viewer.now.user.now c.args.buffers.now w.rows) in
     let size : length rows ≡ w.height + 1 = length_rows c.args.place.selected p.cols w.height c.args.viewer.now.directory.now c.args.viewer.now.user.now c.args.buffers.now w.rows in
     let put : IsPut first rows p q = is_put first rows p q (c.draw_rows.ensures.grid c.args.place.selected) (omega (arith, size, c.requires.room.rows, c.cols-cols.ensures.picture.count)) in
-    texts_passed (buffers_of c.args.buffers.now) p q first (first + (w.height + 1)) rows c.args.redraw.now.before c.args.redraw.now.texts c.note_rows.new.texts put (omega (arith, size)) c.note_rows.ensures.texts c.requires.stands
+    texts_passed (buffers_of c.args.buffers.now) p q first (first + (w.height + 1)) rows c.args.redraw.now.before.now c.args.redraw.now.texts c.note_rows.new.texts put (omega (arith, size)) c.note_rows.ensures.texts c.requires.stands
 
 pub returns-in_default-clause-drawn : goal.returns-in_default-clause-drawn
 returns-in_default-clause-drawn g c =
@@ -120,7 +120,7 @@ returns-clause-stands g c =
     let size : length pane ≡ w.height = length-unread_rows p.cols w.height c.denial-decision.result in
     let mode : List ℕ = buffer_mode (told_as c.name.result.now c.seen-heading.result.0) None in
     let put : IsPut first (pane ++ mode_row p.cols mode ∷ []) p q = pane_put first w.height pane mode p c.draw_unread.new.self q c.requires.room.rows c.cols-cols.ensures.picture.count size c.draw_unread.ensures c.draw_unread_mode.ensures in
-    texts_passed (buffers_of c.args.buffers.now) p q first (first + (w.height + 1)) (pane ++ mode_row p.cols mode ∷ []) c.args.redraw.now.before c.args.redraw.now.texts c.note_rows-2.new.texts put
+    texts_passed (buffers_of c.args.buffers.now) p q first (first + (w.height + 1)) (pane ++ mode_row p.cols mode ∷ []) c.args.redraw.now.before.now c.args.redraw.now.texts c.note_rows-2.new.texts put
     (omega (arith, length-append pane (mode_row p.cols mode ∷ []), size)) c.note_rows-2.ensures.texts c.requires.stands
 
 pub returns-clause-drawn : goal.returns-clause-drawn
