@@ -24,7 +24,8 @@ fn push_piece(body: &mut String, piece: &[char]) -> Result<(), AllocError>
 fn body_of<T: Marked>(alloc: Global, text: &T) -> Result<String, AllocError>
     ensures { IfOk result (λ body. string_bytes body ≡ encode_utf8_all (T.text text.now)) }
 {
-    let mut body = String::new(alloc);
+    // Where there is no room for one byte a character, nothing is written.
+    let mut body = String::with_capacity(alloc, text.len())?;
     let mut at = 0;
     while at < text.len() {
         let piece = text.piece(at);
@@ -102,6 +103,7 @@ fn keep_text<T: Marked + Drop, S: Store + Drop, J: Journal>(
     requires { failed.old ≡ false → AreKept J.kept engine.now journal.old }
     ensures kept { failed.new ≡ false → J.kept journal.new ≡ J.kept journal.old }
     ensures journal { OrFails J.fails (HasPut J.does engine.now) failed.old journal.old failed.new journal.new }
+    ensures left { result ≡ false → (journal.new ≡ journal.old) × (failed.new ≡ failed.old) }
 {
     if *failed {
         return true;
@@ -138,6 +140,7 @@ fn keep_in_room<T: Marked + Drop, S: Store + Drop, J: Journal>(
     requires { failed.old ≡ false → AreKept J.kept engine.now journal.old }
     ensures kept { failed.new ≡ false → J.kept journal.new ≡ J.kept journal.old }
     ensures journal { OrFails J.fails (HasPut J.does engine.now) failed.old journal.old failed.new journal.new }
+    ensures left { result ≡ false → (journal.new ≡ journal.old) × (failed.new ≡ failed.old) }
 {
     if journal.text(i).is_none() {
         return keep_text(alloc, engine, journal, failed, i);
@@ -148,20 +151,35 @@ fn keep_in_room<T: Marked + Drop, S: Store + Drop, J: Journal>(
     is_done
 }
 
-// The place of the first buffer from one on that does not stand as it did when its text was kept.
-fn unkept_from<T: Marked + Drop, S: Store + Drop>(
+// Has the journal keep the text of the buffer at a place, where it does not stand as it did when its text was kept, unless it failed. Whether
+// that is done: not where memory was refused, which leaves it for the next round.
+fn is_kept_now<T: Marked + Drop, S: Store + Drop, J: Journal>(
+    alloc: Global,
     engine: &Engine<T, S>,
-    round: &Round,
-    from: usize,
-) -> Option<(usize, Standing)> {
-    for place in from..engine.buffers().len() {
-        if let Some(standing) = standing_at(engine, place) {
-            if !round.is_noted(place, standing) {
-                return Some((place, standing));
-            }
-        }
+    journal: &mut J,
+    failed: &mut bool,
+    round: &mut Round,
+    room: &mut Room,
+    place: usize,
+) -> bool
+    requires { failed.old ≡ false → AreKept J.kept engine.now journal.old }
+    ensures kept { failed.new ≡ false → J.kept journal.new ≡ J.kept journal.old }
+    ensures journal { OrFails J.fails (HasPut J.does engine.now) failed.old journal.old failed.new journal.new }
+    ensures left { result ≡ false → (journal.new ≡ journal.old) × (failed.new ≡ failed.old) }
+{
+    let Some(standing) = standing_at(engine, place) else {
+        return false;
+    };
+    if round.is_noted(place, standing) {
+        return false;
     }
-    None
+    let is_done = keep_in_room(alloc, engine, journal, failed, room, place);
+    if is_done {
+        round.note(place, standing);
+    } else {
+        round.type_on(false);
+    }
+    is_done
 }
 
 /// Has the journal keep the text that is next in a round, unless it failed: of one buffer at most.
@@ -180,16 +198,13 @@ pub(crate) fn keep_next<T: Marked + Drop, S: Store + Drop, J: Journal>(
     let Some(from) = round.next(journal.is_text_due()) else {
         return;
     };
-    let Some((place, standing)) = unkept_from(engine, round, from) else {
-        round.go_on(None);
-        return;
-    };
-    if keep_in_room(alloc, engine, journal, failed, room, place) {
-        round.note(place, standing);
-    } else {
-        round.type_on(false);
+    for place in from..engine.buffers().len() {
+        if is_kept_now(alloc, engine, journal, failed, round, room, place) {
+            round.go_on(place.checked_add(1));
+            return;
+        }
     }
-    round.go_on(place.checked_add(1));
+    round.go_on(None);
 }
 
 fn place_named<T: Marked + Drop, S: Store + Drop>(
