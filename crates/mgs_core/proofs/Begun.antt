@@ -1,6 +1,7 @@
 -- A byte that comes is kept where a macro is recorded, and is to be handled; or it is one too many for the macro.
 use Rattle.std.proofs.Common.{◌≡◌, ℕ, ◌≤◌, ◌<◌, Bool, true, false, cond, List, [], ◌∷◌, get_or, length, Option, None, Some, refl, sym, ap, subst, ◌∙◌, arith}
-use Rattle.std.specs.Prelude.{slice_set}
+use Rattle.std.specs.Prelude.{Vec, slice_get, slice_set}
+use Rattle.std.specs.Vec.{with_items}
 use Rattle.std.specs.List.{position_or_len}
 use Rattle.mgs_model.specs.Access.{Directory}
 use Rattle.mgs_model.specs.World.{State, World, Buffer, Session, Todo, has_id}
@@ -22,7 +23,8 @@ use Rattle.mgs_world.specs.Worlds.{aim_mode, buffers_of, mode_in, search_of, siz
 use Rattle.mgs_world.proofs.Soundness.{sound_set, sizes_set}
 use Rattle.mgs_core.specs.Calls.{closed}
 use Rattle.mgs_core.specs.Turns.{has_all, weight}
-use Rattle.mgs_core.proofs.Steps.{set_there, world_changed}
+use Rattle.mgs_core.proofs.Lent.{lent}
+use Rattle.mgs_core.proofs.Steps.{session_there, set_there, world_changed}
 
 -- A WORLD IN WHICH WHAT A SESSION HOLDS CHANGED
 
@@ -69,6 +71,13 @@ search_still bs (Some s) p = by s.aim
 -- the one at the place begins, and all others stay
 abbrev pub Begins : ℕ → ℕ → code.Session → List code.Session → List code.Session → Type 0
 Begins byte at h xs ys = (h ≡ get_or xs at h) × (ys ≡ slice_set xs at (held.begun byte h))
+
+-- so it is where the sessions were lent by a vector
+pub begun_lent : {Z : Type 0} (v : Vec code.Session Z) (xs ys : List code.Session) (at byte : ℕ) (h : code.Session) → xs ≡ v.items → length ys ≡ v.len → at < length v.items → h ≡ get_or v.items at h
+    → ((x : code.Session) → slice_get xs at ≡ Some x → ys ≡ slice_set xs at (held.begun byte x)) → Begins byte at h v.items (with_items v ys).items
+begun_lent v xs ys at byte h is same within here begins =
+    let there : h ≡ get_or xs at h = subst (λ (zs : List code.Session). h ≡ get_or zs at h) (sym is) here in
+    lent (Begins byte at h) v xs ys is same (there, begins h (session_there xs at h (subst (λ (zs : List code.Session). at < length zs) (sym is) within) there))
 
 pub begun_world : (d : Directory) (ks : List MarkedBuffer) (xs ys : List code.Session) (next : Option ℕ) (id at byte : ℕ) (h : code.Session) → at ≡ position_or_len (session_id id) xs → at < length xs → Begins byte at h xs ys → world_of d ks ys next ≡ with_state id (begun_state byte) (world_of d ks xs next)
 begun_world d ks xs ys next id at byte h place within begins =

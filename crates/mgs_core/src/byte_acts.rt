@@ -9,6 +9,7 @@ ghost use Rattle.mgs_core.specs.AtPlace.{IsKeyActDone, IsActDone, LeavesFewer};
 ghost use Rattle.mgs_core.specs.KeyActs.{is_acted, started_by, started_in};
 ghost use Rattle.mgs_core.specs.ByteActs.{CanDo, IsReady, asked_of, model_act, is_asked, may_want_memory};
 
+use crate::world::World;
 use mgs_act::{act, answer};
 use mgs_buffers::Buffers;
 use mgs_marks::Marked;
@@ -127,8 +128,8 @@ fn do_key_act<T: Marked + Drop, S: Store>(
     }
 }
 
-/// Does what is to be done, by the session at `at`, where this was there before. The error: memory was refused, and nothing of it was done.
-pub fn do_byte_act<T: Marked + Drop, S: Store>(
+/// Does what is to be done, to the parts of the world.
+fn do_in_parts<T: Marked + Drop, S: Store>(
     buffers: &mut Buffers<T>,
     directory: &Directory,
     sessions: &mut [Session],
@@ -184,4 +185,37 @@ pub fn do_byte_act<T: Marked + Drop, S: Store>(
             Ok(Touched::Nowhere)
         }
     }
+}
+
+/// Does what is to be done, by the session at `at`, where this was there before. The error: memory was refused, and nothing of it was done.
+pub fn do_byte_act<T: Marked + Drop, S: Store>(
+    world: &mut World<T>,
+    at: usize,
+    store: &mut S,
+    act: ByteAct,
+    before: &ModeBefore,
+) -> Result<Touched, Short>
+    requires sound { IsSound world.old.buffers world.old.sessions.items }
+    requires within { at < length world.old.sessions.items }
+    requires ready { IsReady act (search_held at world.old.sessions.items) (state_at at world.old.sessions.items) }
+    requires here { CanDo before.now act }
+    ensures directory { world.new.directory ≡ world.old.directory }
+    ensures count { length world.new.sessions.items ≡ length world.old.sessions.items }
+    ensures sound { IsSound world.new.buffers world.new.sessions.items }
+    ensures ok { IsActDone S.failed S.accepted world.old.directory at act before.now world.old.buffers world.old.sessions.items store.old world.new.buffers world.new.sessions.items store.new result }
+    ensures wants { OnErr result (may_want_memory act ≡ true) }
+    ensures err { OnErr result (IsSameWorld world.old.directory world.old.buffers world.new.buffers world.old.sessions.items world.new.sessions.items) }
+    ensures unasked { OnErr result (store.new ≡ store.old) }
+    ensures may { OnErr result (IsRefusable world.old.directory at (model_act (state_at at world.old.sessions.items) before.now act) world.old.buffers world.old.sessions.items) }
+    ensures further { OnOk result (LeavesFewer act at world.old.buffers world.new.buffers world.old.sessions.items world.new.sessions.items) }
+{
+    do_in_parts(
+        &mut world.buffers,
+        &world.directory,
+        &mut world.sessions,
+        at,
+        store,
+        act,
+        before,
+    )
 }

@@ -8,6 +8,7 @@ mod secrecy;
 mod server;
 mod turning;
 mod typing;
+mod world;
 
 pub use laws::{kill_stays, outcomes_are_lawful, settled_stays};
 pub use mgs_model::{Keyed, OpenFault, SessionId};

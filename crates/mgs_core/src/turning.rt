@@ -22,6 +22,7 @@ ghost use Rattle.mgs_core.specs.Turns.{IsFit, goes_on, has_all, touched_both, we
 use crate::byte_acts::{Before, ByteAct, ModeBefore, do_byte_act};
 use crate::keying::ByteStep;
 use crate::typing::step_byte;
+use crate::world::World;
 use mgs_buffers::Buffers;
 use mgs_cache::Judge;
 use mgs_maps::Keyboard;
@@ -165,38 +166,37 @@ fn forget_touched(judge: &mut Judge, touched: &Touched)
 
 /// Does what a turn asks for by the session at `at`, where this was there before.
 fn act_turn<T: Marked + Drop, S: Store>(
-    buffers: &mut Buffers<T>,
+    world: &mut World<T>,
     judge: &mut Judge,
-    directory: &Directory,
-    sessions: &mut [Session],
     at: usize,
     store: &mut S,
     id: SessionId,
     act: ByteAct,
     was: &mut Before,
 ) -> Result<Touched, Short>
-    requires sound { IsSound buffers.old sessions.old }
-    requires place { at ≡ position_or_len (session_id id) sessions.old }
-    requires within { at < length sessions.old }
-    requires ready { IsReady act (search_held at sessions.old) (state_at at sessions.old) }
+    requires sound { IsSound world.old.buffers world.old.sessions.items }
+    requires place { at ≡ position_or_len (session_id id) world.old.sessions.items }
+    requires within { at < length world.old.sessions.items }
+    requires ready { IsReady act (search_held at world.old.sessions.items) (state_at at world.old.sessions.items) }
     requires here { CanDo was.old.mode act }
-    requires judged { AreJudged directory.now (rules_kept buffers.old) judge.old }
-    ensures judged { AreJudged directory.now (rules_kept buffers.new) judge.new }
-    ensures sound { IsSound buffers.new sessions.new }
-    ensures sizes { sizes_in sessions.new ≡ sizes_in sessions.old }
-    ensures ok { IsActDone S.failed S.accepted directory.now at act was.old.mode buffers.old sessions.old store.old buffers.new sessions.new store.new result }
-    ensures err { OnErr result (IsActRefused directory.now at was.old act buffers.old buffers.new sessions.old sessions.new) }
+    requires judged { AreJudged world.old.directory (rules_kept world.old.buffers) judge.old }
+    ensures judged { AreJudged world.old.directory (rules_kept world.new.buffers) judge.new }
+    ensures sound { IsSound world.new.buffers world.new.sessions.items }
+    ensures directory { world.new.directory ≡ world.old.directory }
+    ensures sizes { sizes_in world.new.sessions.items ≡ sizes_in world.old.sessions.items }
+    ensures ok { IsActDone S.failed S.accepted world.old.directory at act was.old.mode world.old.buffers world.old.sessions.items store.old world.new.buffers world.new.sessions.items store.new result }
+    ensures err { OnErr result (IsActRefused world.old.directory at was.old act world.old.buffers world.new.buffers world.old.sessions.items world.new.sessions.items) }
     ensures unasked { OnErr result (store.new ≡ store.old) }
-    ensures further { OnOk result (LeavesFewer act at buffers.old buffers.new sessions.old sessions.new) }
-    ensures touched { IfOk result (λ touched. AreApart touched id directory.now buffers.old buffers.new sessions.old sessions.new) }
+    ensures further { OnOk result (LeavesFewer act at world.old.buffers world.new.buffers world.old.sessions.items world.new.sessions.items) }
+    ensures touched { IfOk result (λ touched. AreApart touched id world.old.directory world.old.buffers world.new.buffers world.old.sessions.items world.new.sessions.items) }
 {
-    match do_byte_act(buffers, directory, sessions, at, store, act, &was.mode) {
+    match do_byte_act(world, at, store, act, &was.mode) {
         Ok(touched) => {
             forget_touched(judge, &touched);
             Ok(touched)
         }
         Err(Short) => {
-            refuse(&mut sessions[at], was);
+            refuse(&mut world.sessions[at], was);
             Err(Short)
         }
     }
@@ -216,46 +216,49 @@ fn answer_without_act(step: ByteStep) -> (Keyed, Touched)
 /// The next of what the session at `at` has still to do is done, or refused for want of memory, or ends its session, which is then to be
 /// taken out. It tells what it touched, and whether it changed so little that each window stands where it stood. No window settles.
 fn take_turn<T: Marked + Drop, S: Store>(
-    buffers: &mut Buffers<T>,
+    world: &mut World<T>,
     judge: &mut Judge,
-    directory: &Directory,
-    sessions: &mut [Session],
     at: usize,
     store: &mut S,
     id: SessionId,
 ) -> (Keyed, Touched, bool)
-    requires sound { IsSound buffers.old sessions.old }
-    requires place { at ≡ position_or_len (session_id id) sessions.old }
-    requires within { at < length sessions.old }
-    requires judged { AreJudged directory.now (rules_kept buffers.old) judge.old }
-    requires some { (state_at at sessions.old).todo ≡ [] → ⊥ }
-    requires fit { IsFit (state_at at sessions.old) }
-    ensures judged { AreJudged directory.now (rules_kept buffers.new) judge.new }
-    ensures sound { IsSound buffers.new sessions.new }
-    ensures sizes { sizes_in sessions.new ≡ sizes_in sessions.old }
-    ensures less { result.0 ≡ Done → LeavesLess at buffers.old buffers.new sessions.old sessions.new }
-    ensures fit { result.0 ≡ Done → IsFit (state_at at sessions.new) }
-    ensures turned { IsTurned S.failed S.accepted directory.now at id buffers.old sessions.old store.old buffers.new sessions.new store.new result.0 }
-    ensures stands { result.2 ≡ true → StaySettled directory.now buffers.old buffers.new sessions.old sessions.new }
-    ensures alone { result.2 ≡ true → StateAlone at buffers.old buffers.new sessions.old sessions.new }
-    ensures touched { AreApart result.1 id directory.now buffers.old buffers.new sessions.old sessions.new }
+    requires sound { IsSound world.old.buffers world.old.sessions.items }
+    requires place { at ≡ position_or_len (session_id id) world.old.sessions.items }
+    requires within { at < length world.old.sessions.items }
+    requires judged { AreJudged world.old.directory (rules_kept world.old.buffers) judge.old }
+    requires some { (state_at at world.old.sessions.items).todo ≡ [] → ⊥ }
+    requires fit { IsFit (state_at at world.old.sessions.items) }
+    ensures judged { AreJudged world.old.directory (rules_kept world.new.buffers) judge.new }
+    ensures sound { IsSound world.new.buffers world.new.sessions.items }
+    ensures directory { world.new.directory ≡ world.old.directory }
+    ensures sizes { sizes_in world.new.sessions.items ≡ sizes_in world.old.sessions.items }
+    ensures less { result.0 ≡ Done → LeavesLess at world.old.buffers world.new.buffers world.old.sessions.items world.new.sessions.items }
+    ensures fit { result.0 ≡ Done → IsFit (state_at at world.new.sessions.items) }
+    ensures turned { IsTurned S.failed S.accepted world.old.directory at id world.old.buffers world.old.sessions.items store.old world.new.buffers world.new.sessions.items store.new result.0 }
+    ensures stands { result.2 ≡ true → StaySettled world.old.directory world.old.buffers world.new.buffers world.old.sessions.items world.new.sessions.items }
+    ensures alone { result.2 ≡ true → StateAlone at world.old.buffers world.new.buffers world.old.sessions.items world.new.sessions.items }
+    ensures touched { AreApart result.1 id world.old.directory world.old.buffers world.new.buffers world.old.sessions.items world.new.sessions.items }
 {
     // Tells the prover that each text is within the limit.
-    let _count = buffers.len();
-    let session = &sessions[at];
+    let _count = world.buffers.len();
+    let session = &world.sessions[at];
     let is_playing = session.state.player.is_playing();
     let mut was = Before {
         mode: ModeBefore::Plain,
         kind: session.state.kind,
         is_playing,
     };
-    let step = next_step(buffers, judge, directory, &mut sessions[at], &mut was.mode);
+    let step = next_step(
+        &world.buffers,
+        judge,
+        &world.directory,
+        &mut world.sessions[at],
+        &mut was.mode,
+    );
     match step {
         ByteStep::Acts(act) => {
-            let done = act_turn(
-                buffers, judge, directory, sessions, at, store, id, act, &mut was,
-            );
-            let _later = buffers.len();
+            let done = act_turn(world, judge, at, store, id, act, &mut was);
+            let _later = world.buffers.len();
             match done {
                 Ok(touched) => (Keyed::Done, touched, false),
                 Err(Short) => (Keyed::Short, Touched::Nowhere, false),
@@ -282,33 +285,32 @@ fn goes_on(keyed: Keyed, sessions: &[Session], at: usize) -> bool
 /// Turn after turn is taken until nothing is left to do, or memory is refused, or the session is to be taken out. No window settles; it tells whether
 /// each stands where it stood.
 pub fn take_turns<T: Marked + Drop, S: Store>(
-    buffers: &mut Buffers<T>,
+    world: &mut World<T>,
     judge: &mut Judge,
-    directory: &Directory,
-    sessions: &mut [Session],
     at: usize,
     store: &mut S,
     id: SessionId,
 ) -> (Keyed, Touched, bool)
-    requires sound { IsSound buffers.old sessions.old }
-    requires place { at ≡ position_or_len (session_id id) sessions.old }
-    requires within { at < length sessions.old }
-    requires judged { AreJudged directory.now (rules_kept buffers.old) judge.old }
-    requires weight { weight 0 (state_at at sessions.old).todo ≤ 53689341958 }
-    requires none { has_all (state_at at sessions.old).todo ≡ false }
-    ensures judged { AreJudged directory.now (rules_kept buffers.new) judge.new }
-    ensures sound { IsSound buffers.new sessions.new }
-    ensures sizes { sizes_in sessions.new ≡ sizes_in sessions.old }
-    ensures event { IsEvent S.failed S.accepted directory.now id buffers.old sessions.old store.old buffers.new sessions.new store.new result.0 }
-    ensures stands { result.2 ≡ true → StaySettled directory.now buffers.old buffers.new sessions.old sessions.new }
-    ensures alone { result.2 ≡ true → StateAlone at buffers.old buffers.new sessions.old sessions.new }
-    ensures touched { AreApart result.1 id directory.now buffers.old buffers.new sessions.old sessions.new }
+    requires sound { IsSound world.old.buffers world.old.sessions.items }
+    requires place { at ≡ position_or_len (session_id id) world.old.sessions.items }
+    requires within { at < length world.old.sessions.items }
+    requires judged { AreJudged world.old.directory (rules_kept world.old.buffers) judge.old }
+    requires weight { weight 0 (state_at at world.old.sessions.items).todo ≤ 53689341958 }
+    requires none { has_all (state_at at world.old.sessions.items).todo ≡ false }
+    ensures judged { AreJudged world.old.directory (rules_kept world.new.buffers) judge.new }
+    ensures sound { IsSound world.new.buffers world.new.sessions.items }
+    ensures directory { world.new.directory ≡ world.old.directory }
+    ensures sizes { sizes_in world.new.sessions.items ≡ sizes_in world.old.sessions.items }
+    ensures event { IsEvent S.failed S.accepted world.old.directory id world.old.buffers world.old.sessions.items store.old world.new.buffers world.new.sessions.items store.new result.0 }
+    ensures stands { result.2 ≡ true → StaySettled world.old.directory world.old.buffers world.new.buffers world.old.sessions.items world.new.sessions.items }
+    ensures alone { result.2 ≡ true → StateAlone at world.old.buffers world.new.buffers world.old.sessions.items world.new.sessions.items }
+    ensures touched { AreApart result.1 id world.old.directory world.old.buffers world.new.buffers world.old.sessions.items world.new.sessions.items }
 {
     let mut keyed = Keyed::Done;
     let mut touched = Touched::Nowhere;
     let mut stands = true;
-    while goes_on(keyed, sessions, at) {
-        let (next, more, still) = take_turn(buffers, judge, directory, sessions, at, store, id);
+    while goes_on(keyed, &world.sessions, at) {
+        let (next, more, still) = take_turn(world, judge, at, store, id);
         keyed = next;
         touched = touched_both(touched, more);
         stands = stands & still;
@@ -360,38 +362,44 @@ fn begin_at(sessions: &mut [Session], at: usize, byte: u8)
 
 /// A byte of the session at `at`, as `Core::key` says, but that `Quit` changes what the session holds alone: it is to be taken out.
 pub fn type_in<T: Marked + Drop, S: Store>(
-    buffers: &mut Buffers<T>,
+    world: &mut World<T>,
     judge: &mut Judge,
-    directory: &Directory,
-    sessions: &mut [Session],
     at: usize,
     store: &mut S,
     id: SessionId,
     byte: u8,
 ) -> (Keyed, Touched, bool)
-    requires sound { IsSound buffers.old sessions.old }
-    requires settles { AreSettled directory.now buffers.old sessions.old }
-    requires place { at ≡ position_or_len (session_id id) sessions.old }
-    requires within { at < length sessions.old }
-    requires unique { IsUnique (sizes_in sessions.old) }
-    requires judged { AreJudged directory.now (rules_kept buffers.old) judge.old }
-    ensures judged { AreJudged directory.now (rules_kept buffers.new) judge.new }
-    ensures sound { IsSound buffers.new sessions.new }
-    ensures sizes { sizes_in sessions.new ≡ sizes_in sessions.old }
-    ensures gone { result.0 ≡ Quit → IsSameBut id directory.now buffers.old buffers.new sessions.old sessions.new }
+    requires sound { IsSound world.old.buffers world.old.sessions.items }
+    requires settles { AreSettled world.old.directory world.old.buffers world.old.sessions.items }
+    requires place { at ≡ position_or_len (session_id id) world.old.sessions.items }
+    requires within { at < length world.old.sessions.items }
+    requires unique { IsUnique (sizes_in world.old.sessions.items) }
+    requires judged { AreJudged world.old.directory (rules_kept world.old.buffers) judge.old }
+    ensures judged { AreJudged world.old.directory (rules_kept world.new.buffers) judge.new }
+    ensures sound { IsSound world.new.buffers world.new.sessions.items }
+    ensures directory { world.new.directory ≡ world.old.directory }
+    ensures sizes { sizes_in world.new.sessions.items ≡ sizes_in world.old.sessions.items }
+    ensures gone { result.0 ≡ Quit → IsSameBut id world.old.directory world.old.buffers world.new.buffers world.old.sessions.items world.new.sessions.items }
     ensures left { result.0 ≡ Quit → store_told S.failed S.accepted store.new ≡ store_told S.failed S.accepted store.old }
-    ensures keyed { IsTyped S.failed S.accepted directory.now id byte buffers.old sessions.old store.old buffers.new sessions.new store.new result.0 }
-    ensures touched { AreApart result.1 id directory.now buffers.old buffers.new sessions.old sessions.new }
-    ensures still { result.2 ≡ true → StaysStill id directory.now buffers.old buffers.new sessions.old sessions.new }
+    ensures keyed { IsTyped S.failed S.accepted world.old.directory id byte world.old.buffers world.old.sessions.items store.old world.new.buffers world.new.sessions.items store.new result.0 }
+    ensures touched { AreApart result.1 id world.old.directory world.old.buffers world.new.buffers world.old.sessions.items world.new.sessions.items }
+    ensures still { result.2 ≡ true → StaysStill id world.old.directory world.old.buffers world.new.buffers world.old.sessions.items world.new.sessions.items }
 {
-    let was = is_bare(&sessions[at]);
-    begin_at(sessions, at, byte);
-    let (keyed, touched, stands) = take_turns(buffers, judge, directory, sessions, at, store, id);
+    let was = is_bare(&world.sessions[at]);
+    begin_at(&mut world.sessions, at, byte);
+    let (keyed, touched, stands) = take_turns(world, judge, at, store, id);
     match keyed {
         Keyed::Quit => (keyed, touched, false),
         _ => {
-            settle_unless(stands, buffers, directory, sessions, id, &touched);
-            let now = is_bare(&sessions[at]);
+            settle_unless(
+                stands,
+                &mut world.buffers,
+                &world.directory,
+                &world.sessions,
+                id,
+                &touched,
+            );
+            let now = is_bare(&world.sessions[at]);
             (keyed, touched, stands & (was & now))
         }
     }

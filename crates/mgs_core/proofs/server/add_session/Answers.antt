@@ -10,21 +10,21 @@ use Rattle.mgs_core.proofs.server.add_session.Goals as goal
 pub returns-in-Ok-first_window_marks-clause-sound : goal.returns-in-Ok-first_window_marks-clause-sound
 returns-in-Ok-first_window_marks-clause-sound g c =
     subst (λ (xs : List Session). IsSound c.first_window_marks.new.buffers xs)
-    (sym (c.push_reserved.ensures.items ∙ ap (λ (xs : List Session). xs ++ c.opened.result ∷ []) c.reserve.ensures.items ∙ ap (λ (x : Session). c.args.sessions.now.items ++ x ∷ []) c.opened.ensures))
-    (opened_sound c.args.buffers.now c.first_window_marks.new.buffers c.args.sessions.now.items c.args.id c.args.user c.args.rows c.args.cols c.in-Ok-first_window_marks.shows (vec_capacity c.in-Ok.places) c.requires.sound c.in-Ok-first_window_marks.ensures.ok)
+    (sym (c.push_reserved.ensures.items ∙ ap (λ (xs : List Session). xs ++ c.opened.result ∷ []) c.reserve.ensures.items ∙ ap (λ (x : Session). c.args.world.now.sessions.items ++ x ∷ []) c.opened.ensures))
+    (opened_sound c.args.world.now.buffers c.first_window_marks.new.buffers c.args.world.now.sessions.items c.args.id c.args.user c.args.rows c.args.cols c.in-Ok-first_window_marks.shows (vec_capacity c.in-Ok.places) c.requires.sound c.in-Ok-first_window_marks.ensures.ok)
 
 pub returns-in-Ok-first_window_marks-clause-world : goal.returns-in-Ok-first_window_marks-clause-world
 returns-in-Ok-first_window_marks-clause-world g c =
-    opened_at c.args.directory.now c.args.buffers.now c.first_window_marks.new.buffers c.args.sessions.now.items c.push_reserved.new.self.items c.args.id c.args.user c.args.rows c.args.cols c.in-Ok-first_window_marks.shows (vec_capacity c.in-Ok.places)
+    opened_at c.args.world.now.directory c.args.world.now.buffers c.first_window_marks.new.buffers c.args.world.now.sessions.items c.push_reserved.new.self.items c.args.id c.args.user c.args.rows c.args.cols c.in-Ok-first_window_marks.shows (vec_capacity c.in-Ok.places)
     c.requires.sound c.in-Ok-first_window_marks.ensures.ok c.in-Ok-first_window_marks.ensures.name
-    (c.push_reserved.ensures.items ∙ ap (λ (xs : List Session). xs ++ c.opened.result ∷ []) c.reserve.ensures.items ∙ ap (λ (x : Session). c.args.sessions.now.items ++ x ∷ []) c.opened.ensures)
+    (c.push_reserved.ensures.items ∙ ap (λ (xs : List Session). xs ++ c.opened.result ∷ []) c.reserve.ensures.items ∙ ap (λ (x : Session). c.args.world.now.sessions.items ++ x ∷ []) c.opened.ensures)
 
 pub returns-in-Err-clause-err_world : goal.returns-in-Err-clause-err_world
 returns-in-Err-clause-err_world g c next =
-    ap (λ (xs : List Session). world_of c.args.directory.now c.first_window_marks.new.buffers xs next) c.reserve.ensures.items
-    ∙ world_undone c.args.directory.now c.args.buffers.now c.first_window_marks.new.buffers c.args.sessions.now.items next c.requires.sound c.in-Err.ensures.err
+    ap (λ (xs : List Session). world_of c.args.world.now.directory c.first_window_marks.new.buffers xs next) c.reserve.ensures.items
+    ∙ world_undone c.args.world.now.directory c.args.world.now.buffers c.first_window_marks.new.buffers c.args.world.now.sessions.items next c.requires.sound c.in-Err.ensures.err
 
 pub returns-in-Err-clause-sound : goal.returns-in-Err-clause-sound
 returns-in-Err-clause-sound g c =
     subst (λ (xs : List Session). IsSound c.first_window_marks.new.buffers xs) (sym c.reserve.ensures.items)
-    (sound_undone c.args.buffers.now c.first_window_marks.new.buffers c.args.sessions.now.items c.requires.sound c.in-Err.ensures.err)
+    (sound_undone c.args.world.now.buffers c.first_window_marks.new.buffers c.args.world.now.sessions.items c.requires.sound c.in-Err.ensures.err)

@@ -13,26 +13,26 @@ take_out-requires-clause-within g c = omega (arith, c.place_of-at.ensures.within
 
 pub returns-clause-sizes : goal.returns-clause-sizes
 returns-clause-sizes g c =
-    ap sizes_in c.take_out.ensures.rest ∙ sizes_removed c.args.id c.place_of-at.result c.args.sessions.now.items (c.place_of-at.ensures.value ∙ ap (position_or_len (session_id c.args.id)) c.deref.ensures.value)
+    ap sizes_in c.take_out.ensures.rest ∙ sizes_removed c.args.id c.place_of-at.result c.args.world.now.sessions.items (c.place_of-at.ensures.value ∙ ap (position_or_len (session_id c.args.id)) c.deref.ensures.value)
 
 pub returns-then-at-len-clause-sizes : goal.returns-then-at-len-clause-sizes
 returns-then-at-len-clause-sizes g c =
-    let past : c.place_of-at.result ≡ length c.args.sessions.now.items = omega (arith, c.if-at-len.true, c.len.ensures, c.deref.ensures.len, ap length c.deref.ensures.value) in
+    let past : c.place_of-at.result ≡ length c.args.world.now.sessions.items = omega (arith, c.if-at-len.true, c.len.ensures, c.deref.ensures.len, ap length c.deref.ensures.value) in
     sym
-    (remove_none (is_size_of c.args.id) (sizes_in c.args.sessions.now.items)
-    (no_size c.args.id c.place_of-at.result c.args.sessions.now.items (c.place_of-at.ensures.value ∙ ap (position_or_len (session_id c.args.id)) c.deref.ensures.value) past))
+    (remove_none (is_size_of c.args.id) (sizes_in c.args.world.now.sessions.items)
+    (no_size c.args.id c.place_of-at.result c.args.world.now.sessions.items (c.place_of-at.ensures.value ∙ ap (position_or_len (session_id c.args.id)) c.deref.ensures.value) past))
 
 pub returns-clause-rest : goal.returns-clause-rest
 returns-clause-rest g c directory next =
-    let xs = c.args.sessions.now.items in
+    let xs = c.args.world.now.sessions.items in
     let at = c.place_of-at.result in
     let within : at < length xs = omega (arith, c.place_of-at.ensures.within, ap length c.deref.ensures.value, c.len.ensures, c.if-at-len.false) in
     let found = some_at xs at within in
-    closed_at directory c.args.buffers.now c.take_out.new.buffers xs c.take_out.new.sessions.items next c.args.id at found.0
+    closed_at directory c.args.world.now.buffers c.take_out.new.world.buffers xs c.take_out.new.world.sessions.items next c.args.id at found.0
     c.requires (c.place_of-at.ensures.value ∙ ap (position_or_len (session_id c.args.id)) c.deref.ensures.value) within found.1
     c.take_out.ensures.buffers c.take_out.ensures.stay c.take_out.ensures.rest c.take_out.ensures.sound
 
 pub returns-then-at-len-clause-rest : goal.returns-then-at-len-clause-rest
 returns-then-at-len-clause-rest g c directory next =
-    let past : c.place_of-at.result ≡ length c.args.sessions.now.items = omega (arith, c.if-at-len.true, c.len.ensures, c.deref.ensures.len, ap length c.deref.ensures.value) in
-    closed_none _ c.args.id (session_none directory c.args.buffers.now c.args.sessions.now.items next c.args.id c.place_of-at.result (c.place_of-at.ensures.value ∙ ap (position_or_len (session_id c.args.id)) c.deref.ensures.value) past)
+    let past : c.place_of-at.result ≡ length c.args.world.now.sessions.items = omega (arith, c.if-at-len.true, c.len.ensures, c.deref.ensures.len, ap length c.deref.ensures.value) in
+    closed_none _ c.args.id (session_none directory c.args.world.now.buffers c.args.world.now.sessions.items next c.args.id c.place_of-at.result (c.place_of-at.ensures.value ∙ ap (position_or_len (session_id c.args.id)) c.deref.ensures.value) past)

@@ -1,4 +1,4 @@
-use Rattle.std.proofs.Common.{◌∙◌, List, None, get_or, refl, ap, sym, subst, arith}
+use Rattle.std.proofs.Common.{◌∙◌, List, None, refl, sym, subst, arith}
 use Rattle.mgs_cache.specs.Kept.{Kept}
 use Rattle.mgs_buffers.specs.Judging.{AreJudged, rules_kept}
 use Rattle.mgs_laws.specs.Apart.{Apart}
@@ -14,58 +14,58 @@ use Rattle.mgs_core.proofs.turning.act_turn.Goals as goal
 
 pub returns-in-Ok-clause-judged : goal.returns-in-Ok-clause-judged
 returns-in-Ok-clause-judged g c =
-    let d = c.args.directory.now in
-    let w = world_of d c.args.buffers.now c.args.sessions.now None in
-    let v = world_of d c.do_byte_act.new.buffers c.do_byte_act.new.sessions None in
+    let d = c.args.world.now.directory in
+    let w = world_of d c.args.world.now.buffers c.args.world.now.sessions.items None in
+    let v = world_of d c.do_byte_act.new.world.buffers c.do_byte_act.new.world.sessions.items None in
     let id = c.args.id in
     let t = c.in-Ok.touched in
-    subst (λ (keeps : List Kept). AreJudged d (rules_kept c.do_byte_act.new.buffers) keeps) (sym c.forget_touched.ensures)
+    subst (λ (keeps : List Kept). AreJudged d (rules_kept c.do_byte_act.new.world.buffers) keeps) (sym c.forget_touched.ensures)
     (touched_judged d t id w v c.args.judge.now (byte_act_apart t c.args.was.now.mode c.args.act w v _ _ id _ (c.in-Ok.ensures.ok id None c.requires.place)) c.requires.judged)
 
 pub returns-in-Ok-clause-sizes : goal.returns-in-Ok-clause-sizes
 returns-in-Ok-clause-sizes g c =
-    byte_act_sizes c.in-Ok.touched c.args.was.now.mode c.args.act c.args.directory.now c.args.buffers.now c.do_byte_act.new.buffers c.args.sessions.now c.do_byte_act.new.sessions c.args.id c.args.at _ _ _
-    c.requires.place c.requires.within c.do_byte_act.auto.sessions (c.in-Ok.ensures.ok c.args.id None c.requires.place)
+    byte_act_sizes c.in-Ok.touched c.args.was.now.mode c.args.act c.args.world.now.directory c.args.world.now.buffers c.do_byte_act.new.world.buffers c.args.world.now.sessions.items c.do_byte_act.new.world.sessions.items c.args.id c.args.at _ _ _
+    c.requires.place c.requires.within c.do_byte_act.ensures.count (c.in-Ok.ensures.ok c.args.id None c.requires.place)
 
 pub returns-in-Ok-clause-touched : goal.returns-in-Ok-clause-touched
 returns-in-Ok-clause-touched g c next =
-    byte_act_apart c.in-Ok.touched c.args.was.now.mode c.args.act (world_of c.args.directory.now c.args.buffers.now c.args.sessions.now next)
-    (world_of c.args.directory.now c.do_byte_act.new.buffers c.do_byte_act.new.sessions next) _ _ c.args.id _ (c.in-Ok.ensures.ok c.args.id next c.requires.place)
+    byte_act_apart c.in-Ok.touched c.args.was.now.mode c.args.act (world_of c.args.world.now.directory c.args.world.now.buffers c.args.world.now.sessions.items next)
+    (world_of c.args.world.now.directory c.do_byte_act.new.world.buffers c.do_byte_act.new.world.sessions.items next) _ _ c.args.id _ (c.in-Ok.ensures.ok c.args.id next c.requires.place)
 
 pub returns-in-Err-clause-judged : goal.returns-in-Err-clause-judged
 returns-in-Err-clause-judged g c =
-    let d = c.args.directory.now in
-    let w = world_of d c.args.buffers.now c.args.sessions.now None in
-    let v = world_of d c.do_byte_act.new.buffers c.do_byte_act.new.sessions None in
+    let d = c.args.world.now.directory in
+    let w = world_of d c.args.world.now.buffers c.args.world.now.sessions.items None in
+    let v = world_of d c.do_byte_act.new.world.buffers c.do_byte_act.new.world.sessions.items None in
     let same = c.in-Err.ensures.err None in
     touched_judged d Nowhere c.args.id w v c.args.judge.now (subst (Apart Nowhere c.args.id w) (sym same) (apart_same Nowhere c.args.id w)) c.requires.judged
 
 pub returns-in-Err-clause-sound : goal.returns-in-Err-clause-sound
 returns-in-Err-clause-sound g c =
-    let ys = c.do_byte_act.new.sessions in
-    let h = get_or ys c.args.at c.index-sessions-at.result in
-    rw c.refuse.ensures (sound_set c.do_byte_act.new.buffers ys c.args.at h _ (ap (get_or ys c.args.at) c.index-sessions-at.is) (λ n i. refl) c.do_byte_act.ensures.sound)
+    let ys = c.do_byte_act.new.world.sessions.items in
+    let h = c.index_mut.result.now in
+    rw c.refuse.ensures (sound_set c.do_byte_act.new.world.buffers ys c.args.at h _ c.index_mut.ensures.value (λ n i. refl) c.do_byte_act.ensures.sound)
 
 pub returns-in-Err-clause-sizes : goal.returns-in-Err-clause-sizes
 returns-in-Err-clause-sizes g c =
-    let ys = c.do_byte_act.new.sessions in
-    let h = get_or ys c.args.at c.index-sessions-at.result in
-    rw c.refuse.ensures (sizes_set ys c.args.at h _ (ap (get_or ys c.args.at) c.index-sessions-at.is) refl)
-    ∙ sizes_seen c.args.directory.now c.args.buffers.now c.do_byte_act.new.buffers c.args.sessions.now ys None (c.in-Err.ensures.err None)
+    let ys = c.do_byte_act.new.world.sessions.items in
+    let h = c.index_mut.result.now in
+    rw c.refuse.ensures (sizes_set ys c.args.at h _ c.index_mut.ensures.value refl)
+    ∙ sizes_seen c.args.world.now.directory c.args.world.now.buffers c.do_byte_act.new.world.buffers c.args.world.now.sessions.items ys None (c.in-Err.ensures.err None)
 
 pub returns-in-Err-clause-err : goal.returns-in-Err-clause-err
 returns-in-Err-clause-err g c =
-    let d = c.args.directory.now in
-    let ks = c.args.buffers.now in
-    let ls = c.do_byte_act.new.buffers in
-    let xs = c.args.sessions.now in
-    let ys = c.do_byte_act.new.sessions in
+    let d = c.args.world.now.directory in
+    let ks = c.args.world.now.buffers in
+    let ls = c.do_byte_act.new.world.buffers in
+    let xs = c.args.world.now.sessions.items in
+    let ys = c.do_byte_act.new.world.sessions.items in
     let at = c.args.at in
-    let h = get_or ys at c.index-sessions-at.result in
+    let h = c.index_mut.result.now in
     record {
       wants = c.in-Err.ensures.wants;
       told = λ x next is.
           refused_in_world d ks ls xs ys next at x h c.refuse.new.session c.args.was.now
-          (omega (arith, c.requires.within, c.do_byte_act.auto.sessions)) is (ap (get_or ys at) c.index-sessions-at.is) c.refuse.ensures (c.in-Err.ensures.err next);
+          (omega (arith, c.requires.within, c.do_byte_act.ensures.count)) is c.index_mut.ensures.value c.refuse.ensures (c.in-Err.ensures.err next);
       may = c.in-Err.ensures.may;
     }

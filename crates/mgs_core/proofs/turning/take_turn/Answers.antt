@@ -1,4 +1,4 @@
-use Rattle.std.proofs.Common.{◌∙◌, ℕ, Option, None, get_or, ap, subst, sym}
+use Rattle.std.proofs.Common.{◌∙◌, ℕ, Option, None, ap, refl, subst, sym}
 use Rattle.std.specs.Prelude.{slice_set}
 use Rattle.std.proofs.lemmas.List.{get_or_default}
 use Rattle.mgs_model.specs.declared.touched.Touched.TheVariants.{Nowhere}
@@ -20,18 +20,19 @@ use Rattle.mgs_core.proofs.turning.take_turn.Goals as goal
 
 pub next_step-step-requires-clause-some : goal.next_step-step-requires-clause-some
 next_step-step-requires-clause-some g c none =
-    let xs = c.args.sessions.now in
-    some_there xs c.args.at (get_or xs c.args.at c.index-sessions-at-2.result) c.requires.within (ap (get_or xs c.args.at) c.index-sessions-at-2.is) c.requires.some none
+    let xs = c.args.world.now.sessions.items in
+    some_there xs c.args.at c.index_mut.result.now c.requires.within c.index_mut.ensures.value c.requires.some none
 
 pub returns-in_default : goal.returns-in_default
 returns-in_default g c =
-    let d = c.args.directory.now in
-    let ks = c.args.buffers.now in
-    let xs = c.args.sessions.now in
+    let w = c.args.world.now in
+    let d = w.directory in
+    let ks = w.buffers in
+    let xs = w.sessions.items in
     let id = c.args.id in
     let at = c.args.at in
-    let h = get_or xs at c.index-sessions-at-2.result in
-    let is_h = ap (get_or xs at) c.index-sessions-at-2.is in
+    let h = c.index_mut.result.now in
+    let is_h = c.index_mut.ensures.value in
     let y = c.next_step-step.new.session in
     let b = c.next_step-step.new.before in
     let place = c.requires.place in
@@ -44,6 +45,7 @@ returns-in_default g c =
     record {
       judged = c.next_step-step.ensures.judged;
       sound = sound_set ks xs at h y is_h (λ n i. ap (session_uses n i) alone.0) c.requires.sound;
+      directory = refl;
       sizes = sizes_set xs at h y is_h (ap size_in alone.0);
       less = λ e. less_without_act d ks xs None id at h y place within is_h b step _ _ (left_within at ks (slice_set xs at y) c.len-count.ensures.limits) c.requires.some none s (sym answered ∙ e);
       fit = λ e. fit_without_act d ks xs None id at h y place within is_h b step none s (sym answered ∙ e);
@@ -55,15 +57,15 @@ returns-in_default g c =
 
 pub act_turn-done-requires : goal.act_turn-done-requires
 act_turn-done-requires g c =
-    let xs = c.args.sessions.now in
+    let xs = c.args.world.now.sessions.items in
     let at = c.args.at in
-    let h = get_or xs at c.index-sessions-at-2.result in
-    let is_h = ap (get_or xs at) c.index-sessions-at-2.is in
+    let h = c.index_mut.result.now in
+    let is_h = c.index_mut.ensures.value in
     let y = c.next_step-step.new.session in
     let s = c.in-Acts.ensures.step in
     let same = sizes_set xs at h y is_h (ap size_in s.state) in
     record {
-      sound = sound_set c.args.buffers.now xs at h y is_h (λ n i. ap (session_uses n i) s.state) c.requires.sound;
+      sound = sound_set c.args.world.now.buffers xs at h y is_h (λ n i. ap (session_uses n i) s.state) c.requires.sound;
       place = place_same c.args.id at xs (slice_set xs at y) c.requires.place same;
       within = within_still at xs (slice_set xs at y) c.requires.within same;
       ready = ready_put xs at y c.in-Acts.act c.requires.within s.ready;
@@ -73,13 +75,14 @@ act_turn-done-requires g c =
 
 pub returns-in-Ok : goal.returns-in-Ok
 returns-in-Ok g c =
-    let d = c.args.directory.now in
-    let ks = c.args.buffers.now in
-    let xs = c.args.sessions.now in
+    let w = c.args.world.now in
+    let d = w.directory in
+    let ks = w.buffers in
+    let xs = w.sessions.items in
     let id = c.args.id in
     let at = c.args.at in
-    let h = get_or xs at c.index-sessions-at-2.result in
-    let is_h = ap (get_or xs at) c.index-sessions-at-2.is in
+    let h = c.index_mut.result.now in
+    let is_h = c.index_mut.ensures.value in
     let y = c.next_step-step.new.session in
     let b = c.next_step-step.new.before in
     let place = c.requires.place in
@@ -87,8 +90,8 @@ returns-in-Ok g c =
     let act = c.in-Acts.act in
     let s = c.in-Acts.ensures.step in
     let did = c.act_turn-done in
-    let ls = did.new.buffers in
-    let ys = did.new.sessions in
+    let ls = did.new.world.buffers in
+    let ys = did.new.world.sessions.items in
     let put = sizes_set xs at h y is_h (ap size_in s.state) in
     let same = did.ensures.sizes ∙ put in
     let touched = c.in-Ok.touched in
@@ -97,6 +100,7 @@ returns-in-Ok g c =
     record {
       judged = did.ensures.judged;
       sound = did.ensures.sound;
+      directory = did.ensures.directory;
       sizes = same;
       less = λ e. acts_less d ks xs None id at h y place within is_h b act s ls ys _ _ c.len-later.ensures.limits same (done None) c.in-Ok.ensures.further;
       fit = λ e. acted_fit d ks xs None id at h y place within is_h b act s ls ys _ _ same (done None);
@@ -110,13 +114,14 @@ returns-in-Ok g c =
 
 pub returns-in-Err : goal.returns-in-Err
 returns-in-Err g c =
-    let d = c.args.directory.now in
-    let ks = c.args.buffers.now in
-    let xs = c.args.sessions.now in
+    let w = c.args.world.now in
+    let d = w.directory in
+    let ks = w.buffers in
+    let xs = w.sessions.items in
     let id = c.args.id in
     let at = c.args.at in
-    let h = get_or xs at c.index-sessions-at-2.result in
-    let is_h = ap (get_or xs at) c.index-sessions-at-2.is in
+    let h = c.index_mut.result.now in
+    let is_h = c.index_mut.ensures.value in
     let y = c.next_step-step.new.session in
     let b = c.next_step-step.new.before in
     let place = c.requires.place in
@@ -124,18 +129,19 @@ returns-in-Err g c =
     let act = c.in-Acts.act in
     let s = c.in-Acts.ensures.step in
     let did = c.act_turn-done in
-    let ls = did.new.buffers in
-    let ys = did.new.sessions in
+    let ls = did.new.world.buffers in
+    let ys = did.new.world.sessions.items in
     let put = sizes_set xs at h y is_h (ap size_in s.state) in
     let same = did.ensures.sizes ∙ put in
     let turned = λ (next : Option ℕ).
     refused_turn d ks xs next id at h y place within is_h b act s ls ys _ _ _
-    ((λ i. let e : Before = record { mode = b; kind = (get_or xs at c.index-sessions-at.result).state.kind; is_playing = c.is_playing-is_playing.ensures i } in e)
-    ∙ ap (λ (x : Session). before_turn b x.state) (get_or_default xs at c.index-sessions-at.result c.index-sessions-at-2.result within))
+    ((λ i. let e : Before = record { mode = b; kind = c.index-session.result.now.state.kind; is_playing = c.is_playing-is_playing.ensures i } in e)
+    ∙ ap (λ (x : Session). before_turn b x.state) (c.index-session.ensures ∙ get_or_default xs at c.index-session.result.now h within ∙ sym is_h))
     c.in-Err.ensures.err (ap (λ s. store_told g.S.Store.failed g.S.Store.accepted s) c.in-Err.ensures.unasked) in
     record {
       judged = did.ensures.judged;
       sound = did.ensures.sound;
+      directory = did.ensures.directory;
       sizes = same;
       less = λ e. cc;
       fit = λ e. cc;

@@ -13,16 +13,21 @@ use Rattle.mgs_core.proofs.turning.take_turns.Given as goal
 
 -- what the turns so far lead to
 abbrev pub invariant-loop-keyed : goal.invariant-loop-keyed
-invariant-loop-keyed g l = record {
-  judged : AreJudged l.directory (rules_kept l.buffers) l.judge;
-  sound : IsSound l.buffers l.sessions;
-  sizes : sizes_in l.sessions ≡ sizes_in l.initial.sessions;
-  event : (next : Option ℕ) → EventSoFar l.id (world_of l.directory l.initial.buffers l.initial.sessions next) (world_of l.directory l.buffers l.sessions next) (store_told g.S.Store.failed g.S.Store.accepted l.initial.store) (store_told g.S.Store.failed g.S.Store.accepted l.store) (remaining_at l.at l.buffers l.sessions) (state_at l.at l.sessions).todo l.keyed;
-  fit : l.keyed ≡ Done → IsFit (state_at l.at l.sessions);
-  stands : l.stands ≡ true → StaySettled l.directory l.initial.buffers l.buffers l.initial.sessions l.sessions;
-  alone : l.stands ≡ true → StateAlone l.at l.initial.buffers l.buffers l.initial.sessions l.sessions;
-  touched : (next : Option ℕ) → Apart l.touched l.id (world_of l.directory l.initial.buffers l.initial.sessions next) (world_of l.directory l.buffers l.sessions next);
-}
+invariant-loop-keyed g l =
+    let w = l.initial.world in
+    let d = w.directory in
+    let v = l.world in
+    record {
+      directory : v.directory ≡ d;
+      judged : AreJudged d (rules_kept v.buffers) l.judge;
+      sound : IsSound v.buffers v.sessions.items;
+      sizes : sizes_in v.sessions.items ≡ sizes_in w.sessions.items;
+      event : (next : Option ℕ) → EventSoFar l.id (world_of d w.buffers w.sessions.items next) (world_of d v.buffers v.sessions.items next) (store_told g.S.Store.failed g.S.Store.accepted l.initial.store) (store_told g.S.Store.failed g.S.Store.accepted l.store) (remaining_at l.at v.buffers v.sessions.items) (state_at l.at v.sessions.items).todo l.keyed;
+      fit : l.keyed ≡ Done → IsFit (state_at l.at v.sessions.items);
+      stands : l.stands ≡ true → StaySettled d w.buffers v.buffers w.sessions.items v.sessions.items;
+      alone : l.stands ≡ true → StateAlone l.at w.buffers v.buffers w.sessions.items v.sessions.items;
+      touched : (next : Option ℕ) → Apart l.touched l.id (world_of d w.buffers w.sessions.items next) (world_of d v.buffers v.sessions.items next);
+    }
 
 abbrev pub decreases-loop-keyed : goal.decreases-loop-keyed
-decreases-loop-keyed g l = left_to_do l.keyed (remaining_at l.at l.buffers l.sessions) (state_at l.at l.sessions).todo
+decreases-loop-keyed g l = left_to_do l.keyed (remaining_at l.at l.world.buffers l.world.sessions.items) (state_at l.at l.world.sessions.items).todo

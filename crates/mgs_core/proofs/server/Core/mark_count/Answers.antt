@@ -8,5 +8,5 @@ pub returns : goal.returns
 returns g c =
     let held = c.self.inside in
     c.mark_count.ensures
-    ∙ sound_count c.args.name.now held.directory held.buffers held.sessions.items held.next_id c.self.invariant.0.sound
+    ∙ sound_count c.args.name.now held.world.directory held.world.buffers held.world.sessions.items held.next_id c.self.invariant.0.sound
     ∙ ap (marks_of c.args.name.now) (world_is _ _ c.self.view_is)

@@ -12,23 +12,23 @@ use Rattle.mgs_core.proofs.server.Core.refusal.Goals as goal
 pub returns-then-is_none-clause-value : goal.returns-then-is_none-clause-value
 returns-then-is_none-clause-value g c =
     let i = c.self.inside in
-    sym (no_user (world_of i.directory i.buffers i.sessions.items i.next_id) c.args.user.now c.args.rows c.args.cols (ap is_some (sym c.user.ensures) ∙ c.if-is_none.ensures))
+    sym (no_user (world_of i.world.directory i.world.buffers i.world.sessions.items i.next_id) c.args.user.now c.args.rows c.args.cols (ap is_some (sym c.user.ensures) ∙ c.if-is_none.ensures))
     ∙ ap (λ (w : World). open_fault w c.args.user.now c.args.rows c.args.cols) (world_is _ _ c.self.view_is)
 
 pub returns-then-not-is_size-clause-value : goal.returns-then-not-is_size-clause-value
 returns-then-not-is_size-clause-value g c =
     let i = c.self.inside in
-    sym (no_screen (world_of i.directory i.buffers i.sessions.items i.next_id) c.args.user.now c.args.rows c.args.cols (ap is_some (sym c.user.ensures) ∙ c.if-is_none.ensures) (sym c.is_size.ensures ∙ c.if-not-is_size.true))
+    sym (no_screen (world_of i.world.directory i.world.buffers i.world.sessions.items i.next_id) c.args.user.now c.args.rows c.args.cols (ap is_some (sym c.user.ensures) ∙ c.if-is_none.ensures) (sym c.is_size.ensures ∙ c.if-not-is_size.true))
     ∙ ap (λ (w : World). open_fault w c.args.user.now c.args.rows c.args.cols) (world_is _ _ c.self.view_is)
 
 pub returns-then-is_full-clause-value : goal.returns-then-is_full-clause-value
 returns-then-is_full-clause-value g c =
     let i = c.self.inside in
-    let v = world_of i.directory i.buffers i.sessions.items i.next_id in
+    let v = world_of i.world.directory i.world.buffers i.world.sessions.items i.next_id in
     let due = no_room v c.args.user.now c.args.rows c.args.cols in
     let known = ap is_some (sym c.user.ensures) ∙ c.if-is_none.ensures in
     let fits = sym c.is_size.ensures ∙ c.if-not-is_size.false in
-    let many = many_sessions i.directory i.buffers i.sessions.items i.next_id c.len.result (c.len.ensures ∙ i.sessions.ok.0) ∙ sym c.is_full.ensures in
+    let many = many_sessions i.world.directory i.world.buffers i.world.sessions.items i.next_id c.len.result (c.len.ensures ∙ i.world.sessions.ok.0) ∙ sym c.is_full.ensures in
     let full : open_fault v c.args.user.now c.args.rows c.args.cols ≡ Some Full =
     elim c.then-is_full.branch [
       | then-is_full-via-then-is_full w ↦ due true (nat_le (2 ^ 64) v.next_id) known fits (many ∙ w.if-is_full.true) refl
@@ -39,8 +39,8 @@ returns-then-is_full-clause-value g c =
 pub returns-clause-value : goal.returns-clause-value
 returns-clause-value g c =
     let i = c.self.inside in
-    let v = world_of i.directory i.buffers i.sessions.items i.next_id in
-    let many = many_sessions i.directory i.buffers i.sessions.items i.next_id c.len.result (c.len.ensures ∙ i.sessions.ok.0) ∙ sym c.is_full.ensures in
+    let v = world_of i.world.directory i.world.buffers i.world.sessions.items i.next_id in
+    let many = many_sessions i.world.directory i.world.buffers i.world.sessions.items i.next_id c.len.result (c.len.ensures ∙ i.world.sessions.ok.0) ∙ sym c.is_full.ensures in
     sym (no_room v c.args.user.now c.args.rows c.args.cols false false (ap is_some (sym c.user.ensures) ∙ c.if-is_none.ensures) (sym c.is_size.ensures ∙ c.if-not-is_size.false)
     (many ∙ c.if-is_full.false) (sym c.is_used_up.ensures ∙ c.if-is_used_up.false))
     ∙ ap (λ (w : World). open_fault w c.args.user.now c.args.rows c.args.cols) (world_is _ _ c.self.view_is)

@@ -15,22 +15,22 @@ returns-clause-value g c =
     let i = c.self.inside in
     c.size_at.ensures
     ∙ ap (λ (xs : List Session). slice_get (sizes_in xs) c.args.at) c.deref.ensures.value
-    ∙ ap (λ (zs : List Size). slice_get zs c.args.at) (sym (sizes_of_world i.directory i.buffers i.sessions.items i.next_id) ∙ ap sizes (world_is _ _ c.self.view_is))
+    ∙ ap (λ (zs : List Size). slice_get zs c.args.at) (sym (sizes_of_world i.world.directory i.world.buffers i.world.sessions.items i.next_id) ∙ ap sizes (world_is _ _ c.self.view_is))
 
 pub returns-clause-each : goal.returns-clause-each
 returns-clause-each g c =
     let i = c.self.inside in
-    subst (All IsOfSize) (sym (sizes_of_world i.directory i.buffers i.sessions.items i.next_id) ∙ ap sizes (world_is _ _ c.self.view_is)) c.self.invariant.0.each
+    subst (All IsOfSize) (sym (sizes_of_world i.world.directory i.world.buffers i.world.sessions.items i.next_id) ∙ ap sizes (world_is _ _ c.self.view_is)) c.self.invariant.0.each
 
 pub returns-clause-unique : goal.returns-clause-unique
 returns-clause-unique g c =
     let i = c.self.inside in
-    subst IsUnique (sym (sizes_of_world i.directory i.buffers i.sessions.items i.next_id) ∙ ap sizes (world_is _ _ c.self.view_is)) c.self.invariant.0.unique
+    subst IsUnique (sym (sizes_of_world i.world.directory i.world.buffers i.world.sessions.items i.next_id) ∙ ap sizes (world_is _ _ c.self.view_is)) c.self.invariant.0.unique
 
 pub returns-clause-rising : goal.returns-clause-rising
 returns-clause-rising g c =
     let i = c.self.inside in
-    subst AreRising (sym (sizes_of_world i.directory i.buffers i.sessions.items i.next_id) ∙ ap sizes (world_is _ _ c.self.view_is)) c.self.invariant.0.rising
+    subst AreRising (sym (sizes_of_world i.world.directory i.world.buffers i.world.sessions.items i.next_id) ∙ ap sizes (world_is _ _ c.self.view_is)) c.self.invariant.0.rising
 
 pub returns-clause-settled : goal.returns-clause-settled
 returns-clause-settled g c = subst (λ (w : World). settled w ≡ w) (world_is _ _ c.self.view_is) (c.self.invariant.0.settles c.self.inside.next_id)
