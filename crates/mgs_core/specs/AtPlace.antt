@@ -8,7 +8,7 @@ use Rattle.mgs_model.specs.Picture.{Picture}
 use Rattle.mgs_model.specs.Draw.{screen}
 use Rattle.mgs_model.specs.Apply.{remove_first}
 use Rattle.mgs_laws.specs.Apart.{Apart, settled_apart}
-use Rattle.mgs_model.specs.Events.{Saved, opened}
+use Rattle.mgs_model.specs.Events.{opened}
 use Rattle.mgs_model.specs.declared.errors.Keyed.{Keyed}
 use Rattle.mgs_model.specs.declared.errors.Keyed.TheVariants as keyed
 use Rattle.mgs_model.specs.declared.errors.Short.{Short}
@@ -22,7 +22,7 @@ use Rattle.mgs_seek.specs.Replacing.{remaining_at}
 use Rattle.mgs_session.specs.declared.State.{State}
 use Rattle.mgs_session.specs.declared.Session.{Session}
 use Rattle.mgs_session.specs.declared.search.Search.{Search}
-use Rattle.mgs_store.specs.Stores.{StoreTold, store_told}
+use Rattle.mgs_store.specs.Stores.{StoreTold}
 use Rattle.mgs_world.specs.Worlds.{aim_old, state_at, session_id, world_of}
 use Rattle.mgs_core.specs.declared.byte_acts.Before.{Before}
 use Rattle.mgs_core.specs.declared.byte_acts.ModeBefore.{ModeBefore}
@@ -95,16 +95,16 @@ abbrev pub LeavesLess : ℕ → List MarkedBuffer → List MarkedBuffer → List
 LeavesLess at ks ls xs ys = IsLess (remaining_at at ks xs) (remaining_at at ls ys) (state_at at xs).todo (state_at at ys).todo
 
 -- an act of a key is done, in the world in which it is decided
-abbrev pub IsKeyActDone : {S : Type 0} → (S → ℕ) → (S → Option (List Saved)) → Directory → ℕ → KeyAct → List MarkedBuffer → List Session → S → List MarkedBuffer → List Session → S → Touched → Type 0
-IsKeyActDone failed accepted directory at done ks xs s ls ys t touched =
+abbrev pub IsKeyActDone : Directory → ℕ → KeyAct → List MarkedBuffer → List Session → StoreTold → List MarkedBuffer → List Session → StoreTold → Touched → Type 0
+IsKeyActDone directory at done ks xs before ls ys after touched =
     (id : ℕ) (next : Option ℕ) → at ≡ position_or_len (session_id id) xs
-    → DoneBy touched (started_world (started_by done) id (world_of directory ks xs next)) (world_of directory ls ys next) (store_told failed accepted s) (store_told failed accepted t) id (act_of done)
+    → DoneBy touched (started_world (started_by done) id (world_of directory ks xs next)) (world_of directory ls ys next) before after id (act_of done)
 
 -- an act, where this was there before
-abbrev pub IsActDone : {S : Type 0} → (S → ℕ) → (S → Option (List Saved)) → Directory → ℕ → ByteAct → ModeBefore → List MarkedBuffer → List Session → S → List MarkedBuffer → List Session → S → Result Touched Short → Type 0
-IsActDone failed accepted directory at byte_act b ks xs s ls ys t result =
+abbrev pub IsActDone : Directory → ℕ → ByteAct → ModeBefore → List MarkedBuffer → List Session → StoreTold → List MarkedBuffer → List Session → StoreTold → Result Touched Short → Type 0
+IsActDone directory at byte_act b ks xs before ls ys after result =
     IfOk result (λ touched. (id : ℕ) (next : Option ℕ) → at ≡ position_or_len (session_id id) xs
-    → DoneBy touched (deciding_world b byte_act id (world_of directory ks xs next)) (world_of directory ls ys next) (store_told failed accepted s) (store_told failed accepted t) id (model_act (state_at at xs) b byte_act))
+    → DoneBy touched (deciding_world b byte_act id (world_of directory ks xs next)) (world_of directory ls ys next) before after id (model_act (state_at at xs) b byte_act))
 
 -- memory was refused to it, if it takes any: the session is told so, and what was there before is there again
 pub record IsActRefused (directory : Directory) (at : ℕ) (b : Before) (byte_act : ByteAct) (ks ls : List MarkedBuffer) (xs ys : List Session) : Type 0 where
@@ -118,24 +118,24 @@ LeavesFewer byte_act at ks ls xs ys =
     (s t : Search) → is_replacement byte_act ≡ true → search_held at xs ≡ Some s → search_held at ys ≡ Some t → 0 < length (aim_old s.aim) → remaining_at at ls ys < remaining_at at ks xs
 
 -- A TURN, an event before it settles, a byte before its session is taken out, and a byte: from this world and store to that
-abbrev pub IsTurned : {S : Type 0} → (S → ℕ) → (S → Option (List Saved)) → Directory → ℕ → ℕ → List MarkedBuffer → List Session → S → List MarkedBuffer → List Session → S → Keyed → Type 0
-IsTurned failed accepted directory at id ks xs s ls ys t result =
+abbrev pub IsTurned : Directory → ℕ → ℕ → List MarkedBuffer → List Session → StoreTold → List MarkedBuffer → List Session → StoreTold → Keyed → Type 0
+IsTurned directory at id ks xs before ls ys after result =
     (next : Option ℕ)
-    → TurnedBy (is_played (state_at at xs).todo) (state_at at ys).todo (world_of directory ks xs next) (world_of directory ls ys next) (store_told failed accepted s) (store_told failed accepted t) id result
+    → TurnedBy (is_played (state_at at xs).todo) (state_at at ys).todo (world_of directory ks xs next) (world_of directory ls ys next) before after id result
 
-abbrev pub IsEvent : {S : Type 0} → (S → ℕ) → (S → Option (List Saved)) → Directory → ℕ → List MarkedBuffer → List Session → S → List MarkedBuffer → List Session → S → Keyed → Type 0
-IsEvent failed accepted directory id ks xs s ls ys t result =
-    (next : Option ℕ) → EventBy id (world_of directory ks xs next) (world_of directory ls ys next) (store_told failed accepted s) (store_told failed accepted t) result
+abbrev pub IsEvent : Directory → ℕ → List MarkedBuffer → List Session → StoreTold → List MarkedBuffer → List Session → StoreTold → Keyed → Type 0
+IsEvent directory id ks xs before ls ys after result =
+    (next : Option ℕ) → EventBy id (world_of directory ks xs next) (world_of directory ls ys next) before after result
 
 -- a byte, before the session that it ends is taken out
 abbrev pub TypedBy : World → World → StoreTold → StoreTold → ℕ → ℕ → Keyed → Type 0
 TypedBy old new before after id byte keyed.Quit = KeyedBy old (record old { sessions = remove_first (has_id id) old.sessions }) before after id byte keyed.Quit
 TypedBy old new before after id byte result = KeyedBy old new before after id byte result
 
-abbrev pub IsTyped : {S : Type 0} → (S → ℕ) → (S → Option (List Saved)) → Directory → ℕ → ℕ → List MarkedBuffer → List Session → S → List MarkedBuffer → List Session → S → Keyed → Type 0
-IsTyped failed accepted directory id byte ks xs s ls ys t result =
-    (next : Option ℕ) → TypedBy (world_of directory ks xs next) (world_of directory ls ys next) (store_told failed accepted s) (store_told failed accepted t) id byte result
+abbrev pub IsTyped : Directory → ℕ → ℕ → List MarkedBuffer → List Session → StoreTold → List MarkedBuffer → List Session → StoreTold → Keyed → Type 0
+IsTyped directory id byte ks xs before ls ys after result =
+    (next : Option ℕ) → TypedBy (world_of directory ks xs next) (world_of directory ls ys next) before after id byte result
 
-abbrev pub IsByte : {S : Type 0} → (S → ℕ) → (S → Option (List Saved)) → Directory → ℕ → ℕ → List MarkedBuffer → List Session → S → List MarkedBuffer → List Session → S → Keyed → Type 0
-IsByte failed accepted directory id byte ks xs s ls ys t result =
-    (next : Option ℕ) → KeyedBy (world_of directory ks xs next) (world_of directory ls ys next) (store_told failed accepted s) (store_told failed accepted t) id byte result
+abbrev pub IsByte : Directory → ℕ → ℕ → List MarkedBuffer → List Session → StoreTold → List MarkedBuffer → List Session → StoreTold → Keyed → Type 0
+IsByte directory id byte ks xs before ls ys after result =
+    (next : Option ℕ) → KeyedBy (world_of directory ks xs next) (world_of directory ls ys next) before after id byte result

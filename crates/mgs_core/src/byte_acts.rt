@@ -5,6 +5,7 @@ ghost use Rattle.mgs_seek.specs.Beginning.{search_held};
 ghost use Rattle.mgs_world.specs.Acted.{IsRefusable, IsSameWorld};
 ghost use Rattle.mgs_world.specs.Sound.{IsSound};
 ghost use Rattle.mgs_world.specs.Worlds.{idle, state_at};
+ghost use Rattle.mgs_store.specs.Stores.{store_told};
 ghost use Rattle.mgs_core.specs.AtPlace.{IsKeyActDone, IsActDone, LeavesFewer};
 ghost use Rattle.mgs_core.specs.KeyActs.{is_acted, started_by, started_in};
 ghost use Rattle.mgs_core.specs.ByteActs.{CanDo, IsReady, asked_of, model_act, is_asked, may_want_memory};
@@ -113,7 +114,7 @@ fn do_key_act<T: Marked + Drop, S: Store>(
     requires fresh { state_at at sessions.old ≡ idle (state_at at sessions.old) }
     requires here { is_acted done ≡ true }
     ensures sound { IsSound buffers.new sessions.new }
-    ensures ok { IfOk result (IsKeyActDone S.failed S.accepted directory.now at done buffers.old sessions.old store.old buffers.new sessions.new store.new) }
+    ensures ok { IfOk result (IsKeyActDone directory.now at done buffers.old sessions.old (store_told S.failed S.accepted store.old) buffers.new sessions.new (store_told S.failed S.accepted store.new)) }
     ensures wants { OnErr result (started_by done ≡ None) }
     ensures err { OnErr result (IsSameWorld directory.now buffers.old buffers.new sessions.old sessions.new) }
     ensures unasked { OnErr result (store.new ≡ store.old) }
@@ -143,7 +144,7 @@ fn do_in_parts<T: Marked + Drop, S: Store>(
     requires ready { IsReady act (search_held at sessions.old) (state_at at sessions.old) }
     requires here { CanDo before.now act }
     ensures sound { IsSound buffers.new sessions.new }
-    ensures ok { IsActDone S.failed S.accepted directory.now at act before.now buffers.old sessions.old store.old buffers.new sessions.new store.new result }
+    ensures ok { IsActDone directory.now at act before.now buffers.old sessions.old (store_told S.failed S.accepted store.old) buffers.new sessions.new (store_told S.failed S.accepted store.new) result }
     ensures wants { OnErr result (may_want_memory act ≡ true) }
     ensures err { OnErr result (IsSameWorld directory.now buffers.old buffers.new sessions.old sessions.new) }
     ensures unasked { OnErr result (store.new ≡ store.old) }
@@ -202,7 +203,7 @@ pub fn do_byte_act<T: Marked + Drop, S: Store>(
     ensures directory { world.new.directory ≡ world.old.directory }
     ensures count { length world.new.sessions.items ≡ length world.old.sessions.items }
     ensures sound { IsSound world.new.buffers world.new.sessions.items }
-    ensures ok { IsActDone S.failed S.accepted world.old.directory at act before.now world.old.buffers world.old.sessions.items store.old world.new.buffers world.new.sessions.items store.new result }
+    ensures ok { IsActDone world.old.directory at act before.now world.old.buffers world.old.sessions.items (store_told S.failed S.accepted store.old) world.new.buffers world.new.sessions.items (store_told S.failed S.accepted store.new) result }
     ensures wants { OnErr result (may_want_memory act ≡ true) }
     ensures err { OnErr result (IsSameWorld world.old.directory world.old.buffers world.new.buffers world.old.sessions.items world.new.sessions.items) }
     ensures unasked { OnErr result (store.new ≡ store.old) }

@@ -184,7 +184,7 @@ fn act_turn<T: Marked + Drop, S: Store>(
     ensures sound { IsSound world.new.buffers world.new.sessions.items }
     ensures directory { world.new.directory ≡ world.old.directory }
     ensures sizes { sizes_in world.new.sessions.items ≡ sizes_in world.old.sessions.items }
-    ensures ok { IsActDone S.failed S.accepted world.old.directory at act was.old.mode world.old.buffers world.old.sessions.items store.old world.new.buffers world.new.sessions.items store.new result }
+    ensures ok { IsActDone world.old.directory at act was.old.mode world.old.buffers world.old.sessions.items (store_told S.failed S.accepted store.old) world.new.buffers world.new.sessions.items (store_told S.failed S.accepted store.new) result }
     ensures err { OnErr result (IsActRefused world.old.directory at was.old act world.old.buffers world.new.buffers world.old.sessions.items world.new.sessions.items) }
     ensures unasked { OnErr result (store.new ≡ store.old) }
     ensures further { OnOk result (LeavesFewer act at world.old.buffers world.new.buffers world.old.sessions.items world.new.sessions.items) }
@@ -234,7 +234,7 @@ fn take_turn<T: Marked + Drop, S: Store>(
     ensures sizes { sizes_in world.new.sessions.items ≡ sizes_in world.old.sessions.items }
     ensures less { result.0 ≡ Done → LeavesLess at world.old.buffers world.new.buffers world.old.sessions.items world.new.sessions.items }
     ensures fit { result.0 ≡ Done → IsFit (state_at at world.new.sessions.items) }
-    ensures turned { IsTurned S.failed S.accepted world.old.directory at id world.old.buffers world.old.sessions.items store.old world.new.buffers world.new.sessions.items store.new result.0 }
+    ensures turned { IsTurned world.old.directory at id world.old.buffers world.old.sessions.items (store_told S.failed S.accepted store.old) world.new.buffers world.new.sessions.items (store_told S.failed S.accepted store.new) result.0 }
     ensures stands { result.2 ≡ true → StaySettled world.old.directory world.old.buffers world.new.buffers world.old.sessions.items world.new.sessions.items }
     ensures alone { result.2 ≡ true → StateAlone at world.old.buffers world.new.buffers world.old.sessions.items world.new.sessions.items }
     ensures touched { AreApart result.1 id world.old.directory world.old.buffers world.new.buffers world.old.sessions.items world.new.sessions.items }
@@ -301,7 +301,7 @@ pub fn take_turns<T: Marked + Drop, S: Store>(
     ensures sound { IsSound world.new.buffers world.new.sessions.items }
     ensures directory { world.new.directory ≡ world.old.directory }
     ensures sizes { sizes_in world.new.sessions.items ≡ sizes_in world.old.sessions.items }
-    ensures event { IsEvent S.failed S.accepted world.old.directory id world.old.buffers world.old.sessions.items store.old world.new.buffers world.new.sessions.items store.new result.0 }
+    ensures event { IsEvent world.old.directory id world.old.buffers world.old.sessions.items (store_told S.failed S.accepted store.old) world.new.buffers world.new.sessions.items (store_told S.failed S.accepted store.new) result.0 }
     ensures stands { result.2 ≡ true → StaySettled world.old.directory world.old.buffers world.new.buffers world.old.sessions.items world.new.sessions.items }
     ensures alone { result.2 ≡ true → StateAlone at world.old.buffers world.new.buffers world.old.sessions.items world.new.sessions.items }
     ensures touched { AreApart result.1 id world.old.directory world.old.buffers world.new.buffers world.old.sessions.items world.new.sessions.items }
@@ -381,7 +381,7 @@ pub fn type_in<T: Marked + Drop, S: Store>(
     ensures sizes { sizes_in world.new.sessions.items ≡ sizes_in world.old.sessions.items }
     ensures gone { result.0 ≡ Quit → IsSameBut id world.old.directory world.old.buffers world.new.buffers world.old.sessions.items world.new.sessions.items }
     ensures left { result.0 ≡ Quit → store_told S.failed S.accepted store.new ≡ store_told S.failed S.accepted store.old }
-    ensures keyed { IsTyped S.failed S.accepted world.old.directory id byte world.old.buffers world.old.sessions.items store.old world.new.buffers world.new.sessions.items store.new result.0 }
+    ensures keyed { IsTyped world.old.directory id byte world.old.buffers world.old.sessions.items (store_told S.failed S.accepted store.old) world.new.buffers world.new.sessions.items (store_told S.failed S.accepted store.new) result.0 }
     ensures touched { AreApart result.1 id world.old.directory world.old.buffers world.new.buffers world.old.sessions.items world.new.sessions.items }
     ensures still { result.2 ≡ true → StaysStill id world.old.directory world.old.buffers world.new.buffers world.old.sessions.items world.new.sessions.items }
 {

@@ -2,6 +2,7 @@ use Rattle.std.proofs.Common.{◌≡◌, List, length, refl, arith}
 use Rattle.std.specs.Prelude.{OnErr, OnOk}
 use Rattle.std.specs.Vec.{with_items}
 use Rattle.mgs_session.specs.declared.Session.{Session}
+use Rattle.mgs_store.specs.Stores.{store_told}
 use Rattle.mgs_world.specs.Acted.{IsRefusable, IsSameWorld}
 use Rattle.mgs_world.specs.Sound.{IsSound}
 use Rattle.mgs_world.specs.Worlds.{state_at}
@@ -21,6 +22,7 @@ returns g c =
     let act = c.args.act in
     let b = c.args.before.now in
     let r = did.result in
+    let told = store_told g.S.Store.failed g.S.Store.accepted in
     let same = c.deref_mut.ensures.value in
     let len : length did.new.sessions ≡ w.sessions.len = omega (arith, did.auto.sessions, c.deref_mut.ensures.len) in
     let held : (P : List Session → List Session → Type 0) → P c.deref_mut.result.now did.new.sessions → P w.sessions.items (with_items w.sessions did.new.sessions).items = λ P. lent P w.sessions c.deref_mut.result.now did.new.sessions same len in
@@ -28,7 +30,7 @@ returns g c =
       directory = refl;
       count = held (λ xs ys. length ys ≡ length xs) did.auto.sessions;
       sound = held (λ xs ys. IsSound ls ys) did.ensures.sound;
-      ok = held (λ xs ys. IsActDone g.S.Store.failed g.S.Store.accepted d at act b ks xs c.args.store.now ls ys did.new.store r) did.ensures.ok;
+      ok = held (λ xs ys. IsActDone d at act b ks xs (told c.args.store.now) ls ys (told did.new.store) r) did.ensures.ok;
       wants = did.ensures.wants;
       err = held (λ xs ys. OnErr r (IsSameWorld d ks ls xs ys)) did.ensures.err;
       unasked = did.ensures.unasked;

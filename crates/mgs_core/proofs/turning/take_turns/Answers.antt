@@ -7,6 +7,7 @@ use Rattle.mgs_buffers.specs.Judging.{AreJudged, rules_kept}
 use Rattle.mgs_laws.specs.Apart.{Apart}
 use Rattle.mgs_laws.proofs.Apart.{apart_same}
 use Rattle.mgs_session.specs.declared.Session.{Session}
+use Rattle.mgs_store.specs.Stores.{store_told}
 use Rattle.mgs_world.specs.Worlds.{state_at, world_of}
 use Rattle.mgs_core.specs.AtPlace.{AreApart, IsTurned, StaySettled}
 use Rattle.mgs_core.specs.Turns.{goes_on}
@@ -71,7 +72,8 @@ loop-keyed-preserved g c =
     let on = ap (λ (zs : List Session). goes_on l.keyed (state_at c.args.at zs).todo) (sym c.deref.ensures.value) ∙ sym c.goes_on.ensures ∙ c.loop-keyed-test.true in
     let place = place_same c.args.id c.args.at xs ys c.requires.place l.invariant.sizes in
     let within : c.args.at < length ys = within_still c.args.at xs ys c.requires.within l.invariant.sizes in
-    let turned = subst (λ (e : Directory). IsTurned g.S.Store.failed g.S.Store.accepted e c.args.at c.args.id ks ys l.store ls zs t.new.store t.result.0) same t.ensures.turned in
+    let told = store_told g.S.Store.failed g.S.Store.accepted in
+    let turned = subst (λ (e : Directory). IsTurned e c.args.at c.args.id ks ys (told l.store) ls zs (told t.new.store) t.result.0) same t.ensures.turned in
     let apart = subst (λ (e : Directory). AreApart t.result.1 c.args.id e ks ls ys zs) same t.ensures.touched in
     record {
       directory = t.ensures.directory ∙ same;
