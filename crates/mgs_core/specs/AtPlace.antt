@@ -35,6 +35,10 @@ use Rattle.mgs_core.specs.Calls.{IsStill, KeyedBy, closed, differs_at}
 use Rattle.mgs_core.specs.ByteActs.{deciding_world, is_replacement, may_want_memory, model_act, refused}
 use Rattle.mgs_core.specs.Turns.{EventBy, IsLess, TurnedBy, is_played}
 
+-- a place is that of the session of an id
+abbrev pub IsPlace : ℕ → List Session → Type 0
+IsPlace at xs = (id : ℕ) × (at ≡ position_or_len (session_id id) xs)
+
 -- all that was not touched is as it was
 abbrev pub AreApart : Touched → ℕ → Directory → List MarkedBuffer → List MarkedBuffer → List Session → List Session → Type 0
 AreApart touched id directory ks ls xs ys = (next : Option ℕ) → Apart touched id (world_of directory ks xs next) (world_of directory ls ys next)

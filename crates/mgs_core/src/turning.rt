@@ -1,5 +1,5 @@
 // Of what a session has still to do in an event, one after another is done until nothing is left.
-ghost use Rattle.std.specs.Prelude.{◌≡◌, ◌<◌, ◌≤◌, [], Some, IfOk, OnOk, OnErr, length, slice_get, slice_set, false, true};
+ghost use Rattle.std.specs.Prelude.{◌≡◌, ℕ, ◌<◌, ◌≤◌, [], Some, IfOk, OnOk, OnErr, length, slice_get, slice_set, false, true};
 ghost use Rattle.std.specs.List.{position_or_len};
 ghost use Rattle.mgs_model.specs.World as model;
 ghost use Rattle.mgs_model.specs.declared.errors.Keyed.TheVariants.{Done, Quit};
@@ -11,7 +11,7 @@ ghost use Rattle.mgs_session.specs.Sessions.{begun};
 ghost use Rattle.mgs_session.specs.declared.search.Search.{Search};
 ghost use Rattle.mgs_world.specs.Sound.{IsSound};
 ghost use Rattle.mgs_world.specs.Worlds.{IsUnique, state_at, state_of, session_id, sizes_in};
-ghost use Rattle.mgs_core.specs.AtPlace.{AreApart, IsActDone, IsActRefused, IsBare, IsEvent, IsSameBut, IsTurned, IsTyped, LeavesFewer, LeavesLess, StateAlone, SettlesApart, StaySettled, StaysStill};
+ghost use Rattle.mgs_core.specs.AtPlace.{AreApart, IsActDone, IsActRefused, IsBare, IsEvent, IsPlace, IsSameBut, IsTurned, IsTyped, LeavesFewer, LeavesLess, StateAlone, SettlesApart, StaySettled, StaysStill};
 ghost use Rattle.mgs_core.specs.declared.byte_acts.ModeBefore.TheVariants.{Plain};
 ghost use Rattle.mgs_core.specs.Held.{AreSettled};
 ghost use Rattle.mgs_core.specs.Judged.{judged_touched};
@@ -170,12 +170,11 @@ fn act_turn<T: Marked + Drop, S: Store>(
     judge: &mut Judge,
     at: usize,
     store: &mut S,
-    id: SessionId,
     act: ByteAct,
     was: &mut Before,
 ) -> Result<Touched, Short>
     requires sound { IsSound world.old.buffers world.old.sessions.items }
-    requires place { at ≡ position_or_len (session_id id) world.old.sessions.items }
+    requires place { IsPlace at world.old.sessions.items }
     requires within { at < length world.old.sessions.items }
     requires ready { IsReady act (search_held at world.old.sessions.items) (state_at at world.old.sessions.items) }
     requires here { CanDo was.old.mode act }
@@ -188,7 +187,7 @@ fn act_turn<T: Marked + Drop, S: Store>(
     ensures err { OnErr result (IsActRefused world.old.directory at was.old act world.old.buffers world.new.buffers world.old.sessions.items world.new.sessions.items) }
     ensures unasked { OnErr result (store.new ≡ store.old) }
     ensures further { OnOk result (LeavesFewer act at world.old.buffers world.new.buffers world.old.sessions.items world.new.sessions.items) }
-    ensures touched { IfOk result (λ touched. AreApart touched id world.old.directory world.old.buffers world.new.buffers world.old.sessions.items world.new.sessions.items) }
+    ensures touched { IfOk result (λ touched. (id : ℕ) → at ≡ position_or_len (session_id id) world.old.sessions.items → AreApart touched id world.old.directory world.old.buffers world.new.buffers world.old.sessions.items world.new.sessions.items) }
 {
     match do_byte_act(world, at, store, act, &was.mode) {
         Ok(touched) => {
@@ -220,10 +219,9 @@ fn take_turn<T: Marked + Drop, S: Store>(
     judge: &mut Judge,
     at: usize,
     store: &mut S,
-    id: SessionId,
 ) -> (Keyed, Touched, bool)
     requires sound { IsSound world.old.buffers world.old.sessions.items }
-    requires place { at ≡ position_or_len (session_id id) world.old.sessions.items }
+    requires place { IsPlace at world.old.sessions.items }
     requires within { at < length world.old.sessions.items }
     requires judged { AreJudged world.old.directory (rules_kept world.old.buffers) judge.old }
     requires some { (state_at at world.old.sessions.items).todo ≡ [] → ⊥ }
@@ -234,10 +232,10 @@ fn take_turn<T: Marked + Drop, S: Store>(
     ensures sizes { sizes_in world.new.sessions.items ≡ sizes_in world.old.sessions.items }
     ensures less { result.0 ≡ Done → LeavesLess at world.old.buffers world.new.buffers world.old.sessions.items world.new.sessions.items }
     ensures fit { result.0 ≡ Done → IsFit (state_at at world.new.sessions.items) }
-    ensures turned { IsTurned world.old.directory at id world.old.buffers world.old.sessions.items (store_told S.failed S.accepted store.old) world.new.buffers world.new.sessions.items (store_told S.failed S.accepted store.new) result.0 }
+    ensures turned { (id : ℕ) → at ≡ position_or_len (session_id id) world.old.sessions.items → IsTurned world.old.directory at id world.old.buffers world.old.sessions.items (store_told S.failed S.accepted store.old) world.new.buffers world.new.sessions.items (store_told S.failed S.accepted store.new) result.0 }
     ensures stands { result.2 ≡ true → StaySettled world.old.directory world.old.buffers world.new.buffers world.old.sessions.items world.new.sessions.items }
     ensures alone { result.2 ≡ true → StateAlone at world.old.buffers world.new.buffers world.old.sessions.items world.new.sessions.items }
-    ensures touched { AreApart result.1 id world.old.directory world.old.buffers world.new.buffers world.old.sessions.items world.new.sessions.items }
+    ensures touched { (id : ℕ) → at ≡ position_or_len (session_id id) world.old.sessions.items → AreApart result.1 id world.old.directory world.old.buffers world.new.buffers world.old.sessions.items world.new.sessions.items }
 {
     // Tells the prover that each text is within the limit.
     let _count = world.buffers.len();
@@ -257,7 +255,7 @@ fn take_turn<T: Marked + Drop, S: Store>(
     );
     match step {
         ByteStep::Acts(act) => {
-            let done = act_turn(world, judge, at, store, id, act, &mut was);
+            let done = act_turn(world, judge, at, store, act, &mut was);
             let _later = world.buffers.len();
             match done {
                 Ok(touched) => (Keyed::Done, touched, false),
@@ -289,10 +287,9 @@ pub fn take_turns<T: Marked + Drop, S: Store>(
     judge: &mut Judge,
     at: usize,
     store: &mut S,
-    id: SessionId,
 ) -> (Keyed, Touched, bool)
     requires sound { IsSound world.old.buffers world.old.sessions.items }
-    requires place { at ≡ position_or_len (session_id id) world.old.sessions.items }
+    requires place { IsPlace at world.old.sessions.items }
     requires within { at < length world.old.sessions.items }
     requires judged { AreJudged world.old.directory (rules_kept world.old.buffers) judge.old }
     requires weight { weight 0 (state_at at world.old.sessions.items).todo ≤ 53689341958 }
@@ -301,16 +298,16 @@ pub fn take_turns<T: Marked + Drop, S: Store>(
     ensures sound { IsSound world.new.buffers world.new.sessions.items }
     ensures directory { world.new.directory ≡ world.old.directory }
     ensures sizes { sizes_in world.new.sessions.items ≡ sizes_in world.old.sessions.items }
-    ensures event { IsEvent world.old.directory id world.old.buffers world.old.sessions.items (store_told S.failed S.accepted store.old) world.new.buffers world.new.sessions.items (store_told S.failed S.accepted store.new) result.0 }
+    ensures event { (id : ℕ) → at ≡ position_or_len (session_id id) world.old.sessions.items → IsEvent world.old.directory id world.old.buffers world.old.sessions.items (store_told S.failed S.accepted store.old) world.new.buffers world.new.sessions.items (store_told S.failed S.accepted store.new) result.0 }
     ensures stands { result.2 ≡ true → StaySettled world.old.directory world.old.buffers world.new.buffers world.old.sessions.items world.new.sessions.items }
     ensures alone { result.2 ≡ true → StateAlone at world.old.buffers world.new.buffers world.old.sessions.items world.new.sessions.items }
-    ensures touched { AreApart result.1 id world.old.directory world.old.buffers world.new.buffers world.old.sessions.items world.new.sessions.items }
+    ensures touched { (id : ℕ) → at ≡ position_or_len (session_id id) world.old.sessions.items → AreApart result.1 id world.old.directory world.old.buffers world.new.buffers world.old.sessions.items world.new.sessions.items }
 {
     let mut keyed = Keyed::Done;
     let mut touched = Touched::Nowhere;
     let mut stands = true;
     while goes_on(keyed, &world.sessions, at) {
-        let (next, more, still) = take_turn(world, judge, at, store, id);
+        let (next, more, still) = take_turn(world, judge, at, store);
         keyed = next;
         touched = touched_both(touched, more);
         stands = stands & still;
@@ -387,7 +384,7 @@ pub fn type_in<T: Marked + Drop, S: Store>(
 {
     let was = is_bare(&world.sessions[at]);
     begin_at(&mut world.sessions, at, byte);
-    let (keyed, touched, stands) = take_turns(world, judge, at, store, id);
+    let (keyed, touched, stands) = take_turns(world, judge, at, store);
     match keyed {
         Keyed::Quit => (keyed, touched, false),
         _ => {

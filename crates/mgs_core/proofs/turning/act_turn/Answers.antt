@@ -17,20 +17,20 @@ returns-in-Ok-clause-judged g c =
     let d = c.args.world.now.directory in
     let w = world_of d c.args.world.now.buffers c.args.world.now.sessions.items None in
     let v = world_of d c.do_byte_act.new.world.buffers c.do_byte_act.new.world.sessions.items None in
-    let id = c.args.id in
+    let id = c.requires.place.0 in
     let t = c.in-Ok.touched in
     subst (λ (keeps : List Kept). AreJudged d (rules_kept c.do_byte_act.new.world.buffers) keeps) (sym c.forget_touched.ensures)
-    (touched_judged d t id w v c.args.judge.now (byte_act_apart t c.args.was.now.mode c.args.act w v _ _ id _ (c.in-Ok.ensures.ok id None c.requires.place)) c.requires.judged)
+    (touched_judged d t id w v c.args.judge.now (byte_act_apart t c.args.was.now.mode c.args.act w v _ _ id _ (c.in-Ok.ensures.ok id None c.requires.place.1)) c.requires.judged)
 
 pub returns-in-Ok-clause-sizes : goal.returns-in-Ok-clause-sizes
 returns-in-Ok-clause-sizes g c =
-    byte_act_sizes c.in-Ok.touched c.args.was.now.mode c.args.act c.args.world.now.directory c.args.world.now.buffers c.do_byte_act.new.world.buffers c.args.world.now.sessions.items c.do_byte_act.new.world.sessions.items c.args.id c.args.at _ _ _
-    c.requires.place c.requires.within c.do_byte_act.ensures.count (c.in-Ok.ensures.ok c.args.id None c.requires.place)
+    byte_act_sizes c.in-Ok.touched c.args.was.now.mode c.args.act c.args.world.now.directory c.args.world.now.buffers c.do_byte_act.new.world.buffers c.args.world.now.sessions.items c.do_byte_act.new.world.sessions.items c.requires.place.0 c.args.at _ _ _
+    c.requires.place.1 c.requires.within c.do_byte_act.ensures.count (c.in-Ok.ensures.ok c.requires.place.0 None c.requires.place.1)
 
 pub returns-in-Ok-clause-touched : goal.returns-in-Ok-clause-touched
-returns-in-Ok-clause-touched g c next =
+returns-in-Ok-clause-touched g c id place next =
     byte_act_apart c.in-Ok.touched c.args.was.now.mode c.args.act (world_of c.args.world.now.directory c.args.world.now.buffers c.args.world.now.sessions.items next)
-    (world_of c.args.world.now.directory c.do_byte_act.new.world.buffers c.do_byte_act.new.world.sessions.items next) _ _ c.args.id _ (c.in-Ok.ensures.ok c.args.id next c.requires.place)
+    (world_of c.args.world.now.directory c.do_byte_act.new.world.buffers c.do_byte_act.new.world.sessions.items next) _ _ id _ (c.in-Ok.ensures.ok id next place)
 
 pub returns-in-Err-clause-judged : goal.returns-in-Err-clause-judged
 returns-in-Err-clause-judged g c =
@@ -38,7 +38,7 @@ returns-in-Err-clause-judged g c =
     let w = world_of d c.args.world.now.buffers c.args.world.now.sessions.items None in
     let v = world_of d c.do_byte_act.new.world.buffers c.do_byte_act.new.world.sessions.items None in
     let same = c.in-Err.ensures.err None in
-    touched_judged d Nowhere c.args.id w v c.args.judge.now (subst (Apart Nowhere c.args.id w) (sym same) (apart_same Nowhere c.args.id w)) c.requires.judged
+    touched_judged d Nowhere c.requires.place.0 w v c.args.judge.now (subst (Apart Nowhere c.requires.place.0 w) (sym same) (apart_same Nowhere c.requires.place.0 w)) c.requires.judged
 
 pub returns-in-Err-clause-sound : goal.returns-in-Err-clause-sound
 returns-in-Err-clause-sound g c =

@@ -1,5 +1,6 @@
-use Rattle.std.proofs.Common.{◌∙◌, ℕ, Option, None, ap, refl, subst, sym}
+use Rattle.std.proofs.Common.{◌≡◌, ◌∙◌, ℕ, Option, None, ap, refl, subst, sym}
 use Rattle.std.specs.Prelude.{slice_set}
+use Rattle.std.specs.List.{position_or_len}
 use Rattle.std.proofs.lemmas.List.{get_or_default}
 use Rattle.mgs_model.specs.declared.touched.Touched.TheVariants.{Nowhere}
 use Rattle.mgs_model.specs.Events.{refused_state}
@@ -8,7 +9,7 @@ use Rattle.mgs_laws.proofs.Apart.{apart_state, apart_then}
 use Rattle.mgs_store.specs.Stores.{store_told}
 use Rattle.mgs_session.specs.declared.Session.{Session}
 use Rattle.mgs_world.specs.Sound.{session_uses}
-use Rattle.mgs_world.specs.Worlds.{size_in, world_of}
+use Rattle.mgs_world.specs.Worlds.{session_id, size_in, world_of}
 use Rattle.mgs_world.proofs.Soundness.{sound_set, sizes_set}
 use Rattle.mgs_core.specs.declared.byte_acts.Before.{Before}
 use Rattle.mgs_core.specs.ByteActs.{before_turn}
@@ -29,13 +30,13 @@ returns-in_default g c =
     let d = w.directory in
     let ks = w.buffers in
     let xs = w.sessions.items in
-    let id = c.args.id in
+    let id = c.requires.place.0 in
     let at = c.args.at in
     let h = c.index_mut.result.now in
     let is_h = c.index_mut.ensures.value in
     let y = c.next_step-step.new.session in
     let b = c.next_step-step.new.before in
-    let place = c.requires.place in
+    let place = c.requires.place.1 in
     let within = c.requires.within in
     let step = c.next_step-step.result in
     let s = c.next_step-step.ensures.step in
@@ -49,10 +50,10 @@ returns-in_default g c =
       sizes = sizes_set xs at h y is_h (ap size_in alone.0);
       less = λ e. less_without_act d ks xs None id at h y place within is_h b step _ _ (left_within at ks (slice_set xs at y) c.len-count.ensures.limits) c.requires.some none s (sym answered ∙ e);
       fit = λ e. fit_without_act d ks xs None id at h y place within is_h b step none s (sym answered ∙ e);
-      turned = λ next. subst (TurnedBy _ _ (world_of d ks xs next) (world_of d ks (slice_set xs at y) next) _ _ id) (sym answered) (turn_without_act d ks xs next id at h y place within is_h b step _ none s);
+      turned = λ id place next. subst (TurnedBy _ _ (world_of d ks xs next) (world_of d ks (slice_set xs at y) next) _ _ id) (sym answered) (turn_without_act d ks xs next id at h y place within is_h b step _ none s);
       stands = λ still rests next. step_stands d ks xs next id at h y place within is_h alone.0 alone.1 (rests next);
       alone = λ still. alone_written at ks xs h y is_h alone.0;
-      touched = λ next. step_apart d ks xs next id at h y place within is_h c.answer_without_act-keyed.result.1 alone.0 alone.1;
+      touched = λ id place next. step_apart d ks xs next id at h y place within is_h c.answer_without_act-keyed.result.1 alone.0 alone.1;
     }
 
 pub act_turn-done-requires : goal.act_turn-done-requires
@@ -66,7 +67,7 @@ act_turn-done-requires g c =
     let same = sizes_set xs at h y is_h (ap size_in s.state) in
     record {
       sound = sound_set c.args.world.now.buffers xs at h y is_h (λ n i. ap (session_uses n i) s.state) c.requires.sound;
-      place = place_same c.args.id at xs (slice_set xs at y) c.requires.place same;
+      place = (c.requires.place.0, place_same c.requires.place.0 at xs (slice_set xs at y) c.requires.place.1 same);
       within = within_still at xs (slice_set xs at y) c.requires.within same;
       ready = ready_put xs at y c.in-Acts.act c.requires.within s.ready;
       here = s.here;
@@ -79,13 +80,13 @@ returns-in-Ok g c =
     let d = w.directory in
     let ks = w.buffers in
     let xs = w.sessions.items in
-    let id = c.args.id in
+    let id = c.requires.place.0 in
     let at = c.args.at in
     let h = c.index_mut.result.now in
     let is_h = c.index_mut.ensures.value in
     let y = c.next_step-step.new.session in
     let b = c.next_step-step.new.before in
-    let place = c.requires.place in
+    let place = c.requires.place.1 in
     let within = c.requires.within in
     let act = c.in-Acts.act in
     let s = c.in-Acts.ensures.step in
@@ -96,20 +97,20 @@ returns-in-Ok g c =
     let same = did.ensures.sizes ∙ put in
     let touched = c.in-Ok.touched in
     let still = place_same id at xs (slice_set xs at y) place put in
-    let done = λ (next : Option ℕ). (c.in-Ok.ensures.ok id next still).acted in
+    let done = (c.in-Ok.ensures.ok id None still).acted in
     record {
       judged = did.ensures.judged;
       sound = did.ensures.sound;
       directory = did.ensures.directory;
       sizes = same;
-      less = λ e. acts_less d ks xs None id at h y place within is_h b act s ls ys _ _ c.len-later.ensures.limits same (done None) c.in-Ok.ensures.further;
-      fit = λ e. acted_fit d ks xs None id at h y place within is_h b act s ls ys _ _ same (done None);
-      turned = λ next. acted_turn d ks xs next id at h y place within is_h b act s ls ys _ _ same (done next);
+      less = λ e. acts_less d ks xs None id at h y place within is_h b act s ls ys _ _ c.len-later.ensures.limits same done c.in-Ok.ensures.further;
+      fit = λ e. acted_fit d ks xs None id at h y place within is_h b act s ls ys _ _ same done;
+      turned = λ id place next. acted_turn d ks xs next id at h y place within is_h b act s ls ys _ _ same (c.in-Ok.ensures.ok id next (place_same id at xs (slice_set xs at y) place put)).acted;
       stands = λ still. cc;
       alone = λ still. cc;
-      touched = λ next.
+      touched = λ id place next.
           apart_then touched id (world_of d ks xs next) (world_of d ks (slice_set xs at y) next) (world_of d ls ys next)
-          (step_apart d ks xs next id at h y place within is_h touched s.state s.stays) (c.in-Ok.ensures.touched next);
+          (step_apart d ks xs next id at h y place within is_h touched s.state s.stays) (c.in-Ok.ensures.touched id (place_same id at xs (slice_set xs at y) place put) next);
     }
 
 pub returns-in-Err : goal.returns-in-Err
@@ -118,13 +119,13 @@ returns-in-Err g c =
     let d = w.directory in
     let ks = w.buffers in
     let xs = w.sessions.items in
-    let id = c.args.id in
+    let id = c.requires.place.0 in
     let at = c.args.at in
     let h = c.index_mut.result.now in
     let is_h = c.index_mut.ensures.value in
     let y = c.next_step-step.new.session in
     let b = c.next_step-step.new.before in
-    let place = c.requires.place in
+    let place = c.requires.place.1 in
     let within = c.requires.within in
     let act = c.in-Acts.act in
     let s = c.in-Acts.ensures.step in
@@ -133,7 +134,7 @@ returns-in-Err g c =
     let ys = did.new.world.sessions.items in
     let put = sizes_set xs at h y is_h (ap size_in s.state) in
     let same = did.ensures.sizes ∙ put in
-    let turned = λ (next : Option ℕ).
+    let turned = λ (id : ℕ) (place : at ≡ position_or_len (session_id id) xs) (next : Option ℕ).
     refused_turn d ks xs next id at h y place within is_h b act s ls ys _ _ _
     ((λ i. let e : Before = record { mode = b; kind = c.index-session.result.now.state.kind; is_playing = c.is_playing-is_playing.ensures i } in e)
     ∙ ap (λ (x : Session). before_turn b x.state) (c.index-session.ensures ∙ get_or_default xs at c.index-session.result.now h within ∙ sym is_h))
@@ -148,5 +149,5 @@ returns-in-Err g c =
       turned = turned;
       stands = λ still. cc;
       alone = λ still. cc;
-      touched = λ next. subst (Apart Nowhere id (world_of d ks xs next)) (sym (turned next).told) (apart_state Nowhere id refused_state (world_of d ks xs next));
+      touched = λ id place next. subst (Apart Nowhere id (world_of d ks xs next)) (sym (turned id place next).told) (apart_state Nowhere id refused_state (world_of d ks xs next));
     }

@@ -1,4 +1,5 @@
-use Rattle.std.proofs.Common.{◌∙◌, ℕ, ◌≤◌, ◌<◌, List, length, refl, ap, sym, subst}
+use Rattle.std.proofs.Common.{◌≡◌, ◌∙◌, ℕ, ◌≤◌, ◌<◌, List, length, refl, ap, sym, subst}
+use Rattle.std.specs.List.{position_or_len}
 use Rattle.std.proofs.lemmas.Bool.{and_parts}
 use Rattle.mgs_model.specs.Access.{Directory}
 use Rattle.mgs_model.specs.declared.touched.Touched.{Touched}
@@ -8,7 +9,7 @@ use Rattle.mgs_laws.specs.Apart.{Apart}
 use Rattle.mgs_laws.proofs.Apart.{apart_same}
 use Rattle.mgs_session.specs.declared.Session.{Session}
 use Rattle.mgs_store.specs.Stores.{store_told}
-use Rattle.mgs_world.specs.Worlds.{state_at, world_of}
+use Rattle.mgs_world.specs.Worlds.{session_id, state_at, world_of}
 use Rattle.mgs_core.specs.AtPlace.{AreApart, IsTurned, StaySettled}
 use Rattle.mgs_core.specs.Turns.{goes_on}
 use Rattle.mgs_core.proofs.Joined.{apart_both}
@@ -29,11 +30,11 @@ loop-keyed-init g c =
       judged = c.requires.judged;
       sound = c.requires.sound;
       sizes = refl;
-      event = λ next. starts c.args.id _ _ (remaining_at c.args.at w.buffers xs) _ (subst (λ (n : ℕ). n ≤ 53689341958) (none_weight 0 (remaining_at c.args.at w.buffers xs) (state_at c.args.at xs).todo c.requires.none) c.requires.weight);
+      event = λ id place next. starts id _ _ (remaining_at c.args.at w.buffers xs) _ (subst (λ (n : ℕ). n ≤ 53689341958) (none_weight 0 (remaining_at c.args.at w.buffers xs) (state_at c.args.at xs).todo c.requires.none) c.requires.weight);
       fit = λ e. fit_none (state_at c.args.at xs) c.requires.none;
       stands = λ still rests. rests;
       alone = λ still. alone_none c.args.at w.buffers xs c.requires.within;
-      touched = λ next. apart_same Nowhere c.args.id _;
+      touched = λ id place next. apart_same Nowhere id _;
     }
 
 pub goes_on-requires : goal.goes_on-requires
@@ -42,7 +43,9 @@ goes_on-requires g c =
     subst (λ (xs : List Session). c.args.at < length xs) (sym c.deref.ensures.value) (within_still c.args.at c.args.world.now.sessions.items l.world.sessions.items c.requires.within l.invariant.sizes)
 
 pub take_turn-next-requires-clause-place : goal.take_turn-next-requires-clause-place
-take_turn-next-requires-clause-place g c = place_same c.args.id c.args.at c.args.world.now.sessions.items c.loop-keyed.world.sessions.items c.requires.place c.loop-keyed.invariant.sizes
+take_turn-next-requires-clause-place g c =
+    let place = c.requires.place in
+    (place.0, place_same place.0 c.args.at c.args.world.now.sessions.items c.loop-keyed.world.sessions.items place.1 c.loop-keyed.invariant.sizes)
 
 pub take_turn-next-requires-clause-within : goal.take_turn-next-requires-clause-within
 take_turn-next-requires-clause-within g c = within_still c.args.at c.args.world.now.sessions.items c.loop-keyed.world.sessions.items c.requires.within c.loop-keyed.invariant.sizes
@@ -70,19 +73,18 @@ loop-keyed-preserved g c =
     let zs = t.new.world.sessions.items in
     let same = l.invariant.directory in
     let on = ap (λ (zs : List Session). goes_on l.keyed (state_at c.args.at zs).todo) (sym c.deref.ensures.value) ∙ sym c.goes_on.ensures ∙ c.loop-keyed-test.true in
-    let place = place_same c.args.id c.args.at xs ys c.requires.place l.invariant.sizes in
+    let here = λ (id : ℕ) (place : c.args.at ≡ position_or_len (session_id id) xs). place_same id c.args.at xs ys place l.invariant.sizes in
     let within : c.args.at < length ys = within_still c.args.at xs ys c.requires.within l.invariant.sizes in
     let told = store_told g.S.Store.failed g.S.Store.accepted in
-    let turned = subst (λ (e : Directory). IsTurned e c.args.at c.args.id ks ys (told l.store) ls zs (told t.new.store) t.result.0) same t.ensures.turned in
-    let apart = subst (λ (e : Directory). AreApart t.result.1 c.args.id e ks ls ys zs) same t.ensures.touched in
     record {
       directory = t.ensures.directory ∙ same;
       judged = subst (λ (e : Directory). AreJudged e (rules_kept ls) t.new.judge) same t.ensures.judged;
       sound = t.ensures.sound;
       sizes = t.ensures.sizes ∙ l.invariant.sizes;
-      event = λ next.
-          let x = open_at d ks ys next c.args.id c.args.at place within in
-          event_next c.args.id _ _ _ _ _ _ (remaining_at c.args.at ks ys) (remaining_at c.args.at ls zs) _ _ x.0 x.1 l.keyed t.result.0 on (l.invariant.event next) (turned next) t.ensures.less;
+      event = λ id place next.
+          let turned = subst (λ (e : Directory). IsTurned e c.args.at id ks ys (told l.store) ls zs (told t.new.store) t.result.0) same (t.ensures.turned id (here id place)) in
+          let x = open_at d ks ys next id c.args.at (here id place) within in
+          event_next id _ _ _ _ _ _ (remaining_at c.args.at ks ys) (remaining_at c.args.at ls zs) _ _ x.0 x.1 l.keyed t.result.0 on (l.invariant.event id place next) (turned next) t.ensures.less;
       fit = t.ensures.fit;
       stands = λ still.
           let both = and_parts l.stands t.result.2 still in
@@ -90,19 +92,20 @@ loop-keyed-preserved g c =
       alone = λ still.
           let both = and_parts l.stands t.result.2 still in
           alone_then c.args.at w.buffers ks ls xs ys zs (l.invariant.alone both.0) (t.ensures.alone both.1);
-      touched = λ next.
-          subst (λ (s : Touched). Apart s c.args.id (world_of d w.buffers xs next) (world_of d ls zs next)) (sym c.touched_both-touched.ensures)
-          (apart_both l.touched t.result.1 c.args.id (world_of d w.buffers xs next) (world_of d ks ys next) (world_of d ls zs next) (l.invariant.touched next) (apart next));
+      touched = λ id place next.
+          let apart = subst (λ (e : Directory). AreApart t.result.1 id e ks ls ys zs) same (t.ensures.touched id (here id place)) in
+          subst (λ (s : Touched). Apart s id (world_of d w.buffers xs next) (world_of d ls zs next)) (sym c.touched_both-touched.ensures)
+          (apart_both l.touched t.result.1 id (world_of d w.buffers xs next) (world_of d ks ys next) (world_of d ls zs next) (l.invariant.touched id place next) (apart next));
     }
 
 pub returns-clause-event : goal.returns-clause-event
-returns-clause-event g c next =
+returns-clause-event g c id first next =
     let xs = c.args.world.now.sessions.items in
     let l = c.loop-keyed in
     let ks = l.world.buffers in
     let ys = l.world.sessions.items in
     let off = ap (λ (zs : List Session). goes_on l.keyed (state_at c.args.at zs).todo) (sym c.deref.ensures.value) ∙ sym c.goes_on.ensures ∙ c.loop-keyed-test.false in
-    let place = place_same c.args.id c.args.at xs ys c.requires.place l.invariant.sizes in
+    let place = place_same id c.args.at xs ys first l.invariant.sizes in
     let within : c.args.at < length ys = within_still c.args.at xs ys c.requires.within l.invariant.sizes in
-    let x = open_at c.args.world.now.directory ks ys next c.args.id c.args.at place within in
-    event_over c.args.id _ _ _ _ (remaining_at c.args.at ks ys) (state_at c.args.at ys).todo x.0 x.1 x.2 l.keyed (none_on l.keyed (state_at c.args.at ys).todo off) (l.invariant.event next)
+    let x = open_at c.args.world.now.directory ks ys next id c.args.at place within in
+    event_over id _ _ _ _ (remaining_at c.args.at ks ys) (state_at c.args.at ys).todo x.0 x.1 x.2 l.keyed (none_on l.keyed (state_at c.args.at ys).todo off) (l.invariant.event id first next)

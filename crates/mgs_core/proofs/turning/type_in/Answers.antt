@@ -38,7 +38,7 @@ take_turns-keyed-requires g c =
     let same = begun_sizes xs ys at byte h begins in
     record {
       sound = begun_sound w.buffers xs ys at byte h begins c.requires.sound;
-      place = place_same c.args.id at xs ys c.requires.place same;
+      place = (c.args.id, place_same c.args.id at xs ys c.requires.place same);
       within = within_still at xs ys c.requires.within same;
       judged = c.requires.judged;
       weight = begun_weight xs ys at byte h c.requires.within begins;
@@ -84,6 +84,7 @@ returns-in-Quit g c =
     let begins : Begins byte at h xs ys = begun_lent w.sessions c.deref_mut.result.now c.begin_at.new.sessions at byte h c.deref_mut.ensures.value (omega (arith, c.begin_at.auto.sessions, c.deref_mut.ensures.len)) c.requires.within c.index.ensures c.begin_at.ensures in
     let t = c.take_turns-keyed in
     let same = begun_sizes xs ys at byte h begins in
+    let place = place_same id at xs ys c.requires.place same in
     let begun : (next : Option ℕ) → world_of d ks ys next ≡ with_state id (begun_state byte) (world_of d ks xs next) =
     λ next. begun_world d ks xs ys next id at byte h c.requires.place c.requires.within begins in
     record {
@@ -91,16 +92,16 @@ returns-in-Quit g c =
       sound = t.ensures.sound;
       directory = t.ensures.directory;
       sizes = t.ensures.sizes ∙ same;
-      gone = λ quits next. (event_quits id _ _ _ _ t.result.0 quits (t.ensures.event next)).gone ∙ ap (λ (v : World). closed v id) (begun next) ∙ closed_state (world_of d ks xs next) id (begun_state byte);
+      gone = λ quits next. (event_quits id _ _ _ _ t.result.0 quits (t.ensures.event id place next)).gone ∙ ap (λ (v : World). closed v id) (begun next) ∙ closed_state (world_of d ks xs next) id (begun_state byte);
       still = λ stays. cc;
-      left = λ quits. (event_quits id _ _ _ _ t.result.0 quits (t.ensures.event None)).left;
+      left = λ quits. (event_quits id _ _ _ _ t.result.0 quits (t.ensures.event id place None)).left;
       keyed = λ next.
           typed_ends (world_of d ks xs next) _ _ _ id byte t.result.0 c.in-Quit.is
           (event_ends (world_of d ks xs next) (world_of d ks ys next) _ _ _ id byte (begun next) (session_of ks h) (session_some d ks xs next id at h c.requires.place c.requires.within begins.0)
-          (subst IsUnique (sym (sizes_of_world d ks ys next ∙ same)) c.requires.unique) (c.requires.settles next) (event_quits id _ _ _ _ t.result.0 c.in-Quit.is (t.ensures.event next)));
+          (subst IsUnique (sym (sizes_of_world d ks ys next ∙ same)) c.requires.unique) (c.requires.settles next) (event_quits id _ _ _ _ t.result.0 c.in-Quit.is (t.ensures.event id place next)));
       touched = λ next.
           apart_then t.result.1 id (world_of d ks xs next) (world_of d ks ys next) (world_of d t.new.world.buffers t.new.world.sessions.items next)
-          (subst (Apart t.result.1 id (world_of d ks xs next)) (sym (begun next)) (apart_state t.result.1 id (begun_state byte) (world_of d ks xs next))) (t.ensures.touched next);
+          (subst (Apart t.result.1 id (world_of d ks xs next)) (sym (begun next)) (apart_state t.result.1 id (begun_state byte) (world_of d ks xs next))) (t.ensures.touched id place next);
     }
 
 pub index-requires-in_default : goal.index-requires-in_default
@@ -128,7 +129,9 @@ returns-in_default g c =
     let v = t.new.world in
     let ls = c.settle_unless.new.buffers in
     let zs = v.sessions.items in
-    let sizes = t.ensures.sizes ∙ begun_sizes xs ys at byte h begins in
+    let same = begun_sizes xs ys at byte h begins in
+    let place = place_same id at xs ys c.requires.place same in
+    let sizes = t.ensures.sizes ∙ same in
     let begun : (next : Option ℕ) → world_of d ks ys next ≡ with_state id (begun_state byte) (world_of d ks xs next) =
     λ next. begun_world d ks xs ys next id at byte h c.requires.place c.requires.within begins in
     let settles : SettlesApart t.result.1 id d v.buffers ls zs =
@@ -139,7 +142,7 @@ returns-in_default g c =
     apart_rests t.result.1 id u (world_of d v.buffers zs next) (world_of d ls zs next) (c.requires.settles next)
     (apart_then t.result.1 id u (world_of d ks ys next) (world_of d v.buffers zs next)
     (subst (Apart t.result.1 id u) (sym (begun next)) (apart_state t.result.1 id (begun_state byte) u))
-    (t.ensures.touched next))
+    (t.ensures.touched id place next))
     (settles next) in
     record {
       judged = subst (λ (rs : List Rules). AreJudged d rs t.new.judge) (sym (ap (λ (u : World). rules_in u.buffers) (settles None))) t.ensures.judged;
@@ -150,7 +153,7 @@ returns-in_default g c =
       left = λ quits. absurd (c.in_default.not-Quit quits);
       keyed = λ next.
           let found = session_some d ks xs next id at h c.requires.place c.requires.within c.index.ensures in
-          event_keyed id byte (world_of d ks xs next) (world_of d ks ys next) (world_of d v.buffers zs next) (world_of d ls zs next) _ _ t.result.0 c.in_default.not-Quit (t.ensures.event next) (ap is_some found)
+          event_keyed id byte (world_of d ks xs next) (world_of d ks ys next) (world_of d v.buffers zs next) (world_of d ls zs next) _ _ t.result.0 c.in_default.not-Quit (t.ensures.event id place next) (ap is_some found)
           (open_still d ks ls xs zs next id sizes (ap is_some found))
           (begun next)
           (apart next).0;
