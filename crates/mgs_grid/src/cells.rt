@@ -7,7 +7,7 @@ ghost use Rattle.mgs_model.specs.Cells.{glyph, escape, own_cells, cells, cells_f
 ghost use Rattle.mgs_grid.specs.Cells.{put, over, first_signed, last_signed, finished, is_plain, Wrote};
 
 use itoa::Buffer;
-use mgs_model::{RIGHT_HALF, own_columns};
+use mgs_model::{Name, RIGHT_HALF, own_columns};
 use mgs_text::Text;
 
 /// Writes one character into each cell of a row.
@@ -298,4 +298,14 @@ pub(crate) fn put_line<T: Text>(
         at += count;
     }
     column
+}
+
+/// Writes a name, and tells the column after it, at most 32 further.
+#[tactic(auto, using(crate::proofs::Plain::name_plain, crate::proofs::Plain::name_short))]
+pub(crate) fn put_name(row: &mut [char], column: usize, name: &Name) -> usize
+    requires { column < 2 ^ 62 }
+    ensures wrote { Wrote row.old column name.now row.new result }
+    ensures few { result ≤ column + 32 }
+{
+    put_bytes(row, column, name.as_bytes())
 }

@@ -5,13 +5,16 @@
 #![tactic(auto)]
 
 mod cells;
+mod echo_text;
 mod grid;
 mod line;
 mod lists;
+mod masked;
+mod mode_line;
+mod prompts;
 mod row_set;
 mod shift;
 mod window;
-mod words;
 
 pub use grid::Grid;
 pub use line::Line;

@@ -9,10 +9,12 @@ ghost use Rattle.mgs_grid.specs.Lists.{acl_mode, listed_text, unlisted_text};
 ghost use Rattle.mgs_grid.specs.Cells.{line_cells};
 
 use crate::cells::{fill, finish, put_bytes, put_line};
+use crate::echo_text::put_message;
 use crate::lists::{put_acl_mode, put_entry, put_listed, put_unlisted};
-use crate::words::{
-    prompt_width, put_heading, put_message, put_place, put_prompt, put_replacing, put_search,
-    put_unread, replacing_width, search_width,
+use crate::masked::put_unread;
+use crate::mode_line::{put_heading, put_place};
+use crate::prompts::{
+    prompt_width, put_prompt, put_replacing, put_search, replacing_width, search_width,
 };
 use mgs_lines::line_end;
 use mgs_model::{Decision, Direction, Message, Name, Owners, Question, Short};
