@@ -14,8 +14,7 @@ ghost use Rattle.mgs_world.specs.Sound.{IsSound};
 ghost use Rattle.mgs_world.specs.WindowMarks.{WindowMarksDropped};
 
 use crate::performing::leave;
-use crate::writer::Writer;
-use mgs_buffers::Buffers;
+use mgs_buffers::{Buffers, Writer};
 use mgs_edit::{Finish, Goes};
 use mgs_marks::Marked;
 use mgs_model::{Kind, Message, Name, Short, Touched};
@@ -54,14 +53,8 @@ fn put_in<T: Marked + Drop>(
     if put.is_empty() {
         return Ok(());
     }
-    let Writer {
-        directory,
-        user,
-        name,
-        at,
-    } = writer;
-    let mask = insertion_mask(place, buffers.text_len_at(name, at));
-    buffers.edit_at(directory, user, name, at, mask, place, place, put)
+    let mask = insertion_mask(place, buffers.text_len_at(writer.name, writer.at));
+    buffers.edit_at(writer, mask, place, place, put)
 }
 
 /// What an insertion leaves: the mark at the place, and the point behind what came in.

@@ -7,6 +7,5 @@ mod inserting;
 mod performing;
 mod setting;
 mod switching;
-mod writer;
 
 pub use acts::{act, answer};

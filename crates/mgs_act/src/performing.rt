@@ -17,8 +17,7 @@ ghost use Rattle.mgs_world.specs.Acted.{IsUnchanged};
 ghost use Rattle.mgs_world.specs.Sound.{IsSound};
 ghost use Rattle.mgs_world.specs.WindowMarks.{WindowMarksDropped};
 
-use crate::writer::Writer;
-use mgs_buffers::Buffers;
+use mgs_buffers::{Buffers, Writer};
 use mgs_edit::{
     Change, Finish, Goes, Joins, Piece, Put, Undone, is_edit, is_undo_an_edit, put_chars,
 };
@@ -85,12 +84,6 @@ fn edit<T: Marked + Drop>(
     ensures err { OnErr result (buffers.new ≡ buffers.old) }
     ensures may { OnErr result (IsEdit (change_in writer.entry.name.now buffers.old kill.now change.now)) }
 {
-    let Writer {
-        directory,
-        user,
-        name,
-        at,
-    } = writer;
     if !is_edit(change, kill.len()) {
         return Ok(change.from);
     }
@@ -98,16 +91,16 @@ fn edit<T: Marked + Drop>(
     let to = change.to;
     // One character is the common case, and takes no room beside the text's.
     if let Put::Character { put, times: 1 } = change.put {
-        buffers.edit_at(directory, user, name, at, mask, from, to, &[put])?;
+        buffers.edit_at(writer, mask, from, to, &[put])?;
         return Ok(from + 1);
     }
     let chars = put_chars(
         buffers.alloc(),
-        buffers.text_at(name, at),
+        buffers.text_at(writer.name, writer.at),
         kill,
         &change.put,
     )?;
-    buffers.edit_at(directory, user, name, at, mask, from, to, &chars)?;
+    buffers.edit_at(writer, mask, from, to, &chars)?;
     Ok(from + chars.len())
 }
 
@@ -151,19 +144,13 @@ fn restore<T: Marked + Drop>(
     if !is_undo_an_edit(undone) {
         return Ok(undone.from);
     }
-    let Writer {
-        directory,
-        user,
-        name,
-        at,
-    } = writer;
     // For the range of a place.
-    let _size = buffers.text_len_at(name, at);
-    let back = removed_by(buffers, name, at, undone.serial)?;
+    let _size = buffers.text_len_at(writer.name, writer.at);
+    let back = removed_by(buffers, writer.name, writer.at, undone.serial)?;
     let from = undone.from;
     let to = from + undone.gone;
     let mask = Mask::from_bits(Right::ReadData.bit() + Right::WriteData.bit());
-    buffers.edit_at(directory, user, name, at, mask, from, to, &back)?;
+    buffers.edit_at(writer, mask, from, to, &back)?;
     Ok(from + back.len())
 }
 

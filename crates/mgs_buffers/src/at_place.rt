@@ -16,6 +16,7 @@ ghost use Rattle.mgs_buffers.specs.Placing.{CanStand, placed_if};
 
 use crate::buffer::Buffer;
 use crate::buffers::Buffers;
+use crate::writer::Writer;
 use mgs_marks::Marked;
 use mgs_model::{MarkId, Mask, Name, Short};
 use mgs_policy::Directory;
@@ -89,32 +90,29 @@ impl<T: Marked + Drop> Buffers<T> {
         self.buffer_at(name, at).record.item(serial)
     }
 
-    /// Puts characters in place of those from `a` up to `b` of the text of the buffer of a name, which stands at a place, moves its marks,
-    /// records the edit under the next serial, and sets the buffer's modified flag. All rights of the mask were granted to the user, and
-    /// a right to write is among them. `Short`: memory was refused, and all is as it was.
+    /// Puts characters in place of those from `a` up to `b` of the text of the writer's buffer, moves its marks, records the edit under the
+    /// next serial, and sets the buffer's modified flag. All rights of the mask were granted to the writer, and a right to write is among
+    /// them. `Short`: memory was refused, and all is as it was.
     pub fn edit_at(
         &mut self,
-        directory: &Directory,
-        user: &Name,
-        name: &Name,
-        at: usize,
+        writer: Writer<'_>,
         mask: Mask,
         a: usize,
         b: usize,
         put: &[char],
     ) -> Result<(), Short>
-        requires kept { HasBuffer name.now self.old }
-        requires place { at ≡ position_or_len (marked_named name.now) self.old }
+        requires kept { HasBuffer writer.name.now self.old }
+        requires place { writer.at ≡ position_or_len (marked_named writer.name.now) self.old }
         requires writes { writes mask ≡ true }
-        requires granted { mask_decision directory.now (marked_at name.now self.old).buffer user.now mask ≡ Granted }
+        requires granted { mask_decision writer.directory.now (marked_at writer.name.now self.old).buffer writer.user.now mask ≡ Granted }
         requires order { a ≤ b }
-        requires within { b ≤ length (marked_at name.now self.old).buffer.text }
+        requires within { b ≤ length (marked_at writer.name.now self.old).buffer.text }
         requires edit { is_edit a b put.now ≡ true }
-        requires room { is_full (length (marked_at name.now self.old).buffer.text) (marked_at name.now self.old).buffer.serial a b put.now ≡ false }
-        ensures ok { OnOk result (self.new ≡ change_first (marked_named name.now) (marked_edited a b put.now) self.old) }
+        requires room { is_full (length (marked_at writer.name.now self.old).buffer.text) (marked_at writer.name.now self.old).buffer.serial a b put.now ≡ false }
+        ensures ok { OnOk result (self.new ≡ change_first (marked_named writer.entry.name.now) (marked_edited a b put.now) self.old) }
         ensures err { OnErr result (self.new ≡ self.old) }
     {
-        let (_, buffer) = self.all.pair_mut(at);
+        let (_, buffer) = self.all.pair_mut(writer.at);
         buffer.edit_in_room(a, b, put)
     }
 

@@ -16,6 +16,7 @@ mod saving;
 mod searched_text;
 mod searching;
 mod telling;
+mod writer;
 
 pub use buffers::Buffers;
 pub use fault::{AddFault, EditFault, EntriesFault, OwnersFault, SaveFault};
@@ -23,3 +24,4 @@ pub use found::Found;
 pub use mgs_store::{Store, StoreFault};
 pub use rights::Rights;
 pub use telling::Attributes;
+pub use writer::Writer;

@@ -153,7 +153,7 @@ fn keep_in_room<T: Marked + Drop, S: Store + Drop, J: Journal>(
 
 // Has the journal keep the text of the buffer at a place, where it does not stand as it did when its text was kept, unless it failed. Whether
 // that is done: not where memory was refused, which leaves it for the next round.
-fn is_kept_now<T: Marked + Drop, S: Store + Drop, J: Journal>(
+fn keep_unless_noted<T: Marked + Drop, S: Store + Drop, J: Journal>(
     alloc: Global,
     engine: &Engine<T, S>,
     journal: &mut J,
@@ -199,7 +199,7 @@ pub(crate) fn keep_next<T: Marked + Drop, S: Store + Drop, J: Journal>(
         return;
     };
     for place in from..engine.buffers().len() {
-        if is_kept_now(alloc, engine, journal, failed, round, room, place) {
+        if keep_unless_noted(alloc, engine, journal, failed, round, room, place) {
             round.go_on(place.checked_add(1));
             return;
         }

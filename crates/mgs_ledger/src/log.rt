@@ -26,6 +26,9 @@ use std::time::Clock;
 /// How many events are gathered at most before they are committed.
 pub const GATHER_LIMIT: usize = 256;
 
+/// The seconds of the clock from one text that is kept to the next.
+const TEXT_SECONDS: u64 = 1;
+
 // The memory that is set aside for a commit, in bytes: a text has 4 MB at most, of which SQLite makes a copy and a row, beside its pages.
 const ROOM: usize = 16_777_216;
 
@@ -260,10 +263,10 @@ impl<S: Alter + Drop, C: Clock + Drop, W: Write + Drop> Log<S, C, W> {
         Ok(())
     }
 
-    /// Whether the second is over in which a text was kept last.
+    /// Whether `TEXT_SECONDS` are over since a text was kept last, or the clock was set back by so many.
     pub(crate) fn is_text_due(&self) -> bool {
         match seconds(&self.clock) {
-            Ok(now) => now != self.text_second,
+            Ok(now) => now.abs_diff(self.text_second) >= TEXT_SECONDS,
             Err(_) => true,
         }
     }

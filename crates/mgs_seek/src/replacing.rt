@@ -20,7 +20,7 @@ ghost use Rattle.mgs_world.specs.Sound.{IsSessionSound, IsSound};
 ghost use Rattle.mgs_world.specs.Worlds.{aim_count, aim_input, aim_old, idle, state_at, state_of};
 
 use crate::target::{go_on, mask, sought, target};
-use mgs_buffers::Buffers;
+use mgs_buffers::{Buffers, Writer};
 use mgs_marks::Marked;
 use mgs_model::{Kind, Message, Name, Short, TEXT_LIMIT, Touched};
 use mgs_plan::{follow, if_edit};
@@ -289,22 +289,17 @@ fn edit<T: Marked + Drop>(
     ensures err { OnErr result (buffers.new ≡ buffers.old) }
     ensures may { OnErr result (if_edit planned.now.edit ≡ Some planned.now.edit) }
 {
-    let name = &planned.window_marks.name;
     let Some(Edited { from, to, .. }) = if_edit(planned.edit) else {
         return Ok(());
     };
     let put = put_of(session, planned.plan.replaces);
-    let user = &session.user;
-    buffers.edit_at(
+    let writer = Writer {
         directory,
-        user,
-        name,
-        planned.place,
-        mask(true),
-        from,
-        to,
-        put,
-    )
+        user: &session.user,
+        name: &planned.window_marks.name,
+        at: planned.place,
+    };
+    buffers.edit_at(writer, mask(true), from, to, put)
 }
 
 /// One more was replaced, where there was a match.
