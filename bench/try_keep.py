@@ -1039,21 +1039,21 @@ def try_files_of_texts():
 MEMORY = 250_000_000
 
 
-def fill_memory(one):
-    """Makes buffers of 1,000,000 characters, and then of fewer, until memory is refused to one of a thousand: how many were made."""
-    type_in(one, go_to("full") + "words and " * 100 + "\x18h\x1bw")
-    type_in(one, "\x15999\x19\x18h\x1bw")
-    see(one, "**-full")
-    made = 0
-    for size in (1_000_000, 100_000, 10_000, 1_000):
+def fill_memory(one, made=0):
+    """Makes buffers of 1,000,000 characters, and then of fewer, until memory is refused to one of a thousand: how many there are then."""
+    if not made:
+        type_in(one, go_to("full") + "words and " * 10 + "\x18h\x1bw")
+        see(one, "**-full")
+    for times in (9999, 999, 99, 9):
         is_refused = False
         while not is_refused and made < 200:
             made += 1
-            type_in(one, go_to(f"full{made}") + "\x19")
+            # The prompt, so that what was told before is gone.
+            type_in(one, "\x18b")
+            see(one, "Switch to buffer")
+            type_in(one, f"full{made}\r\x15{times}\x19")
             one.read_until(lambda seen: seen.shows(ROWS - 1).startswith(f"-**-full{made}-") or shows(seen, "No memory"), PATIENCE)
             is_refused = shows(one, "No memory")
-        # The next pieces are smaller.
-        type_in(one, go_to("full") + f"\x1b<\x00\x15{min(size // 10, 9999)}\x06\x1bw")
     return made
 
 
@@ -1067,6 +1067,10 @@ def try_memory():
         # Ten characters less, so that five more take no memory.
         type_in(bob, "\x1510\x04" + go_to("notes"))
         made = fill_memory(cat)
+        # What is set aside is lent to what is kept meanwhile, and is there again before others fill what is left.
+        for _ in range(2):
+            time.sleep(made * 0.05 + 2)
+            made = fill_memory(cat, made)
         expect("memory is full", 10 < made < 200, made)
         time.sleep(made * 0.05 + 2)
         type_in(bob, "kept ")

@@ -113,3 +113,36 @@ fn texts_are_kept_as_they_stand(rt: HostRuntime) {
             == Some("notes is as its file n\nnotes is edited abn\n")
     );
 }
+
+// What ann types, and the text that is kept in each of the turns that follow, until none is left.
+const ROUNDS: [(&[u8], [&str; 4]); 3] = [
+    (
+        b"\x18bplan\rp\x18bdiary\rd",
+        [
+            "notes is as its file n\n",
+            "plan is edited p\n",
+            "diary is edited d\n",
+            "",
+        ],
+    ),
+    (b"\x18bplan\rq", ["plan is edited qp\n", "", "", ""]),
+    (
+        b"\x18bnotes\rx\x18bdiary\re",
+        ["notes is edited xn\n", "diary is edited ed\n", "", ""],
+    ),
+];
+
+// A round comes to each buffer whose text stands otherwise than when it was kept, one a turn, in the order of the buffers.
+#[test]
+fn each_text_that_changed_is_kept_in_its_turn(rt: HostRuntime) {
+    let mut server = serve(rt.alloc(), 100, &rt);
+    let ann = sit(&mut server, "ann", &rt);
+    for (keys, kept) in &ROUNDS {
+        press(&mut server, ann, keys);
+        for told in kept {
+            let before = server.journal().words().len();
+            server.tell_ended();
+            assert!(rt; server.journal().words().get(before..) == Some(*told));
+        }
+    }
+}

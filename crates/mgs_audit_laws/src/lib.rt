@@ -3,8 +3,8 @@
 //! its lines tell. There is no other code.
 #![tactic(auto)]
 
-ghost use Rattle.mgs_audit.specs.Effects.{AreOfEffects};
-ghost use Rattle.mgs_audit.specs.Lines.{AreAsTold, TellsOn};
+ghost use Rattle.mgs_audit_laws.specs.Effects.{AreOfEffects};
+ghost use Rattle.mgs_audit_laws.specs.Lines.{AreAsTold, TellsOn};
 
 /// Buffers need no sessions: after any run they are what its effects, one after another, make of those before it.
 #[tactic(auto, using(crate::proofs::Effects::are_of_effects))]

@@ -6,9 +6,9 @@ use Rattle.mgs_model.specs.Outcome.{Effect}
 use Rattle.mgs_model.specs.World.{World, Session, find_session}
 use Rattle.mgs_model.specs.Events.{Event, Open, Byte, Close, run, step, event_effects, can_open}
 use Rattle.mgs_laws.specs.Apart.{Rules, rules_of}
-use Rattle.mgs_audit.specs.Lines.{Line, Came, Ruled, rights_told, told, told_by, audit, lines_of, ruled_in, refused_in, denial_in, refusal, left_in, user_of}
-use Rattle.mgs_audit.proofs.Effects.{step_buffers}
-use Rattle.mgs_audit.proofs.Rights.{rights_done, rights_effects, all_told}
+use Rattle.mgs_audit_laws.specs.Lines.{Line, Came, Ruled, rights_told, told, told_by, audit, lines_of, ruled_in, refused_in, denial_in, refusal, left_in, user_of}
+use Rattle.mgs_audit_laws.proofs.Effects.{step_buffers}
+use Rattle.mgs_audit_laws.proofs.Rights.{rights_done, rights_effects, all_told}
 
 told_behind : (ls ms : List Line) (all : List Rules) → rights_told (ls ++ ms) all ≡ rights_told ms (rights_told ls all)
 told_behind [] ms all = refl

@@ -6,7 +6,7 @@ use Rattle.mgs_model.specs.Apply.{applied, outcome_in, without_session}
 use Rattle.mgs_model.specs.Events.{Event, Open, Byte, Close, Doing, run, run_effects, step, event_effects, effect_in, turn, turn_in, turn_done, turn_effects, turns, turns_effects, rests, most_turns, begun, with_state, byte_done, is_open, can_open, settled, opened}
 use Rattle.mgs_model.specs.Turns.{Turn, Rest, Keep, Do}
 use Rattle.mgs_model.proofs.Paths.{turns_none, effects_none, turns_step, effects_step}
-use Rattle.mgs_audit.specs.Effects.{effects_done}
+use Rattle.mgs_audit_laws.specs.Effects.{effects_done}
 
 pub done_behind : (fs gs : List Effect) (buffers : List Buffer) → effects_done (fs ++ gs) buffers ≡ effects_done gs (effects_done fs buffers)
 done_behind [] gs buffers = refl

@@ -7,8 +7,8 @@ use Rattle.mgs_model.specs.World.{Buffer, is_named, most_items}
 use Rattle.mgs_model.specs.Outcome.{Effect, No_effect, Edit, Unmodified, SetList, SetOwners, Create, Kill, Save, Quit}
 use Rattle.mgs_model.specs.Apply.{change_first, remove_first, new_buffer, owners_after, buffer_edited, buffer_unmodified, buffers_after, item_for}
 use Rattle.mgs_laws.specs.Apart.{Rules, rules_of}
-use Rattle.mgs_audit.specs.Effects.{effects_done}
-use Rattle.mgs_audit.specs.Lines.{are_of, rights_after, told}
+use Rattle.mgs_audit_laws.specs.Effects.{effects_done}
+use Rattle.mgs_audit_laws.specs.Lines.{are_of, rights_after, told}
 
 -- IN LISTS
 
