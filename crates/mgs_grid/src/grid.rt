@@ -9,6 +9,7 @@ ghost use Rattle.mgs_grid.specs.RowSets.{AreSameApart};
 
 use crate::line::Line;
 use crate::row_set::RowSet;
+use crate::shift::ShiftedRow;
 use crate::window::{clear_rows, draw_rows, take_some};
 use mgs_model::{Decision, Direction, Message, Name, Owners, Question, Short};
 use mgs_text::Text;
@@ -115,26 +116,25 @@ impl Grid {
     }
 
     /// Draws a text into `height` rows from row `first` on, one line in each, from the line that starts at
-    /// `top` on. A line that is too long is cut with a `$`. Row `row` of these is shown from column `shift`,
-    /// after a `$` unless that is 0. Rows past the text are blank.
+    /// `top` on. A line that is too long is cut with a `$`. One row of these, counted from the first, is shown from its
+    /// own column, after a `$` unless that is 0. Rows past the text are blank.
     pub fn draw_text<T: Text>(
         &mut self,
         first: usize,
         height: usize,
         text: &T,
         top: usize,
-        row: usize,
-        shift: usize,
+        shifted: ShiftedRow,
     )
         requires rows { first + height ≤ self.old.rows }
         requires within { top ≤ length (T.text text.now) }
         requires short { length (T.text text.now) < 2 ^ 32 }
-        requires shift { shift < 2 ^ 62 }
-        ensures { self.new ≡ with_rows first (text_rows self.old.cols (shift_at row shift) 0 height (drop top (T.text text.now))) self.old }
+        requires shift { shifted.shift < 2 ^ 62 }
+        ensures { self.new ≡ with_rows first (text_rows self.old.cols (shift_at shifted.row shifted.shift) 0 height (drop top (T.text text.now))) self.old }
     {
         let cols = self.cols;
         let lines = &mut self.lines[first..first + height];
-        draw_rows(lines, cols, text, top, row, shift);
+        draw_rows(lines, cols, text, top, shifted);
     }
 
     // Draws row `at` with the line of a text that starts at `start`.
@@ -145,7 +145,7 @@ impl Grid {
         requires shift { shift < 2 ^ 62 }
         ensures { self.new ≡ record self.old { lines = text_put at 1 0 shift (drop start (T.text text.now)) self.old } }
     {
-        self.draw_text(at, 1, text, start, 0, shift);
+        self.draw_text(at, 1, text, start, ShiftedRow { row: 0, shift });
     }
 
     /// Draws row `at` of a pane that shows a text, with the line that starts at `start`. Where the pane's other rows show the

@@ -19,4 +19,4 @@ mod window;
 pub use grid::Grid;
 pub use line::Line;
 pub use row_set::RowSet;
-pub use shift::shift_for;
+pub use shift::{ShiftedRow, shift_for};

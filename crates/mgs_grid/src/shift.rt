@@ -1,6 +1,15 @@
-// The column from which the point's line is shown.
+// The column from which a line is shown.
 ghost use Rattle.std.specs.Prelude.{◌≡◌, ◌+◌, ◌-◌, ◌<◌, ◌≤◌};
 ghost use Rattle.mgs_model.specs.Rows.{shift_for};
+
+/// A row of a text, and the column from which it is shown.
+#[derive(Clone, Copy)]
+pub struct ShiftedRow {
+    /// Which of the text's rows, from the first one that is shown.
+    pub row: usize,
+    /// The column, 0 where the row is shown from its start.
+    pub shift: usize,
+}
 
 /// The column from which a row of `cols` columns shows the line of the point, so that the point, in
 /// `column`, is in sight: 0 where the line's start and the point fit, and else a multiple of half the width.

@@ -6,29 +6,29 @@ ghost use Rattle.mgs_grid.specs.RowSets.{AreSameApart};
 
 use crate::line::Line;
 use crate::row_set::RowSet;
+use crate::shift::ShiftedRow;
 use mgs_model::ROWS_MAX;
 use mgs_text::Text;
 
-// Draws a text from the line that starts at `top` on; row `row` is shown from column `shift`.
+// Draws a text from the line that starts at `top` on; one row is shown from another column than 0.
 pub(crate) fn draw_rows<T: Text>(
     lines: &mut [Line],
     cols: usize,
     text: &T,
     top: usize,
-    row: usize,
-    shift: usize,
+    shifted: ShiftedRow,
 )
     requires some { 4 ≤ cols }
     requires width { cols < 2 ^ 62 }
     requires each { All (HasWidth cols) lines.old }
     requires within { top ≤ length (T.text text.now) }
     requires short { length (T.text text.now) < 2 ^ 32 }
-    requires shift { shift < 2 ^ 62 }
-    ensures { lines.new ≡ text_rows cols (shift_at row shift) 0 (length lines.old) (drop top (T.text text.now)) }
+    requires shift { shifted.shift < 2 ^ 62 }
+    ensures { lines.new ≡ text_rows cols (shift_at shifted.row shifted.shift) 0 (length lines.old) (drop top (T.text text.now)) }
 {
     let mut start = top;
     for (i, line) in lines.iter_mut().enumerate() {
-        let from = if i == row { shift } else { 0 };
+        let from = if i == shifted.row { shifted.shift } else { 0 };
         let end = line.draw_text(text, start, from);
         start = if end < text.len() { end + 1 } else { end };
     }

@@ -11,16 +11,9 @@ use crate::change::{Change, change_since};
 use crate::drawn_texts::{DrawnText, Shown};
 use crate::tab_stops::begin_at;
 use mgs_buffers::Found;
-use mgs_grid::{Grid, RowSet};
+use mgs_grid::{Grid, RowSet, ShiftedRow};
 use mgs_marks::Marked;
 use mgs_text::Text;
-
-/// A row of a text, and the column from which it is shown.
-#[derive(Clone, Copy)]
-struct ShiftedRow {
-    row: usize,
-    shift: usize,
-}
 
 /// Draws all rows of a text.
 fn draw_rows_of<T: Text>(text: &T, drawn: &DrawnText, rows: &mut RowSet, grid: &mut Grid)
@@ -29,14 +22,11 @@ fn draw_rows_of<T: Text>(text: &T, drawn: &DrawnText, rows: &mut RowSet, grid: &
     ensures drawn { IsDrawnOn rows.old rows.new grid.old grid.new }
 {
     let _rows = grid.rows();
-    grid.draw_text(
-        drawn.first,
-        drawn.height,
-        text,
-        drawn.shown.start,
-        drawn.shown.row,
-        drawn.shown.shift,
-    );
+    let own = ShiftedRow {
+        row: drawn.shown.row,
+        shift: drawn.shown.shift,
+    };
+    grid.draw_text(drawn.first, drawn.height, text, drawn.shown.start, own);
     rows.insert_rows(drawn.first, drawn.height);
 }
 

@@ -1,5 +1,5 @@
 // Rows as they are seen.
-use mgs_grid::{Grid, shift_for};
+use mgs_grid::{Grid, ShiftedRow, shift_for};
 use mgs_model::{Decision, Direction, Message, Name, Question, Right};
 use mgs_text::{PlainText, Text};
 use std::process::Abort;
@@ -37,7 +37,7 @@ fn rows_of_a_text(rt: HostRuntime) -> Result<(), Fail> {
     for row in 0..6 {
         shows(&rt, &grid, row, BLANK, false);
     }
-    grid.draw_text(1, 2, &text, 0, 0, 0);
+    grid.draw_text(1, 2, &text, 0, ShiftedRow { row: 0, shift: 0 });
     for &(row, expected) in &[
         (0, BLANK),
         (1, "a       b^A^?       "),
@@ -78,7 +78,7 @@ fn rows_of_a_long_line(rt: HostRuntime) -> Result<(), Fail> {
         assert!(rt; column < 300 && grid.rows() == 6);
         let shift = shift_for(20, column);
         assert!(rt; column - shift + 1 == cursor, "column {column}");
-        grid.draw_text(1, 2, &text, 0, 0, shift);
+        grid.draw_text(1, 2, &text, 0, ShiftedRow { row: 0, shift });
         shows(&rt, &grid, 1, row, false);
     }
     Ok(())

@@ -1,7 +1,7 @@
 // A grid, painted on a terminal.
 ghost use Rattle.std.specs.Prelude.{◌≡◌, ◌<◌, ◌^◌, length, IfOk};
 
-use mgs_grid::Grid;
+use mgs_grid::{Grid, ShiftedRow};
 use mgs_model::{Message, Name};
 use mgs_paint::{bound, first, paint};
 use mgs_term::{Cell, Term};
@@ -21,7 +21,7 @@ fn screen_of(alloc: Global, line: &[char], column: usize) -> Result<Grid, Fail>
     let notes = Name::read("notes").ok_or("no name")?;
     let mut grid = Grid::new(alloc, 6, 20)?;
     let text = PlainText::of(alloc, line)?;
-    grid.draw_text(0, 4, &text, 0, 0, 0);
+    grid.draw_text(0, 4, &text, 0, ShiftedRow { row: 0, shift: 0 });
     grid.draw_mode(4, Some((notes, true)), Some((1, column)));
     grid.set_cursor(0, column);
     Ok(grid)

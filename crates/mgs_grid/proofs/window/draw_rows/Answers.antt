@@ -8,7 +8,7 @@ use Rattle.mgs_grid.specs.Cells.{HasWidth}
 use Rattle.mgs_grid.proofs.Fits.{length-shown}
 use Rattle.mgs_grid.proofs.Rows.{row_at, rows_more, next_more, next_none}
 use Rattle.mgs_grid.proofs.window.draw_rows.Goals as goal
-use Rattle.mgs_grid.proofs.window.draw_rows.Goals.{then-i-row, else-i-row, then-end-len, else-end-len}
+use Rattle.mgs_grid.proofs.window.draw_rows.Goals.{then-i-shifted, else-i-shifted, then-end-len, else-end-len}
 
 pub loop-i-preserved : goal.loop-i-preserved
 loop-i-preserved g c =
@@ -16,12 +16,12 @@ loop-i-preserved g c =
     let cols : ℕ = c.args.cols in
     let i : ℕ = c.loop-i.i in
     let lines : List Row = c.loop-i.lines in
-    let shift : ℕ → ℕ = shift_at c.args.row c.args.shift in
+    let shift : ℕ → ℕ = shift_at c.args.shifted.row c.args.shifted.shift in
     let within : i < length lines = omega arith in
     let wide : length (get_or lines i c.index-lines-i.result).text ≡ cols = c.loop-i.invariant.each i c.index-lines-i.result within in
-    let from : c.if-i-row.from ≡ shift i = elim c.if-i-row.branch [
-      | then-i-row w ↦ w.from-is ∙ rw (eq-eqb i c.args.row w.if-i-row.true) refl
-      | else-i-row w ↦ w.from-is ∙ rw (ne_eqb i c.args.row w.if-i-row.false) refl
+    let from : c.if-i-shifted.from ≡ shift i = elim c.if-i-shifted.branch [
+      | then-i-shifted w ↦ w.from-is ∙ rw (eq-eqb i c.args.shifted.row w.if-i-shifted.true) refl
+      | else-i-shifted w ↦ w.from-is ∙ rw (ne_eqb i c.args.shifted.row w.if-i-shifted.false) refl
     ] in
     let new : c.draw_text-end.new.self ≡ row_at cols (shift i) xs c.loop-i.start = c.draw_text-end.ensures.row ∙ rw (wide, from) refl in
     let on : drop c.if-end-len.start xs ≡ after_first is_feed (drop c.loop-i.start xs) = elim c.if-end-len.branch [
