@@ -9,7 +9,7 @@ use Rattle.mgs_model.specs.Lines.{is_feed, start_of}
 use Rattle.mgs_model.specs.Rows.{Row, shown_row, text_rows, shift_at}
 use Rattle.mgs_grid.specs.Cells.{rows_put}
 use Rattle.mgs_model.specs.Picture.{Picture}
-use Rattle.mgs_grid.specs.Panes.{AreSameBut, IsDrawnBut, text_put}
+use Rattle.mgs_grid.specs.Panes.{AreSameBut, IsDrawnBut, TextPane, text_put}
 use Rattle.mgs_grid.proofs.Edited.{past_other}
 use Rattle.mgs_grid.proofs.Pictures.{set_put, length-text_rows}
 
@@ -62,11 +62,14 @@ one_row at first i rows lines r is within fits there same =
     ∙ set_inside first i rows lines r within (omega arith)
     ∙ ap (λ (rs : List Row). rows_put first rs lines) there
 
-pub text_by_row : (i at start from first height : ℕ) (text : List ℕ) (top row shift : ℕ) (p : Picture) → length p.lines ≡ p.rows → IsDrawnBut i at start from first height text top row shift p
-    → text_put at 1 0 from (drop start text) p ≡ text_put first height row shift (drop top text) p
-text_by_row i at start from first height text top row shift p count is =
+pub text_by_row : (i at start from : ℕ) (pane : TextPane) (text : List ℕ) (p : Picture) → length p.lines ≡ p.rows → IsDrawnBut i at start from pane text p
+    → text_put at 1 0 from (drop start text) p ≡ text_put pane.first pane.height pane.row pane.shift (drop pane.top text) p
+text_by_row i at start from pane text p count is =
+    let first : ℕ = pane.first in
+    let height : ℕ = pane.height in
+    let top : ℕ = pane.top in
     let rest : List ℕ = drop top text in
-    let shifts : ℕ → ℕ = shift_at row shift in
+    let shifts : ℕ → ℕ = shift_at pane.row pane.shift in
     let rows : List Row = text_rows p.cols shifts 0 height rest in
     let size : length rows ≡ height = length-text_rows p.cols shifts 0 height rest in
     let line : drop start text ≡ drop (start_of i rest) rest = ap (λ k. drop k text) is.line ∙ sym (drop-drop (start_of i rest) top text) in

@@ -17,17 +17,27 @@ AreSameBut i olds news = (r : Row) → slice_set olds i r ≡ slice_set news i r
 abbrev pub text_put : ℕ → ℕ → ℕ → ℕ → List ℕ → Picture → List Row
 text_put first height row shift rest p = rows_put first (text_rows p.cols (shift_at row shift) 0 height rest) p.lines
 
+-- the rows of a picture that show a text: `height` of them from row `first` on show it from the line that starts at `top` on, and row `row`
+-- of these from column `shift`
+pub record TextPane : Type 0 where
+  pub first : ℕ
+  pub height : ℕ
+  pub top : ℕ
+  pub row : ℕ
+  pub shift : ℕ
+
 -- A text's rows stand already but for the i-th of them. That one is row `at` of the picture, and shows the line that starts at `start`
 -- from column `from`.
-pub record IsDrawnBut (i at start from first height : ℕ) (text : List ℕ) (top row shift : ℕ) (p : Picture) : Type 0 where
-  pub place : at ≡ first + i
-  pub within : i < height
-  pub fits : first + height ≤ p.rows
-  pub line : start ≡ top + start_of i (drop top text)
-  pub column : from ≡ shift_at row shift i
-  pub others : AreSameBut at p.lines (text_put first height row shift (drop top text) p)
+pub record IsDrawnBut (i at start from : ℕ) (pane : TextPane) (text : List ℕ) (p : Picture) : Type 0 where
+  pub place : at ≡ pane.first + i
+  pub within : i < pane.height
+  pub fits : pane.first + pane.height ≤ p.rows
+  pub line : start ≡ pane.top + start_of i (drop pane.top text)
+  pub column : from ≡ shift_at pane.row pane.shift i
+  pub others : AreSameBut at p.lines (text_put pane.first pane.height pane.row pane.shift (drop pane.top text) p)
 
 -- the picture's row `at` gets the line that starts at `start`: where a text's rows stood but for that one, all stand
 abbrev pub CompletesPanes : ℕ → ℕ → ℕ → List ℕ → Picture → Picture → Type 0
 CompletesPanes at start shift text old new =
-    (i first height top row from : ℕ) → IsDrawnBut i at start shift first height text top row from old → new ≡ record old { lines = text_put first height row from (drop top text) old }
+    (i : ℕ) (pane : TextPane) → IsDrawnBut i at start shift pane text old
+    → new ≡ record old { lines = text_put pane.first pane.height pane.row pane.shift (drop pane.top text) old }

@@ -9,7 +9,7 @@ use Rattle.mgs_model.specs.Lines.{is_feed, start_of}
 use Rattle.mgs_model.specs.Picture.{Picture}
 use Rattle.mgs_model.specs.Rows.{Row, text_rows, shift_at, shown_row}
 use Rattle.mgs_grid.specs.Cells.{rows_put}
-use Rattle.mgs_grid.specs.Panes.{AreSameBut, IsDrawnBut, text_put}
+use Rattle.mgs_grid.specs.Panes.{AreSameBut, IsDrawnBut, TextPane, text_put}
 use Rattle.mgs_grid.proofs.Edited.{edited_rows}
 use Rattle.mgs_grid.proofs.Panes.{put_again, same_put}
 use Rattle.mgs_grid.proofs.Pictures.{length-text_rows}
@@ -86,13 +86,16 @@ length_standing : (first h : ℕ) (olds : List Row) (p : Picture) → first + h 
 length_standing first h olds p fits stand = ap length (sym stand) ∙ length-rows_at first h p.lines fits
 
 -- it is in sight
-pub but_one : (i first h top at row shift from : ℕ) (text : List ℕ) (olds : List Row) (p : Picture) → length p.lines ≡ p.rows → first + h ≤ p.rows → i < h
-    → at ≡ top + start_of i (drop top text) → from ≡ shift_at row shift i
-    → rows_at first h p.lines ≡ olds → AreSameBut i olds (text_rows p.cols (shift_at row shift) 0 h (drop top text))
-    → IsDrawnBut i (first + i) at from first h text top row shift p
-but_one i first h top at row shift from text olds p count room within line column stand same =
-    let news : List Row = text_rows p.cols (shift_at row shift) 0 h (drop top text) in
-    let size : length news ≡ h = length-text_rows p.cols (shift_at row shift) 0 h (drop top text) in
+pub but_one : (i at from : ℕ) (pane : TextPane) (text : List ℕ) (olds : List Row) (p : Picture) → length p.lines ≡ p.rows → pane.first + pane.height ≤ p.rows → i < pane.height
+    → at ≡ pane.top + start_of i (drop pane.top text) → from ≡ shift_at pane.row pane.shift i
+    → rows_at pane.first pane.height p.lines ≡ olds → AreSameBut i olds (text_rows p.cols (shift_at pane.row pane.shift) 0 pane.height (drop pane.top text))
+    → IsDrawnBut i (pane.first + i) at from pane text p
+but_one i at from pane text olds p count room within line column stand same =
+    let first : ℕ = pane.first in
+    let h : ℕ = pane.height in
+    let rest : List ℕ = drop pane.top text in
+    let news : List Row = text_rows p.cols (shift_at pane.row pane.shift) 0 h rest in
+    let size : length news ≡ h = length-text_rows p.cols (shift_at pane.row pane.shift) 0 h rest in
     let long : length olds ≡ h = length_standing first h olds p (omega (arith, count, room)) stand in
     record {
       place = refl;

@@ -2,6 +2,7 @@ use Rattle.std.proofs.Common.{◌≡◌, ◌+◌, ℕ, List, drop, length, ap, �
 use Rattle.mgs_model.specs.Lines.{start_of}
 use Rattle.mgs_model.specs.Picture.{Picture}
 use Rattle.mgs_model.specs.Rows.{Row, text_rows, shift_at}
+use Rattle.mgs_grid.specs.Panes.{TextPane}
 use Rattle.mgs_grid.proofs.Pictures.{length-text_rows}
 use Rattle.mgs_grid.proofs.Panes.{text_by_row}
 use Rattle.mgs_screen.proofs.Changes.{start_down}
@@ -19,12 +20,13 @@ returns-clause-grid g c = λ top from olds column stand same.
     let at : ℕ = d.first + row in
     let begin = c.begin_at-begin.result in
     let start : ℕ = start_of (d.shown.above + row) text in
-    let drawn = but_one row d.first d.height d.shown.start start top from c.args.at.shift text olds p c.rows-rows.ensures.picture.count c.requires.pane.room c.if-at-drawn.false
+    let pane : TextPane = record { first = d.first; height = d.height; top = d.shown.start; row = top; shift = from } in
+    let drawn = but_one row start c.args.at.shift pane text olds p c.rows-rows.ensures.picture.count c.requires.pane.room c.if-at-drawn.false
     (start_down d.shown.above row d.shown.start text c.requires.pane.top.begins) column stand same in
     c.draw_text_row.ensures.row
     ∙ ap (λ (ls : List Row). record p { lines = ls }) (
     row_same at begin.shift c.args.at.shift begin.place start text p (c.begin_at-begin.ensures.row p.cols)
-    ∙ text_by_row row at start c.args.at.shift d.first d.height text d.shown.start top from p c.rows-rows.ensures.picture.count drawn)
+    ∙ text_by_row row at start c.args.at.shift pane text p c.rows-rows.ensures.picture.count drawn)
 
 pub returns-clause-drawn : goal.returns-clause-drawn
 returns-clause-drawn g c =

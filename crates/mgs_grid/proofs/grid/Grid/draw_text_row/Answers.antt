@@ -5,6 +5,6 @@ use Rattle.mgs_grid.proofs.Panes.{text_by_row}
 use Rattle.mgs_grid.proofs.grid.Grid.draw_text_row.Goals as goal
 
 pub returns-clause-pane : goal.returns-clause-pane
-returns-clause-pane g c = λ i first height top row from is.
+returns-clause-pane g c = λ i pane is.
     let p : Picture = c.args.self.now in
-    c.draw_line.ensures ∙ ap (λ (ls : List Row). record p { lines = ls }) (text_by_row i c.args.at c.args.start c.args.shift first height (g.T.Text.text c.args.text.now) top row from p c.rows-rows.ensures.picture.count is)
+    c.draw_line.ensures ∙ ap (λ (ls : List Row). record p { lines = ls }) (text_by_row i c.args.at c.args.start c.args.shift pane (g.T.Text.text c.args.text.now) p c.rows-rows.ensures.picture.count is)
