@@ -30,6 +30,7 @@ use Rattle.mgs_model.specs.declared.session.EntryChange.TheVariants.{DeleteEntry
 use Rattle.mgs_model.specs.declared.session.Setting.{Setting}
 use Rattle.mgs_model.specs.declared.session.Setting.TheVariants.{SetFillColumn, KeyboardQuit, StartMacro, EndMacro}
 use Rattle.mgs_buffers.specs.Changing.{writes}
+use Rattle.mgs_buffers.specs.Found.{Named}
 use Rattle.mgs_buffers.specs.MarkedBuffer.{IsMark, MarkedBuffer, marked_at, marked_edited, marked_named, marked_placed, marked_unmodified, mark_at}
 use Rattle.mgs_windows.specs.declared.WindowMarks.{WindowMarks}
 use Rattle.mgs_windows.specs.declared.Window.{Window}
@@ -141,6 +142,10 @@ around_given directory ks user x g killed =
       height = g.height;
       fill = g.fill;
     }
+
+-- in a buffer that was looked up
+abbrev pub around_found : Directory → Named → List ℕ → WindowMarks → Given → ℕ → Around
+around_found directory f user x g killed = around_given directory f.all user (marks_in f.name x) g killed
 
 -- that it is that, by whomever may read the text
 abbrev pub IsAroundReading : List MarkedBuffer → WindowMarks → Given → ℕ → Around → Type 0
@@ -415,10 +420,12 @@ IsGrantedIn ks name kill around c action =
     (state : model.State) (rest : plans.Around)
     → action_outcome state name b.text b.items kill action ≡ granted_outcome state c b.text b.items (surrounded around (length b.text) (record rest { name = name; kill = kill; serial = b.serial }))
 
--- that it is what a command comes to through a window's marks, by a user who is given this and has this kill buffer
-abbrev pub IsActionFor : Directory → List MarkedBuffer → List ℕ → WindowMarks → Given → List ℕ → Command → List ℕ → Action → Type 0
-IsActionFor directory ks user x g kill c typed action =
-    (state : model.State) → outcome_through (given_state g state) x ks kill action ≡ plan_in directory ks (given_state g state) user x g.height c g.argument typed kill
+-- that it is what a command comes to in a buffer that was looked up, through a window's marks, by a user who is given this and has this
+-- kill buffer
+abbrev pub IsActionFor : Directory → Named → List ℕ → WindowMarks → Given → List ℕ → Command → Action → Type 0
+IsActionFor directory f user x g kill c action =
+    let w = marks_in f.name x in
+    (state : model.State) → outcome_through (given_state g state) w f.all kill action ≡ plan_in directory f.all (given_state g state) user w g.height c g.argument [] kill
 
 -- and by a session at rest
 abbrev pub IsActionOf : Directory → List MarkedBuffer → Session → WindowMarks → Command → Option ℕ → List ℕ → Action → Type 0

@@ -2,6 +2,7 @@
 #![tactic(auto)]
 
 mod action;
+mod actor;
 mod acts;
 mod answering;
 mod following;

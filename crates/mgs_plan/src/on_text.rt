@@ -7,6 +7,7 @@ ghost use Rattle.mgs_plan.specs.Deciding.{CanPerform, IsActionGranted, IsPlanned
 ghost use Rattle.mgs_world.specs.Worlds.{idle, state_of};
 
 use crate::action::Action;
+use crate::actor::Actor;
 use crate::given::Given;
 use crate::outcome::Outcome;
 use crate::planning::plan;
@@ -39,10 +40,13 @@ fn plan_for<T: Marked + Drop>(
         height: session.windows.selected_window().height,
         fill: session.state.fill,
     };
+    let actor = Actor {
+        directory,
+        user: &session.user,
+    };
     plan(
         found,
-        directory,
-        &session.user,
+        &actor,
         window_marks,
         &given,
         session.kill.as_slice(),

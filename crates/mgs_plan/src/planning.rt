@@ -1,16 +1,17 @@
 // What a command on a text comes to: whether it is permitted, and what its family plans.
-ghost use Rattle.std.specs.Prelude.{◌≡◌, ◌≤◌, ◌+◌, ℕ, List, [], length, None, Ok, IfOk, IfSome, true};
+ghost use Rattle.std.specs.Prelude.{◌≡◌, ◌≤◌, ◌+◌, ℕ, List, length, None, Ok, IfOk, IfSome, true};
 ghost use Rattle.mgs_model.specs.declared.entry.Decision.TheVariants.{Granted};
 ghost use Rattle.mgs_model.specs.World.{Item};
 ghost use Rattle.mgs_undo.specs.Numbered.{item_of};
 ghost use Rattle.mgs_buffers.specs.Changing.{writes};
 ghost use Rattle.mgs_buffers.specs.MarkedBuffer.{marked_at};
 ghost use Rattle.mgs_edit.specs.Reading.{ChangeWithin, FinishWithin, IsWithin};
-ghost use Rattle.mgs_plan.specs.Actions.{AreMarks, CanDo, CanDoIn, CanTakeBack, CanUndoSo, IsAroundReading, around_given, insertion_mask, is_on_text, mark_shown, marks_in, mask_at, reading_mask_at};
+ghost use Rattle.mgs_plan.specs.Actions.{AreMarks, CanDo, CanDoIn, CanTakeBack, CanUndoSo, IsAroundReading, around_found, insertion_mask, is_on_text, mark_shown, marks_in, mask_at, reading_mask_at};
 ghost use Rattle.mgs_plan.specs.Actions.{IsActionFor, IsDoneBy, IsEditOf, IsGrantedIn, IsMotionOf, IsTakenBack, IsUndoIn, IsUndoneSo};
 ghost use Rattle.mgs_plan.specs.Deciding.{IsActionGranted, Refuses};
 
 use crate::action::Action;
+use crate::actor::Actor;
 use crate::given::Given;
 use mgs_buffers::Found;
 use mgs_edit::{
@@ -19,7 +20,6 @@ use mgs_edit::{
 };
 use mgs_marks::Marked;
 use mgs_model::{Command, Decision, Kind, Mask, Message, Name, Right};
-use mgs_policy::Directory;
 use mgs_text::Text;
 use mgs_undo::Edit;
 use mgs_windows::WindowMarks;
@@ -63,18 +63,17 @@ fn around_reading<T: Marked + Drop>(
 /// What a planner is given. A user who may not read the text acts at its end, and has no mark.
 fn around<T: Marked + Drop>(
     found: &Found<T>,
-    directory: &Directory,
-    user: &Name,
+    actor: &Actor<'_>,
     window_marks: &WindowMarks,
     given: &Given,
     killed: usize,
 ) -> Around
     requires { AreMarks found.now.all (marks_in found.now.name window_marks.now) }
-    ensures value { result ≡ around_given directory.now found.now.all user.now (marks_in found.now.name window_marks.now) given.now killed }
+    ensures value { result ≡ around_found actor.now.directory.now found.now actor.now.user.now window_marks.now given.now killed }
     ensures place { result.place ≤ length (marked_at found.now.name found.now.all).buffer.text }
     ensures mark { IsWithin (length (marked_at found.now.name found.now.all).buffer.text) result.mark }
 {
-    if found.grants(directory, user, Right::ReadData) {
+    if found.grants(actor.directory, actor.user, Right::ReadData) {
         return around_reading(found, window_marks, given, killed);
     }
     Around {
@@ -281,8 +280,7 @@ pub fn denial(decision: Decision) -> Option<Message>
 /// What a command on a text comes to where one walk over the access list grants the user to read, and all that the command needs.
 fn plan_outright<T: Marked + Drop>(
     found: &Found<T>,
-    directory: &Directory,
-    user: &Name,
+    actor: &Actor<'_>,
     window_marks: &WindowMarks,
     given: &Given,
     kill: &[char],
@@ -290,14 +288,14 @@ fn plan_outright<T: Marked + Drop>(
 ) -> Option<Action>
     requires marks { AreMarks found.now.all (marks_in found.now.name window_marks.now) }
     requires here { is_on_text command ≡ true }
-    ensures value { IfSome result (IsActionFor directory.now found.now.all user.now (marks_in found.now.name window_marks.now) given.now kill.now command []) }
+    ensures value { IfSome result (IsActionFor actor.now.directory.now found.now actor.now.user.now window_marks.now given.now kill.now command) }
     ensures can { IfSome result (CanDoIn found.now.all found.now.name kill.now) }
-    ensures granted { IfSome result (IsActionGranted directory.now found.now.all user.now found.now.name) }
+    ensures granted { IfSome result (IsActionGranted actor.now.directory.now found.now.all actor.now.user.now found.now.name) }
 {
     let size = found.text_len();
     let around = around_reading(found, window_marks, given, kill.len());
     let all = needs_reading(&command, around.place, size);
-    match denial(found.decide_all(directory, user, all)) {
+    match denial(found.decide_all(actor.directory, actor.user, all)) {
         Some(_) => None,
         None => {
             let mask = needs(&command, around.place, size);
@@ -310,8 +308,7 @@ fn plan_outright<T: Marked + Drop>(
 /// decided first, and then what the command needs.
 fn plan_judged<T: Marked + Drop>(
     found: &Found<T>,
-    directory: &Directory,
-    user: &Name,
+    actor: &Actor<'_>,
     window_marks: &WindowMarks,
     given: &Given,
     kill: &[char],
@@ -319,14 +316,14 @@ fn plan_judged<T: Marked + Drop>(
 ) -> Action
     requires marks { AreMarks found.now.all (marks_in found.now.name window_marks.now) }
     requires here { is_on_text command ≡ true }
-    ensures value { IsActionFor directory.now found.now.all user.now (marks_in found.now.name window_marks.now) given.now kill.now command [] result }
+    ensures value { IsActionFor actor.now.directory.now found.now actor.now.user.now window_marks.now given.now kill.now command result }
     ensures can { CanDoIn found.now.all found.now.name kill.now result }
-    ensures granted { IsActionGranted directory.now found.now.all user.now found.now.name result }
+    ensures granted { IsActionGranted actor.now.directory.now found.now.all actor.now.user.now found.now.name result }
 {
     let size = found.text_len();
-    let around = around(found, directory, user, window_marks, given, kill.len());
+    let around = around(found, actor, window_marks, given, kill.len());
     let mask = needs(&command, around.place, size);
-    match denial(found.decide_all(directory, user, mask)) {
+    match denial(found.decide_all(actor.directory, actor.user, mask)) {
         Some(message) => Action::Fails(message),
         None => plan_granted(found, kill, &around, mask, command),
     }
@@ -335,8 +332,7 @@ fn plan_judged<T: Marked + Drop>(
 /// What a command on a text comes to through a window's marks, by a user whose session has this kill buffer.
 pub(crate) fn plan<T: Marked + Drop>(
     found: &Found<T>,
-    directory: &Directory,
-    user: &Name,
+    actor: &Actor<'_>,
     window_marks: &WindowMarks,
     given: &Given,
     kill: &[char],
@@ -344,12 +340,12 @@ pub(crate) fn plan<T: Marked + Drop>(
 ) -> Action
     requires marks { AreMarks found.now.all (marks_in found.now.name window_marks.now) }
     requires here { is_on_text command ≡ true }
-    ensures value { IsActionFor directory.now found.now.all user.now (marks_in found.now.name window_marks.now) given.now kill.now command [] result }
+    ensures value { IsActionFor actor.now.directory.now found.now actor.now.user.now window_marks.now given.now kill.now command result }
     ensures can { CanDoIn found.now.all found.now.name kill.now result }
-    ensures granted { IsActionGranted directory.now found.now.all user.now found.now.name result }
+    ensures granted { IsActionGranted actor.now.directory.now found.now.all actor.now.user.now found.now.name result }
 {
-    match plan_outright(found, directory, user, window_marks, given, kill, command) {
+    match plan_outright(found, actor, window_marks, given, kill, command) {
         Some(action) => action,
-        None => plan_judged(found, directory, user, window_marks, given, kill, command),
+        None => plan_judged(found, actor, window_marks, given, kill, command),
     }
 }

@@ -18,8 +18,8 @@ plan_granted-requires-clause-mask g c = c.needs-mask.ensures ∙ ap (mask_at c.a
 pub returns-in-None-clause-value : goal.returns-in-None-clause-value
 returns-in-None-clause-value g c =
     let f : Named = c.args.found.now in
-    let d = c.args.directory.now in
-    let user = c.args.user.now in
+    let d = c.args.actor.now.directory.now in
+    let user = c.args.actor.now.user.now in
     let ks = f.all in
     let x = marks_in f.name c.args.window_marks.now in
     let b = (marked_at x.name ks).buffer in
@@ -35,8 +35,8 @@ returns-in-None-clause-value g c =
 pub returns-in-None-clause-granted : goal.returns-in-None-clause-granted
 returns-in-None-clause-granted g c =
     let f : Named = c.args.found.now in
-    let d = c.args.directory.now in
-    let user = c.args.user.now in
+    let d = c.args.actor.now.directory.now in
+    let user = c.args.actor.now.user.now in
     let b = (marked_at f.name f.all).buffer in
     let around = c.around_reading-around.result in
     let all : decision d b.owners user b.entries (reading_mask_at c.args.command around.place (length b.text)) ≡ Granted =
