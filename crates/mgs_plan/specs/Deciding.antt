@@ -18,7 +18,7 @@ use Rattle.mgs_session.specs.Sessions.{window_marks_of}
 use Rattle.mgs_session.specs.declared.Session.{Session}
 use Rattle.mgs_windows.specs.declared.WindowMarks.{WindowMarks}
 use Rattle.mgs_plan.specs.Actions.{CanBeDone, insertion_mask, is_setting_done, outcome_through}
-use Rattle.mgs_plan.specs.Inserting.{CanCopy, copy_outcome, put_outcome, rights_decision, target_decision}
+use Rattle.mgs_plan.specs.Inserting.{CanCopy, copied_at, copy_outcome, put_outcome, rights_decision, target_decision}
 use Rattle.mgs_plan.specs.Listed.{CanSetList, entries_planned}
 use Rattle.mgs_plan.specs.Listing.{lists_named}
 use Rattle.mgs_plan.specs.Rows.{CanScroll, outcome_without, rows_outcome, rows_scrolled}
@@ -155,6 +155,10 @@ IsCreation ks typed o = (v : View) (stored : Bool) → length v.buffers ≡ leng
 -- that it is what it comes to for a user that the text of a buffer that is there comes in, through a window's marks
 abbrev pub IsCopy : Directory → List MarkedBuffer → List ℕ → List ℕ → WindowMarks → Outcome → Type 0
 IsCopy directory ks user source x o = (v : View) (stored : Bool) → copy_outcome directory ks v.session.state user source x ≡ outcome_read ks v o stored
+
+-- and at a place of the buffer of a name, where the rights are granted
+abbrev pub IsCopyAt : List MarkedBuffer → List ℕ → List ℕ → ℕ → Outcome → Type 0
+IsCopyAt ks source name place o = (v : View) (stored : Bool) → copied_at ks v.session.state source name place ≡ outcome_read ks v o stored
 
 -- that it is what scrolling comes to, or any other command on a text, in a session whose selected window shows none
 abbrev pub IsUnshown : Session → Option Scrolling → Outcome → Type 0

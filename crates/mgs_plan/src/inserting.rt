@@ -1,15 +1,14 @@
 // What the insertion of a buffer's text into the one that is shown comes to.
-ghost use Rattle.std.specs.Prelude.{◌≡◌, ◌<◌, ◌≤◌, ℕ, Bool, length, Option, Some, None, IfSome};
+ghost use Rattle.std.specs.Prelude.{◌≡◌, ◌<◌, ◌≤◌, ℕ, length, Option, Some, None, IfSome};
 ghost use Rattle.mgs_model.specs.Outcome.{Run};
-ghost use Rattle.mgs_model.specs.View.{View};
 ghost use Rattle.mgs_model.specs.declared.entry.Decision.TheVariants.{Granted};
 ghost use Rattle.mgs_buffers.specs.MarkedBuffer.{HasBuffer, marked_at};
 ghost use Rattle.mgs_model.specs.declared.session.ByName.TheVariants.{InsertBuffer};
 ghost use Rattle.mgs_model.specs.declared.session.Command.TheVariants.{Named};
 ghost use Rattle.mgs_session.specs.Sessions.{window_marks_of};
 ghost use Rattle.mgs_plan.specs.Actions.{AreMarks};
-ghost use Rattle.mgs_plan.specs.Deciding.{CanPerform, CanWhereInserted, IsCopy, IsGranted, IsPlanned, Refuses, outcome_read};
-ghost use Rattle.mgs_plan.specs.Inserting.{acting_place, copied_at, copy_decision, is_copy_full, rights_decision, target_decision};
+ghost use Rattle.mgs_plan.specs.Deciding.{CanPerform, CanWhereInserted, IsCopy, IsCopyAt, IsGranted, IsPlanned, Refuses};
+ghost use Rattle.mgs_plan.specs.Inserting.{acting_place, copy_decision, is_copy_full, rights_decision, target_decision};
 
 use crate::judging::refusal;
 use crate::outcome::Outcome;
@@ -100,7 +99,7 @@ fn copied_at<T: Marked + Drop>(
     requires source { HasBuffer source buffers.now }
     requires target { HasBuffer window_marks.now.name buffers.now }
     requires within { place ≤ length (marked_at window_marks.now.name buffers.now).buffer.text }
-    ensures value { (v : View) (saved : Bool) → copied_at buffers.now v.session.state source window_marks.now.name place ≡ outcome_read buffers.now v result saved }
+    ensures value { IsCopyAt buffers.now source window_marks.now.name place result }
     ensures can { CanWhereInserted buffers.now window_marks.now place result }
 {
     if is_full(buffers, &source, &window_marks.name) {
