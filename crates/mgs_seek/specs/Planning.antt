@@ -29,14 +29,14 @@ use Rattle.mgs_session.specs.declared.search.Aim.TheVariants.{Replace}
 use Rattle.mgs_session.specs.declared.search.Edited.{Edited}
 use Rattle.mgs_session.specs.declared.search.Search.{Search}
 use Rattle.mgs_windows.specs.declared.WindowMarks.{WindowMarks}
-use Rattle.mgs_plan.specs.Actions.{edited_by, mark_gone}
+use Rattle.mgs_plan.specs.Actions.{edited_by}
 use Rattle.mgs_seek.specs.Beginning.{search_held}
 use Rattle.mgs_plan.specs.Deciding.{IsGranted}
 use Rattle.mgs_plan.specs.Following.{followed, if_edit}
 use Rattle.mgs_plan.specs.Tells.{touched_in}
 use Rattle.mgs_world.specs.Worlds.{aim_input, aim_old, state_of, session_id, session_of, world_of}
 use Rattle.mgs_seek.specs.Acting.{Does, IsSought, as_is}
-use Rattle.mgs_seek.specs.Replacing.{point_met, remaining_at, replacement, replacing_state, search_counted, session_met}
+use Rattle.mgs_seek.specs.Replacing.{buffers_met, remaining_at, replacement, replacing_state, search_counted, session_met}
 use Rattle.mgs_seek.specs.declared.replacing.Planned.{Planned}
 
 -- WHAT IS TAKEN OUT, AND PUT IN, where there is a match or none
@@ -172,7 +172,7 @@ counted_if true s = search_counted s
 counted_if false s = s
 
 pub record IsLeft (p : Planned) (s : Search) (ks ls : List MarkedBuffer) (h y : Session) : Type 0 where
-  pub buffers : ls ≡ mark_gone p.window_marks.name p.window_marks.point (point_met (length (aim_old s.aim)) p.plan.next (left_at p)) ks
+  pub buffers : ls ≡ buffers_met p.window_marks s p.plan.next (left_at p) ks
   pub session : y ≡ session_met p.plan.next (counted_if p.plan.replaces s) h
 
 -- the positions of a search and of its session go by an edit

@@ -1,5 +1,5 @@
 -- A query-replace: the record with which it begins, one that is taken out of its session, and what a match leaves.
-use Rattle.std.specs.Prelude.{ℕ, ◌+◌, ◌-◌, min, Bool, true, false, List, Option, Some, None}
+use Rattle.std.specs.Prelude.{ℕ, ◌+◌, ◌-◌, min, Bool, true, false, List, length, Option, Some, None}
 use Rattle.mgs_model.specs.Acts.{counted, without_all}
 use Rattle.mgs_model.specs.Outcome.{At, PointPlan}
 use Rattle.mgs_model.specs.World.{State}
@@ -10,14 +10,16 @@ use Rattle.mgs_model.specs.declared.session.Replacement.{Replacement}
 use Rattle.mgs_model.specs.declared.session.Replacement.TheVariants.{ReplaceMatch, ReplaceLast}
 use Rattle.mgs_buffers.specs.MarkedBuffer.{MarkedBuffer}
 use Rattle.mgs_edit.specs.Reading.{top_read}
+use Rattle.mgs_windows.specs.declared.WindowMarks.{WindowMarks}
 use Rattle.mgs_session.specs.Seeking.{searching}
 use Rattle.mgs_session.specs.Sessions.{acted, playing_as, resting, told}
 use Rattle.mgs_session.specs.declared.Session.{Session}
 use Rattle.mgs_session.specs.declared.search.Aim.{Aim}
 use Rattle.mgs_session.specs.declared.search.Aim.TheVariants.{Find, Replace}
 use Rattle.mgs_session.specs.declared.search.Search.{Search}
+use Rattle.mgs_plan.specs.Actions.{mark_gone}
 use Rattle.mgs_seek.specs.Beginning.{search_held}
-use Rattle.mgs_world.specs.Worlds.{aim_count, buffers_of, size_named}
+use Rattle.mgs_world.specs.Worlds.{aim_count, aim_old, buffers_of, size_named}
 
 -- it begins with this text, which comes in the place of that one
 abbrev pub replacing_state : List ℕ → List ℕ → State → State
@@ -68,3 +70,7 @@ session_met (Some m) s h = acted Other (searching (record s { anchor = m }) (res
 abbrev pub point_met : ℕ → Option ℕ → Option ℕ → PointPlan
 point_met len (Some m) left = At (m + len)
 point_met len None left = top_read left
+
+-- and the buffers, where that is the point of this window
+abbrev pub buffers_met : WindowMarks → Search → Option ℕ → Option ℕ → List MarkedBuffer → List MarkedBuffer
+buffers_met x s next left ks = mark_gone x.name x.point (point_met (length (aim_old s.aim)) next left) ks

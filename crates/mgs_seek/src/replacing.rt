@@ -8,10 +8,9 @@ ghost use Rattle.mgs_session.specs.declared.Session.{Session};
 ghost use Rattle.mgs_session.specs.declared.search.Aim.TheVariants.{Replace};
 ghost use Rattle.mgs_session.specs.Replacing.{Replacing};
 ghost use Rattle.mgs_session.specs.declared.search.Search.{Search};
-ghost use Rattle.mgs_plan.specs.Actions.{mark_gone};
 ghost use Rattle.mgs_seek.specs.Beginning.{search_held};
 ghost use Rattle.mgs_plan.specs.Following.{if_edit};
-ghost use Rattle.mgs_seek.specs.Replacing.{if_replaces, point_met, replacing_of, search_counted, session_met, session_over};
+ghost use Rattle.mgs_seek.specs.Replacing.{buffers_met, if_replaces, replacing_of, search_counted, session_met, session_over};
 ghost use Rattle.mgs_seek.specs.Planning.{CanPerform, FullAt, IsDoneAt, IsFurther, IsLeft, IsRefusable, IsReplaced, IsSkipped, IsStarted, IsToldBy, IsUnsought, NextFits, IsPlan, IsPlanned, PlannedAt, ReplacementFails, SkipDone, buffers_edited, counted_if, edit_planned, is_full_in, put_of, touched_edit};
 ghost use Rattle.mgs_seek.specs.Acting.{DoesStart};
 ghost use Rattle.mgs_world.specs.Acted.{IsSameWorld};
@@ -121,39 +120,45 @@ fn go_to(session: &mut Session, search: Search, next: Option<usize>)
     }
 }
 
-/// The same, with the window's point behind the match; without one it is where it is left.
+/// Where a query-replace goes: to its next match, if there is one, and without one the window's point to where it is left.
+#[derive(Clone, Copy)]
+struct Destination {
+    next: Option<usize>,
+    left: Option<usize>,
+}
+
+/// It is there, and the window's point is behind the match, or where it is left.
 fn meet<T: Marked + Drop>(
     buffers: &mut Buffers<T>,
     session: &mut Session,
     window_marks: &WindowMarks,
     at: usize,
     search: Search,
-    left: Option<usize>,
-    next: Option<usize>,
+    to: Destination,
 )
     requires mark { IsMark window_marks.now.name window_marks.now.point buffers.old }
     requires place { at ≡ position_or_len (marked_named window_marks.now.name) buffers.old }
-    requires left { IfSome left (λ p. p ≤ length (marked_at window_marks.now.name buffers.old).buffer.text) }
-    requires next { IfSome next (λ m. m + length (aim_old search.aim) ≤ length (marked_at window_marks.now.name buffers.old).buffer.text) }
-    ensures buffers { buffers.new ≡ mark_gone window_marks.now.name window_marks.now.point (point_met (length (aim_old search.aim)) next left) buffers.old }
-    ensures session { session.new ≡ session_met next search session.old }
+    requires left { IfSome to.left (λ p. p ≤ length (marked_at window_marks.now.name buffers.old).buffer.text) }
+    requires next { IfSome to.next (λ m. m + length (aim_old search.aim) ≤ length (marked_at window_marks.now.name buffers.old).buffer.text) }
+    ensures buffers { buffers.new ≡ buffers_met window_marks.now search to.next to.left buffers.old }
+    ensures session { session.new ≡ session_met to.next search session.old }
 {
     // For the limit of a text.
     let _size = buffers.text_len_at(&window_marks.name, at);
     let name = &window_marks.name;
     let size = replaced_text(&search).len();
-    match next {
+    match to.next {
         Some(found) => buffers.place_at(name, at, window_marks.point, found + size),
-        None => match left {
+        None => match to.left {
             Some(place) => buffers.place_at(name, at, window_marks.point, place),
             None => {}
         },
     }
-    go_to(session, search, next);
+    go_to(session, search, to.next);
 }
 
-/// A replacement as it is planned: the window in whose text it is, the place of that buffer among all, what is taken out and put in, whether the match is still there, and where
-/// the next one is then.
+/// A replacement as it is planned: the window in whose text it is, the place of that buffer among all, what is taken out and put in,
+/// whether the match is still there, and where the next one is then.
 #[derive(Clone, Copy)]
 pub struct Planned {
     pub window_marks: WindowMarks,
@@ -330,16 +335,17 @@ fn leave<T: Marked + Drop>(buffers: &mut Buffers<T>, session: &mut Session, plan
             let replaces = planned.plan.replaces;
             let left = if replaces { Some(behind) } else { None };
             let search = count_if(search, replaces);
-            let next = planned.plan.next;
-            let at = planned.place;
+            let to = Destination {
+                next: planned.plan.next,
+                left,
+            };
             meet(
                 buffers,
                 session,
                 &planned.window_marks,
-                at,
+                planned.place,
                 search,
-                left,
-                next,
+                to,
             );
         }
     }
@@ -405,7 +411,8 @@ fn start_in<T: Marked + Drop>(
                         place,
                         Replacing::new(pattern, put),
                     );
-                    meet(buffers, session, &window_marks, at, search, None, next);
+                    let to = Destination { next, left: None };
+                    meet(buffers, session, &window_marks, at, search, to);
                 }
             }
         }
@@ -448,7 +455,8 @@ fn skip_in<T: Marked + Drop>(buffers: &mut Buffers<T>, directory: &Directory, se
                 let at = buffers.place_of(name);
                 let anchor = search.anchor.min(buffers.text_len_at(name, at));
                 let next = skip_match(buffers.text_at(name, at), anchor, replaced_text(&search));
-                meet(buffers, session, &window_marks, at, search, None, next);
+                let to = Destination { next, left: None };
+                meet(buffers, session, &window_marks, at, search, to);
             }
             None => fail(session, Message::NoBuffer),
         },

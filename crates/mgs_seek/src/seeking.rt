@@ -181,9 +181,9 @@ fn step_on<T: Marked + Drop>(
     }
 }
 
-/// A step of the incremental search that the session at `at` holds, in the text that its selected window shows: the point goes to where it ends. What it
-/// looks for was read before. A window that shows another buffer, or none, is a failure, and so is a denial. It takes no memory, and
-/// touches no text and no other session.
+/// A step of the incremental search that the session at `at` holds, in the text that its selected window shows: the point goes to where
+/// it ends. What it looks for was read before. A window that shows another buffer, or none, is a failure, and so is a denial. It takes
+/// no memory, and touches no text and no other session.
 pub fn search_on<T: Marked + Drop>(
     buffers: &mut Buffers<T>,
     directory: &Directory,
