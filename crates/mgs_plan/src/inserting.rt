@@ -10,6 +10,7 @@ ghost use Rattle.mgs_plan.specs.Actions.{AreMarks};
 ghost use Rattle.mgs_plan.specs.Deciding.{CanPerform, CanWhereInserted, IsCopy, IsCopyAt, IsGranted, IsPlanned, Refuses};
 ghost use Rattle.mgs_plan.specs.Inserting.{acting_place, copy_decision, is_copy_full, rights_decision, target_decision};
 
+use crate::actor::Actor;
 use crate::judging::refusal;
 use crate::outcome::Outcome;
 use crate::planning::insertion_mask;
@@ -24,37 +25,35 @@ use mgs_windows::WindowMarks;
 /// Why a user may not read the buffer whose text is to come in, if there is a reason.
 fn source_refusal<T: Marked + Drop>(
     buffers: &Buffers<T>,
-    directory: &Directory,
-    user: &Name,
+    actor: &Actor<'_>,
     source: &Name,
 ) -> Option<Message>
     requires { HasBuffer source.now buffers.now }
-    ensures refused { IfSome result (Refuses (rights_decision directory.now buffers.now user.now source.now 1)) }
-    ensures none { result ≡ None → IsGranted directory.now buffers.now user.now source.now 1 }
+    ensures refused { IfSome result (Refuses (rights_decision actor.now.directory.now buffers.now actor.now.user.now source.now 1)) }
+    ensures none { result ≡ None → IsGranted actor.now.directory.now buffers.now actor.now.user.now source.now 1 }
 {
-    refusal(buffers, directory, user, source, Mask::of(Right::ReadData))
+    refusal(buffers, actor, source, Mask::of(Right::ReadData))
 }
 
 /// Why a user may not insert one buffer's text at a place of another, if there is a reason: the source is judged first.
 fn copy_refusal<T: Marked + Drop>(
     buffers: &Buffers<T>,
-    directory: &Directory,
-    user: &Name,
+    actor: &Actor<'_>,
     source: &Name,
     name: &Name,
     place: usize,
 ) -> Option<Message>
     requires source { HasBuffer source.now buffers.now }
     requires target { HasBuffer name.now buffers.now }
-    ensures refused { IfSome result (Refuses (copy_decision directory.now buffers.now user.now source.now name.now place)) }
-    ensures none { result ≡ None → copy_decision directory.now buffers.now user.now source.now name.now place ≡ Granted }
-    ensures target { result ≡ None → target_decision directory.now buffers.now user.now name.now place ≡ Granted }
+    ensures refused { IfSome result (Refuses (copy_decision actor.now.directory.now buffers.now actor.now.user.now source.now name.now place)) }
+    ensures none { result ≡ None → copy_decision actor.now.directory.now buffers.now actor.now.user.now source.now name.now place ≡ Granted }
+    ensures target { result ≡ None → target_decision actor.now.directory.now buffers.now actor.now.user.now name.now place ≡ Granted }
 {
-    match source_refusal(buffers, directory, user, source) {
+    match source_refusal(buffers, actor, source) {
         Some(message) => Some(message),
         None => {
             let mask = insertion_mask(place, buffers.text_len(name));
-            refusal(buffers, directory, user, name, mask)
+            refusal(buffers, actor, name, mask)
         }
     }
 }
@@ -62,17 +61,16 @@ fn copy_refusal<T: Marked + Drop>(
 /// Where a user acts: at the window's point, or at the text's end where the text may not be read.
 fn acting_place<T: Marked + Drop>(
     buffers: &Buffers<T>,
-    directory: &Directory,
-    user: &Name,
+    actor: &Actor<'_>,
     window_marks: &WindowMarks,
 ) -> usize
     requires kept { HasBuffer window_marks.now.name buffers.now }
     requires marks { AreMarks buffers.now window_marks.now }
-    ensures value { result ≡ acting_place directory.now buffers.now user.now window_marks.now }
+    ensures value { result ≡ acting_place actor.now.directory.now buffers.now actor.now.user.now window_marks.now }
     ensures within { result ≤ length (marked_at window_marks.now.name buffers.now).buffer.text }
 {
     let name = &window_marks.name;
-    if buffers.grants(directory, name, user, Right::ReadData) {
+    if buffers.grants(actor.directory, name, actor.user, Right::ReadData) {
         buffers.pos(name, window_marks.point)
     } else {
         buffers.text_len(name)
@@ -124,9 +122,12 @@ fn copied<T: Marked + Drop>(
     ensures can { CanPerform directory.now buffers.now session.now result }
 {
     let name = &window_marks.name;
-    let user = &session.user;
-    let place = acting_place(buffers, directory, user, window_marks);
-    match copy_refusal(buffers, directory, user, &source, name, place) {
+    let actor = Actor {
+        directory,
+        user: &session.user,
+    };
+    let place = acting_place(buffers, &actor, window_marks);
+    match copy_refusal(buffers, &actor, &source, name, place) {
         Some(message) => Outcome::Fails(message),
         None => copied_at(buffers, source, window_marks, place),
     }

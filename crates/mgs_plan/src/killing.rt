@@ -9,6 +9,7 @@ ghost use Rattle.mgs_buffers.specs.MarkedBuffer.{HasBuffer};
 ghost use Rattle.mgs_plan.specs.Deciding.{CanPerform, IsPlanned};
 ghost use Rattle.mgs_plan.specs.Killing.{IsKillRefused, name_meant};
 
+use crate::actor::Actor;
 use crate::judging::judged;
 use crate::outcome::Outcome;
 use mgs_buffers::Buffers;
@@ -63,7 +64,11 @@ pub(crate) fn plan_kill<T: Marked + Drop>(
         Ok(name) => {
             let mask = right_to_kill();
             let kills = Outcome::Kills(name);
-            judged(buffers, directory, &session.user, &name, mask, kills)
+            let actor = Actor {
+                directory,
+                user: &session.user,
+            };
+            judged(buffers, &actor, &name, mask, kills)
         }
     }
 }

@@ -4,6 +4,7 @@ ghost use Rattle.mgs_model.specs.Outcome.{Run};
 ghost use Rattle.mgs_model.specs.declared.session.Command.TheVariants.{ListEntries};
 ghost use Rattle.mgs_plan.specs.Deciding.{CanPerform, IsPlanned};
 
+use crate::actor::Actor;
 use crate::judging::judged;
 use crate::outcome::Outcome;
 use crate::subject::subject_in;
@@ -36,5 +37,9 @@ pub(crate) fn plan_list<T: Marked + Drop>(
     };
     let mask = right_to_list();
     let lists = Outcome::Lists(name);
-    judged(buffers, directory, &session.user, &name, mask, lists)
+    let actor = Actor {
+        directory,
+        user: &session.user,
+    };
+    judged(buffers, &actor, &name, mask, lists)
 }

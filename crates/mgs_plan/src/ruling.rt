@@ -12,6 +12,7 @@ ghost use Rattle.mgs_plan.specs.Deciding.{CanPerform, CanRule, CanWhereGranted, 
 ghost use Rattle.mgs_plan.specs.Listed.{entries_planned};
 ghost use Rattle.mgs_plan.specs.Ruling.{command_of, group_plan, owner_plan, ruling_mask, ruling_plan};
 
+use crate::actor::Actor;
 use crate::judging::judged;
 use crate::outcome::{EntryPlan, Outcome};
 use crate::subject::subject_in;
@@ -229,5 +230,9 @@ pub(crate) fn plan_rule<T: Marked + Drop>(
     };
     let mask = Mask::of(right_for(ruling));
     let ruled = granted(buffers, directory, name, ruling, argument, typed);
-    judged(buffers, directory, &session.user, &name, mask, ruled)
+    let actor = Actor {
+        directory,
+        user: &session.user,
+    };
+    judged(buffers, &actor, &name, mask, ruled)
 }

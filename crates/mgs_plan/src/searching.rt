@@ -8,12 +8,13 @@ ghost use Rattle.mgs_plan.specs.Searching.{search_act, sought};
 ghost use Rattle.mgs_world.specs.Worlds.{idle, state_of};
 
 use crate::action::Action;
+use crate::actor::Actor;
 use crate::outcome::Outcome;
 use crate::planning::denial;
 use mgs_buffers::{Buffers, Found};
 use mgs_edit::{Finish, Goes};
 use mgs_marks::Marked;
-use mgs_model::{Direction, Kind, Mask, Message, Name, Right};
+use mgs_model::{Direction, Kind, Mask, Message, Right};
 use mgs_policy::Directory;
 use mgs_search::search_for;
 use mgs_session::{Session, selected_window_marks};
@@ -47,21 +48,20 @@ fn plan_granted<T: Marked + Drop>(
 /// What a search for a pattern comes to through a window's marks, by a user.
 fn plan<T: Marked + Drop>(
     buffers: &Buffers<T>,
-    directory: &Directory,
-    user: &Name,
+    actor: &Actor<'_>,
     window_marks: &WindowMarks,
     direction: Direction,
     pattern: &[char],
 ) -> Action
     requires kept { HasBuffer window_marks.now.name buffers.now }
     requires marks { AreMarks buffers.now window_marks.now }
-    ensures value { IsSearchFor directory.now buffers.now user.now window_marks.now direction pattern.now result }
+    ensures value { IsSearchFor actor.now.directory.now buffers.now actor.now.user.now window_marks.now direction pattern.now result }
     ensures can { (kill : List ℕ) → CanDoIn buffers.now window_marks.now.name kill result }
-    ensures granted { IsActionGranted directory.now buffers.now user.now window_marks.now.name result }
+    ensures granted { IsActionGranted actor.now.directory.now buffers.now actor.now.user.now window_marks.now.name result }
 {
     let found = buffers.find(&window_marks.name);
     let mask = Mask::of(Right::ReadData);
-    match denial(found.decide_all(directory, user, mask)) {
+    match denial(found.decide_all(actor.directory, actor.user, mask)) {
         Some(message) => Action::Fails(message),
         None => plan_granted(&found, found.pos(window_marks.point), direction, pattern),
     }
@@ -81,13 +81,16 @@ fn plan_meant<T: Marked + Drop>(
     ensures can { (kill : List ℕ) → CanDoIn buffers.now window_marks.now.name kill result }
     ensures granted { IsActionGranted directory.now buffers.now session.now.user window_marks.now.name result }
 {
-    let user = &session.user;
+    let actor = Actor {
+        directory,
+        user: &session.user,
+    };
     let pattern = if typed.is_empty() {
         session.state.pattern.as_slice()
     } else {
         typed
     };
-    plan(buffers, directory, user, window_marks, direction, pattern)
+    plan(buffers, &actor, window_marks, direction, pattern)
 }
 
 /// What a search comes to for a session at rest, whatever its argument: for what was typed, or for the search string where nothing was.

@@ -8,6 +8,7 @@ ghost use Rattle.mgs_buffers.specs.MarkedBuffer.{has_buffer};
 ghost use Rattle.mgs_session.specs.declared.Session as code;
 ghost use Rattle.mgs_plan.specs.Deciding.{CanPerform, IsCreation, IsPlanned};
 
+use crate::actor::Actor;
 use crate::judging::judged;
 use crate::naming::name_typed;
 use crate::outcome::Outcome;
@@ -54,7 +55,11 @@ pub(crate) fn plan_switch<T: Marked + Drop>(
         Some(name) => {
             let mask = right_to_come();
             let shows = Outcome::Shows(name);
-            judged(buffers, directory, &session.user, &name, mask, shows)
+            let actor = Actor {
+                directory,
+                user: &session.user,
+            };
+            judged(buffers, &actor, &name, mask, shows)
         }
     }
 }
