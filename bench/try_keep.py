@@ -1039,6 +1039,12 @@ def try_files_of_texts():
 MEMORY = 250_000_000
 
 
+def made_or_refused(one, name, flag):
+    """Waits until a buffer is shown with this flag, or memory is refused: whether it is refused."""
+    one.read_until(lambda seen: seen.shows(ROWS - 1).startswith(f"{flag}{name}-") or shows(seen, "No memory"), PATIENCE)
+    return shows(one, "No memory")
+
+
 def fill_memory(one, made=0):
     """Makes buffers of 1,000,000 characters, and then of fewer, until memory is refused to one of a thousand: how many there are then."""
     if not made:
@@ -1048,12 +1054,15 @@ def fill_memory(one, made=0):
         is_refused = False
         while not is_refused and made < 200:
             made += 1
-            # The prompt, so that what was told before is gone.
-            type_in(one, "\x18b")
+            # Out of a prompt that memory was refused to, and into one, so that what was told before is gone.
+            type_in(one, "\x07\x18b")
             see(one, "Switch to buffer")
-            type_in(one, f"full{made}\r\x15{times}\x19")
-            one.read_until(lambda seen: seen.shows(ROWS - 1).startswith(f"-**-full{made}-") or shows(seen, "No memory"), PATIENCE)
-            is_refused = shows(one, "No memory")
+            type_in(one, f"full{made}\r")
+            is_refused = made_or_refused(one, f"full{made}", "----")
+            if not is_refused:
+                type_in(one, f"\x15{times}\x19")
+                is_refused = made_or_refused(one, f"full{made}", "-**-")
+    type_in(one, "\x07")
     return made
 
 
