@@ -8,8 +8,9 @@ use Rattle.mgs_model.specs.Rows.{plain_row}
 use Rattle.mgs_grid.specs.Panes.{with_rows}
 use Rattle.mgs_model.specs.View.{BufferSeen, buffer_seen, find_seen}
 use Rattle.mgs_model.specs.Seen.{Pane, No_pane, Attributes, EntriesSeen, Listed, Unlisted, attributes_of, if_granted, listing_pane, entries_pane}
-use Rattle.mgs_model.specs.Draw.{pane_rows, rows_from, listing_text}
+use Rattle.mgs_model.specs.Draw.{entries_shown, pane_rows, rows_from, listing_text}
 use Rattle.mgs_model.specs.declared.right.Right.TheVariants.{ReadAcl, ReadAttributes}
+use Rattle.mgs_buffers.specs.Found.{Named}
 use Rattle.mgs_buffers.specs.MarkedBuffer.{MarkedBuffer, marked_at}
 use Rattle.mgs_windows.specs.declared.RowPane.{RowPane}
 use Rattle.mgs_windows.specs.declared.RowPane.TheVariants.{NoRows, Buffers, Entries}
@@ -46,6 +47,10 @@ name_to directory user ks name = if may directory user ReadAttributes (marked_at
 
 -- ROWS OF A LIST
 
+-- a pane, and its mode line below
+abbrev pub IsDrawnInSight : Sight → Pane → Picture → Picture → Type 0
+IsDrawnInSight s pane old new = IsPaneDrawn s.first s.height pane old new
+
 -- in which row of the screen the one of a number is drawn, where it is in sight
 abbrev pub place_in : Sight → ℕ → Option ℕ
 place_in s number = if nat_le s.row number && nat_lt (number - s.row) s.height then Some (s.first + (number - s.row)) else None
@@ -70,6 +75,10 @@ buffer_drawn s number (Some a) p = row_drawn s number (listing_text a) p
 -- all rows
 abbrev pub drawn : Sight → List (List ℕ) → Picture → Picture
 drawn s texts p = with_rows s.first (rows_from p.cols s.height s.row texts) p
+
+-- the rows of the access list of a buffer that was found, as its user sees them
+abbrev pub acl_drawn : Sight → Directory → List ℕ → Named → Picture → Picture
+acl_drawn s directory user f p = drawn s (entries_shown (entries_told directory user (marked_at f.name f.all).buffer)) p
 
 -- what is told of buffers
 abbrev pub listed : Directory → List ℕ → List MarkedBuffer → List Attributes

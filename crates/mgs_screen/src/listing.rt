@@ -2,12 +2,12 @@
 ghost use Rattle.std.specs.Prelude.{◌≡◌, ◌+◌, ◌<◌, ◌≤◌, ◌^◌, [], ◌∷◌, ◌++◌, map, length, decimal};
 ghost use Rattle.std.specs.Option.{option_map};
 ghost use Rattle.mgs_model.specs.Seen.{No_pane, if_granted};
-ghost use Rattle.mgs_model.specs.Draw.{listing_text, entry_text, entries_texts, entries_shown};
+ghost use Rattle.mgs_model.specs.Draw.{listing_text, entry_text, entries_texts};
 ghost use Rattle.mgs_grid.specs.Lists.{unlisted_text};
-ghost use Rattle.mgs_buffers.specs.MarkedBuffer.{HasBuffer, marked_at};
+ghost use Rattle.mgs_buffers.specs.MarkedBuffer.{HasBuffer};
 ghost use Rattle.mgs_buffers.specs.Judging.{AreJudged, rules_kept};
 ghost use Rattle.mgs_buffers.specs.Told.{attributes_read};
-ghost use Rattle.mgs_screen.specs.Listings.{IsPaneDrawn, listing_to, entries_to, entries_told, rows_to, name_to, place_in, past_sight, row_drawn, buffer_drawn, drawn, listed};
+ghost use Rattle.mgs_screen.specs.Listings.{IsDrawnInSight, IsPaneDrawn, acl_drawn, listing_to, entries_to, rows_to, name_to, place_in, past_sight, row_drawn, buffer_drawn, drawn, listed};
 
 use crate::viewer::Viewer;
 use mgs_acl::{Entry, print_entry};
@@ -125,7 +125,7 @@ pub fn draw_listing<T: Marked + Drop>(
 )
     requires room { sight.first + sight.height < grid.old.rows }
     requires judged { AreJudged viewer.now.directory.now (rules_kept buffers.now) judge.old }
-    ensures grid { IsPaneDrawn sight.first sight.height (listing_to viewer.now.directory.now viewer.now.user.now buffers.now sight.row) grid.old grid.new }
+    ensures grid { IsDrawnInSight sight (listing_to viewer.now.directory.now viewer.now.user.now buffers.now sight.row) grid.old grid.new }
     ensures judged { AreJudged viewer.now.directory.now (rules_kept buffers.now) judge.new }
 {
     let _rows = grid.rows();
@@ -194,7 +194,7 @@ fn draw_acl<T: Marked + Drop>(
     requires room { sight.first + sight.height ≤ grid.old.rows }
     requires judged { AreJudged viewer.now.directory.now (rules_kept found.now.all) judge.old }
     ensures judged { AreJudged viewer.now.directory.now (rules_kept found.now.all) judge.new }
-    ensures grid { grid.new ≡ drawn sight (entries_shown (entries_told viewer.now.directory.now viewer.now.user.now (marked_at found.now.name found.now.all).buffer)) grid.old }
+    ensures grid { grid.new ≡ acl_drawn sight viewer.now.directory.now viewer.now.user.now found.now grid.old }
 {
     if found.grants_by(judge, viewer.directory, viewer.user, Right::ReadAcl) {
         draw_list(found.entries(), sight, grid);
@@ -236,7 +236,7 @@ pub fn draw_entries<T: Marked + Drop>(
     requires room { sight.first + sight.height < grid.old.rows }
     requires judged { AreJudged viewer.now.directory.now (rules_kept buffers.now) judge.old }
     ensures judged { AreJudged viewer.now.directory.now (rules_kept buffers.now) judge.new }
-    ensures grid { IsPaneDrawn sight.first sight.height (entries_to viewer.now.directory.now viewer.now.user.now buffers.now name.now sight.row) grid.old grid.new }
+    ensures grid { IsDrawnInSight sight (entries_to viewer.now.directory.now viewer.now.user.now buffers.now name.now sight.row) grid.old grid.new }
 {
     let _rows = grid.rows();
     let found = buffers.find(name);
