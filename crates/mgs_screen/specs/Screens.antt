@@ -1,5 +1,5 @@
 -- What a screen shows of the kept buffers.
-use Rattle.std.specs.Prelude.{◌≡◌, ℕ, ◌-◌, min, Bool, true, false, List, [], ◌∷◌, ◌++◌, ◌==◌, not, map, Option, Some, None, if◌then◌else◌, codes}
+use Rattle.std.specs.Prelude.{◌≡◌, ℕ, ◌+◌, ◌-◌, min, Bool, true, false, List, [], ◌∷◌, ◌++◌, ◌==◌, not, map, Option, Some, None, if◌then◌else◌, codes}
 use Rattle.mgs_model.specs.Access.{Directory}
 use Rattle.mgs_model.specs.World.{Buffer, State, may}
 use Rattle.mgs_model.specs.Lines.{column, line_of, line_start}
@@ -13,7 +13,7 @@ use Rattle.mgs_model.specs.Rows.{Row, mode_row, echo_row, line_row, line_end_col
 use Rattle.mgs_grid.specs.Cells.{rows_put}
 use Rattle.mgs_model.specs.View.{buffer_seen, window_seen, reads}
 use Rattle.mgs_model.specs.Seen.{WindowPane, window_pane}
-use Rattle.mgs_model.specs.Draw.{read_rows, screen, place_of, point_row, cursor_in_mode, window_rows}
+use Rattle.mgs_model.specs.Draw.{read_rows, screen, place_of, point_row, cursor_in_mode, window_cursor, window_rows}
 use Rattle.mgs_model.specs.declared.right.Right.TheVariants.{ReadAttributes, ReadData}
 use Rattle.mgs_mini.specs.Typing.{PromptInput}
 use Rattle.mgs_marks.specs.Marks.{position_in}
@@ -26,6 +26,7 @@ use Rattle.mgs_session.specs.declared.search.Aim.TheVariants.{Find, Replace}
 use Rattle.mgs_session.specs.declared.Session.{Session}
 use Rattle.mgs_world.specs.Worlds.{buffers_of, session_of, window_of, world_of}
 use Rattle.mgs_screen.specs.TextsDrawn.{told_as}
+use Rattle.mgs_screen.specs.declared.screen.Place.{Place}
 
 -- the column from which the point's line is shown
 abbrev pub screen_shift : Bool → ℕ → ℕ → ℕ
@@ -72,17 +73,26 @@ window_marks_rows selected cols height k heading x =
     read_rows selected cols height k.buffer.text (position_in k.marks x.top) (position_in k.marks x.point)
     ++ mode_row cols (buffer_mode heading (place_of k.buffer.text (position_in k.marks x.point))) ∷ []
 
--- of a buffer that was found, whose flag may be told or not
-abbrev pub found_rows : Bool → ℕ → ℕ → Named → Option Bool → WindowMarks → List Row
-found_rows selected cols height f heading x = window_marks_rows selected cols height (marked_at f.name f.all) (told_as f.name heading) x
+-- the lines of a picture with those of a buffer that was found, whose flag may be told or not, in their place
+abbrev pub found_lines : Place → Named → Option Bool → WindowMarks → Picture → List Row
+found_lines place f heading x p =
+    rows_put place.first (window_marks_rows place.selected p.cols place.window.now.height (marked_at f.name f.all) (told_as f.name heading) x) p.lines
 
 -- the rows of a window, as its user sees them
 abbrev pub user_rows : Bool → ℕ → Directory → List ℕ → List MarkedBuffer → Window → List Row
 user_rows selected cols directory user ks x = window_rows selected cols (window_to directory user ks x)
 
--- the lines of a picture with them from a row on
-abbrev pub window_lines : Bool → ℕ → Directory → List ℕ → List MarkedBuffer → Window → Picture → List Row
-window_lines selected first directory user ks x p = rows_put first (user_rows selected p.cols directory user ks x) p.lines
+-- the lines of a picture with them in their place
+abbrev pub window_lines : Place → Directory → List ℕ → List MarkedBuffer → Picture → List Row
+window_lines place directory user ks p = rows_put place.first (user_rows place.selected p.cols directory user ks place.window.now) p.lines
+
+-- the row below them
+abbrev pub row_below : Place → ℕ
+row_below place = place.first + (place.window.now.height + 1)
+
+-- where the cursor is in a window, from its first cell, if it is the selected one
+abbrev pub cursor_to : Place → Directory → List ℕ → List MarkedBuffer → ℕ → ℕ × ℕ
+cursor_to place directory user ks cols = window_cursor cols (Some (window_to directory user ks place.window.now))
 
 -- the screen of a session, whatever other sessions there are, and whichever id comes next
 abbrev pub IsScreenOf : Directory → List MarkedBuffer → Session → Picture → Type 0
@@ -94,6 +104,10 @@ window_marks_cursor cols height k x = (
   min (height - 1) (point_row k.buffer.text (position_in k.marks x.top) (position_in k.marks x.point)),
   column k.buffer.text (position_in k.marks x.point) - shift_for cols (column k.buffer.text (position_in k.marks x.point)),
 )
+
+-- in one that shows a buffer that was found
+abbrev pub found_cursor : Place → Named → WindowMarks → ℕ → ℕ × ℕ
+found_cursor place f x cols = window_marks_cursor cols place.window.now.height (marked_at f.name f.all) x
 
 -- no blank
 abbrev pub is_ink : ℕ → Bool

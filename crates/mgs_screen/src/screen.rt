@@ -1,8 +1,6 @@
 // The screen of a session, drawn into a grid that is there.
-ghost use Rattle.std.specs.Prelude.{◌≡◌, ◌+◌, ◌<◌, ◌≤◌, ℕ, true, List, [], ◌∷◌, Option, None, Some, IfSome};
-ghost use Rattle.mgs_model.specs.Draw.{window_cursor};
+ghost use Rattle.std.specs.Prelude.{◌≡◌, ◌+◌, ◌<◌, ◌≤◌, ℕ, true, List, [], ◌∷◌, Option, None, IfSome};
 ghost use Rattle.mgs_model.specs.Rows.{mode_row, buffer_mode};
-ghost use Rattle.mgs_grid.specs.Cells.{rows_put};
 ghost use Rattle.mgs_session.specs.declared.Session.{Session};
 ghost use Rattle.mgs_world.specs.Worlds.{buffers_of};
 ghost use Rattle.mgs_world.specs.Sound.{IsSessionSound, IsWindowSound};
@@ -14,7 +12,7 @@ ghost use Rattle.mgs_grid.specs.RowSets.{has_row, AreIn, AreSameApart};
 ghost use Rattle.mgs_model.specs.World.{may};
 ghost use Rattle.mgs_model.specs.declared.right.Right.TheVariants.{ReadData};
 ghost use Rattle.mgs_screen.specs.Canvas.{IsCell, IsDrawnOn, IsRoom};
-ghost use Rattle.mgs_screen.specs.Screens.{AreMarksOf, IsScreenOf, ReadsAll, found_rows, heading_to, window_lines, window_marks_cursor, window_to};
+ghost use Rattle.mgs_screen.specs.Screens.{AreMarksOf, IsScreenOf, ReadsAll, cursor_to, found_cursor, found_lines, heading_to, row_below, window_lines};
 ghost use Rattle.mgs_screen.specs.TextsDrawn.{AreStanding, AreStandingAround, DoesShowMode, IsStopOf, mode_text, pushed, told_as};
 
 use crate::change::stop_since;
@@ -35,9 +33,10 @@ use mgs_session::Session;
 use mgs_text::Text;
 use mgs_windows::{Window, WindowMarks};
 
-/// A window's place on the screen: where its first row is, which of the windows it is, and whether it is the selected one.
+/// A window on the screen: where its first row is, which of the windows it is, and whether it is the selected one.
 #[derive(Clone, Copy)]
-struct Place {
+struct Place<'a> {
+    window: &'a Window,
     first: usize,
     index: usize,
     selected: bool,
@@ -159,21 +158,21 @@ fn redraw_text<T: Marked + Drop>(
     found: &Found<T>,
     heading: Option<bool>,
     window_marks: &WindowMarks,
-    height: usize,
-    place: Place,
+    place: &Place<'_>,
     redraw: &mut Redraw<'_>,
     grid: &mut Grid,
 ) -> (usize, usize)
     requires marks { AreMarksOf found.now window_marks.now }
-    requires room { IsRoom place.first height grid.old }
-    requires stands { AreStandingAround place.first (buffers_of found.now.all) grid.old redraw.old.before.now redraw.old.texts }
-    ensures lines { grid.new.lines ≡ rows_put place.first (found_rows place.selected grid.old.cols height found.now heading window_marks.now) grid.old.lines }
-    ensures cursor { place.selected ≡ true → result ≡ window_marks_cursor grid.old.cols height (marked_at found.now.name found.now.all) window_marks.now }
-    ensures cell { IsCell height grid.old.cols result }
-    ensures stands { AreStandingAround (place.first + (height + 1)) (buffers_of found.now.all) grid.new redraw.new.before.now redraw.new.texts }
+    requires room { IsRoom place.now.first place.now.window.now.height grid.old }
+    requires stands { AreStandingAround place.now.first (buffers_of found.now.all) grid.old redraw.old.before.now redraw.old.texts }
+    ensures lines { grid.new.lines ≡ found_lines place.now found.now heading window_marks.now grid.old }
+    ensures cursor { place.now.selected ≡ true → result ≡ found_cursor place.now found.now window_marks.now grid.old.cols }
+    ensures cell { IsCell place.now.window.now.height grid.old.cols result }
+    ensures stands { AreStandingAround (row_below place.now) (buffers_of found.now.all) grid.new redraw.new.before.now redraw.new.texts }
     ensures drawn { IsDrawnOn redraw.old.rows redraw.new.rows grid.old grid.new }
 {
     let cols = grid.cols();
+    let height = place.window.height;
     let text = found.text();
     let name = found.name();
     let earlier = redraw.before.drawn(place.index, name, place.first, height);
@@ -247,33 +246,32 @@ fn redraw_window<T: Marked + Drop>(
     buffers: &Buffers<T>,
     judge: &mut Judge,
     viewer: &Viewer<'_>,
-    window: &Window,
-    place: Place,
+    place: &Place<'_>,
     redraw: &mut Redraw<'_>,
     grid: &mut Grid,
 ) -> (usize, usize)
-    requires sound { IsWindowSound buffers.now window.now }
-    requires room { IsRoom place.first window.now.height grid.old }
+    requires sound { IsWindowSound buffers.now place.now.window.now }
+    requires room { IsRoom place.now.first place.now.window.now.height grid.old }
     requires judged { AreJudged viewer.now.directory.now (rules_kept buffers.now) judge.old }
-    requires stands { AreStandingAround place.first (buffers_of buffers.now) grid.old redraw.old.before.now redraw.old.texts }
+    requires stands { AreStandingAround place.now.first (buffers_of buffers.now) grid.old redraw.old.before.now redraw.old.texts }
     ensures judged { AreJudged viewer.now.directory.now (rules_kept buffers.now) judge.new }
-    ensures lines { grid.new.lines ≡ window_lines place.selected place.first viewer.now.directory.now viewer.now.user.now buffers.now window.now grid.old }
-    ensures cursor { place.selected ≡ true → result ≡ window_cursor grid.old.cols (Some (window_to viewer.now.directory.now viewer.now.user.now buffers.now window.now)) }
-    ensures cell { IsCell window.now.height grid.old.cols result }
-    ensures stands { AreStandingAround (place.first + (window.now.height + 1)) (buffers_of buffers.now) grid.new redraw.new.before.now redraw.new.texts }
+    ensures lines { grid.new.lines ≡ window_lines place.now viewer.now.directory.now viewer.now.user.now buffers.now grid.old }
+    ensures cursor { place.now.selected ≡ true → result ≡ cursor_to place.now viewer.now.directory.now viewer.now.user.now buffers.now grid.old.cols }
+    ensures cell { IsCell place.now.window.now.height grid.old.cols result }
+    ensures stands { AreStandingAround (row_below place.now) (buffers_of buffers.now) grid.new redraw.new.before.now redraw.new.texts }
     ensures drawn { IsDrawnOn redraw.old.rows redraw.new.rows grid.old grid.new }
 {
     let _cols = grid.cols();
-    let height = window.height;
-    let Some(window_marks) = window.shows else {
-        draw_rows(buffers, judge, viewer, window, place.first, grid);
+    let height = place.window.height;
+    let Some(window_marks) = place.window.shows else {
+        draw_rows(buffers, judge, viewer, place.window, place.first, grid);
         note_rows(place.first, height, &mut redraw.texts, &mut redraw.rows);
         return (0, 0);
     };
     let found = buffers.find(&window_marks.name);
     let (heading, reads) = seen(&found, judge, viewer);
     if reads {
-        return redraw_text(&found, heading, &window_marks, height, place, redraw, grid);
+        return redraw_text(&found, heading, &window_marks, place, redraw, grid);
     }
     let decision = denial(&found, judge, viewer);
     grid.draw_unread(place.first, height, decision);
@@ -318,11 +316,12 @@ pub fn redraw_session<T: Marked + Drop>(
     let mut cursor = (0, 0);
     for (i, window) in session.windows.as_slice().iter().enumerate() {
         let place = Place {
+            window,
             first,
             index: i,
             selected: i == selected,
         };
-        let (row, col) = redraw_window(buffers, judge, &viewer, window, place, &mut redraw, grid);
+        let (row, col) = redraw_window(buffers, judge, &viewer, &place, &mut redraw, grid);
         if i == selected {
             cursor = (first + row, col);
         }
