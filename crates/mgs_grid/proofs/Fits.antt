@@ -105,6 +105,11 @@ fitted_none f cols = grind (arith, nat_tests)
 pub blank_row : (cols : ℕ) → plain_row cols [] ≡ record { text = replicate cols 32; reversed = false }
 blank_row cols = ap (λ (t : List ℕ). let r : Row = record { text = t; reversed = false } in r) (fitted_none 32 cols)
 
+pub blank_cells : (n : ℕ) (xs : List ℕ) → xs ≡ replicate n 32 → (let r : Row = record { text = xs; reversed = false } in r) ≡ plain_row (length xs) []
+blank_cells n xs is =
+    let size : n ≡ length xs = sym (length-replicate {A = ℕ} n 32) ∙ ap length (sym is) in
+    ap (λ (t : List ℕ). let r : Row = record { text = t; reversed = false } in r) is ∙ sym (blank_row n) ∙ ap (λ k. plain_row k []) size
+
 -- a `$` in the first cell
 first_of : (x : ℕ) (zs : List ℕ) → first_signed (x ∷ zs) ≡ 36 ∷ unhalved zs
 first_of x [] = refl

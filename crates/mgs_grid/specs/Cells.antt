@@ -1,8 +1,8 @@
 -- The cells of a line, and cells written into a row one after another.
-use Rattle.std.specs.Prelude.{◌≡◌, ℕ, ◌+◌, ◌-◌, nat_lt, nat_le, ◌==◌, Bool, ◌&&◌, All, length, List, [], ◌∷◌, ◌++◌, take, drop, slice_set, slice_index_or, slice_range, if◌then◌else◌}
+use Rattle.std.specs.Prelude.{◌≡◌, ℕ, ◌+◌, ◌-◌, nat_lt, nat_le, ◌==◌, Bool, true, ◌&&◌, All, length, List, [], ◌∷◌, ◌++◌, take, drop, slice_set, slice_index_or, slice_range, if◌then◌else◌}
 use Rattle.mgs_model.specs.Cells.{right_half, cells}
 use Rattle.mgs_model.specs.Lines.{line_end}
-use Rattle.mgs_model.specs.Rows.{Row}
+use Rattle.mgs_model.specs.Rows.{Row, plain_row}
 use Rattle.mgs_model.specs.Picture.{IsPrintable}
 
 -- the cells of the line of a text that starts at a place
@@ -41,6 +41,10 @@ pub record Wrote (old : List ℕ) (column : ℕ) (xs : List ℕ) (new : List ℕ
   pub row_is : new ≡ over old 0 column xs
   pub next_is : next ≡ column + length xs
   pub printable : All IsPrintable xs
+
+-- a row that is known to be plain blanks is so
+abbrev pub IsBlankIf : Bool → Row → Type 0
+IsBlankIf known r = known ≡ true → r ≡ plain_row (length r.text) []
 
 abbrev pub HasWidth : ℕ → Row → Type 0
 HasWidth cols r = length r.text ≡ cols

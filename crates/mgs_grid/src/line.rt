@@ -1,12 +1,12 @@
 // A row of a screen.
-ghost use Rattle.std.specs.Prelude.{◌≡◌, ◌+◌, ◌-◌, ◌<◌, ◌≤◌, ◌^◌, [], ◌∷◌, ◌++◌, length, replicate, decimal, codes, All, false, IfOk};
+ghost use Rattle.std.specs.Prelude.{◌≡◌, ◌+◌, ◌-◌, ◌<◌, ◌≤◌, ◌^◌, [], ◌∷◌, ◌++◌, length, replicate, decimal, codes, All, false, true, IfOk};
 ghost use Rattle.mgs_model.specs.Lines.{line_end};
 ghost use Rattle.mgs_model.specs.Rows.{shown_row, plain_row, mode_row, line_row, line_end_column, unread_text, buffer_mode, none_mode, Row};
 ghost use Rattle.mgs_model.specs.Prompts.{prompt_line, search_text};
 ghost use Rattle.mgs_model.specs.Messages.{message_text};
 ghost use Rattle.mgs_model.specs.Picture.{IsPrintable};
 ghost use Rattle.mgs_grid.specs.Lists.{acl_mode, listed_text, unlisted_text};
-ghost use Rattle.mgs_grid.specs.Cells.{line_cells};
+ghost use Rattle.mgs_grid.specs.Cells.{IsBlankIf, line_cells};
 
 use crate::cells::{fill, finish, put_bytes, put_line};
 use crate::echo_text::put_message;
@@ -48,12 +48,16 @@ fn shift_to_end(cols: usize, width: usize) -> usize
 pub struct Line {
     text: Vec<char>,
     reversed: bool,
+    // Whether it is known to be plain blanks.
+    blank: bool,
 }
 
 impl Model for Line {
     ghost Value = { Row };
 
     ghost view = { λ l. record { text = l.text.items; reversed = l.reversed } };
+
+    ghost invariant = { λ l. IsBlankIf l.blank (record { text = l.text.items; reversed = l.reversed }) };
 }
 
 impl Line {
@@ -71,6 +75,7 @@ impl Line {
         Ok(Line {
             text,
             reversed: false,
+            blank: true,
         })
     }
 
@@ -88,12 +93,20 @@ impl Line {
         self.reversed
     }
 
+    /// Whether the row is known to be plain blanks: it was cleared last.
+    pub fn is_known_blank(&self) -> bool
+        ensures { result ≡ true → self.now ≡ plain_row (length self.now.text) [] }
+    {
+        self.blank
+    }
+
     /// Clears the row: plain blanks.
     pub(crate) fn draw_blank(&mut self)
         ensures { self.new ≡ record { text = replicate (length self.old.text) 32; reversed = false } }
     {
         self.reversed = false;
         fill(&mut self.text, ' ');
+        self.blank = true;
     }
 
     /// Becomes the same as a row of as many columns.
@@ -103,6 +116,7 @@ impl Line {
     {
         self.reversed = from.reversed;
         self.text.copy_from_slice(&from.text);
+        self.blank = from.blank;
     }
 
     /// Draws the line of a text that starts at `start`, plain, and tells where it ends. A line that is too long is cut
@@ -118,6 +132,7 @@ impl Line {
         ensures within { result ≤ length (T.text text.now) }
     {
         self.reversed = false;
+        self.blank = false;
         let end = line_end(text, start);
         let row = self.text.as_mut_slice();
         fill(row, ' ');
@@ -135,6 +150,7 @@ impl Line {
         ensures printable { All IsPrintable (unread_text decision) }
     {
         self.reversed = false;
+        self.blank = false;
         let row = self.text.as_mut_slice();
         fill(row, ' ');
         let end = put_unread(row, decision);
@@ -150,6 +166,7 @@ impl Line {
         ensures printable { All IsPrintable (buffer_mode heading place) }
     {
         self.reversed = true;
+        self.blank = false;
         let row = self.text.as_mut_slice();
         fill(row, '-');
         let at = put_heading(row, heading);
@@ -164,6 +181,7 @@ impl Line {
         ensures { self.new ≡ mode_row (length self.old.text) none_mode }
     {
         self.reversed = true;
+        self.blank = false;
         let row = self.text.as_mut_slice();
         fill(row, '-');
         let end = put_bytes(row, 0, b"-None");
@@ -178,6 +196,7 @@ impl Line {
         ensures printable { All IsPrintable (message_text message.now) }
     {
         self.reversed = false;
+        self.blank = false;
         let row = self.text.as_mut_slice();
         fill(row, ' ');
         let end = put_message(row, message);
@@ -194,6 +213,7 @@ impl Line {
         ensures column { result ≡ line_end_column (length self.old.text) (prompt_line question input.now) }
     {
         self.reversed = false;
+        self.blank = false;
         let row = self.text.as_mut_slice();
         fill(row, ' ');
         let shift = shift_to_end(row.len(), prompt_width(question, input));
@@ -217,6 +237,7 @@ impl Line {
         ensures column { result ≡ line_end_column (length self.old.text) (search_text direction failing ++ pattern.now) }
     {
         self.reversed = false;
+        self.blank = false;
         let row = self.text.as_mut_slice();
         fill(row, ' ');
         let shift = shift_to_end(row.len(), search_width(direction, failing, pattern));
@@ -234,6 +255,7 @@ impl Line {
         ensures column { result ≡ line_end_column (length self.old.text) (codes "Replace? ") }
     {
         self.reversed = false;
+        self.blank = false;
         let row = self.text.as_mut_slice();
         fill(row, ' ');
         let shift = shift_to_end(row.len(), replacing_width());
@@ -250,6 +272,7 @@ impl Line {
         ensures printable { All IsPrintable (listed_text name.now modified size owners.now) }
     {
         self.reversed = false;
+        self.blank = false;
         let row = self.text.as_mut_slice();
         fill(row, ' ');
         let end = put_listed(row, modified, size, name, owners);
@@ -266,6 +289,7 @@ impl Line {
         ensures printable { All IsPrintable (decimal number ++ 32 ∷ entry.now) }
     {
         self.reversed = false;
+        self.blank = false;
         let row = self.text.as_mut_slice();
         fill(row, ' ');
         let end = put_entry(row, number, entry);
@@ -280,6 +304,7 @@ impl Line {
         ensures printable { All IsPrintable (unlisted_text decision) }
     {
         self.reversed = false;
+        self.blank = false;
         let row = self.text.as_mut_slice();
         fill(row, ' ');
         let end = put_unlisted(row, decision);
@@ -293,6 +318,7 @@ impl Line {
         ensures { self.new ≡ mode_row (length self.old.text) (codes "-Buffers") }
     {
         self.reversed = true;
+        self.blank = false;
         let row = self.text.as_mut_slice();
         fill(row, '-');
         let end = put_bytes(row, 0, b"-Buffers");
@@ -307,6 +333,7 @@ impl Line {
         ensures printable { All IsPrintable (acl_mode name) }
     {
         self.reversed = true;
+        self.blank = false;
         let row = self.text.as_mut_slice();
         fill(row, '-');
         let end = put_acl_mode(row, name);

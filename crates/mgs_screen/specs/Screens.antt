@@ -1,5 +1,5 @@
 -- What a screen shows of the kept buffers.
-use Rattle.std.specs.Prelude.{◌≡◌, ℕ, ◌+◌, ◌-◌, min, Bool, true, false, List, [], ◌∷◌, ◌++◌, ◌==◌, not, map, Option, Some, None, if◌then◌else◌, codes}
+use Rattle.std.specs.Prelude.{◌≡◌, ℕ, ◌+◌, ◌-◌, min, Bool, true, false, List, [], ◌∷◌, ◌++◌, map, Option, Some, None, if◌then◌else◌, codes}
 use Rattle.mgs_model.specs.Access.{Directory}
 use Rattle.mgs_model.specs.World.{Buffer, State, may}
 use Rattle.mgs_model.specs.Lines.{column, line_of, line_start}
@@ -108,10 +108,6 @@ window_marks_cursor cols height k x = (
 -- in one that shows a buffer that was found
 abbrev pub found_cursor : Place → Named → WindowMarks → ℕ → ℕ × ℕ
 found_cursor place f x cols = window_marks_cursor cols place.window.now.height (marked_at f.name f.all) x
-
--- no blank
-abbrev pub is_ink : ℕ → Bool
-is_ink c = not (c == 32)
 
 -- the line of a prompt in a row, and the cursor behind it
 abbrev pub prompt_drawn : PromptInput → ℕ → Picture → Picture

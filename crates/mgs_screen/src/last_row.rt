@@ -1,12 +1,13 @@
 // The last row of a screen, and the cursor.
-ghost use Rattle.std.specs.Prelude.{◌≡◌, ◌+◌, ◌<◌, ◌≤◌, [], ◌∷◌, None, true, length, count_by, take};
+ghost use Rattle.std.specs.Prelude.{◌≡◌, ◌+◌, ◌<◌, ◌≤◌, [], ◌∷◌, None, true, length};
 ghost use Rattle.mgs_model.specs.Rows.{is_silent, plain_row};
 ghost use Rattle.mgs_grid.specs.Cells.{rows_put};
+ghost use Rattle.mgs_grid.specs.Panes.{with_rows};
 ghost use Rattle.mgs_model.specs.declared.message.Message.TheVariants.{Silent};
 ghost use Rattle.mgs_model.specs.declared.session.Mode.TheVariants.{Plain};
 ghost use Rattle.mgs_world.specs.Worlds.{input_in, mode_in, state_of};
 ghost use Rattle.mgs_screen.specs.Canvas.{IsDrawnOn, IsLastRow};
-ghost use Rattle.mgs_screen.specs.Screens.{IsAtRest, is_ink, prompt_drawn, last_row_drawn, row_in_mode, search_drawn};
+ghost use Rattle.mgs_screen.specs.Screens.{IsAtRest, prompt_drawn, last_row_drawn, row_in_mode, search_drawn};
 
 use mgs_grid::{Grid, Line, RowSet};
 use mgs_mini::Prompt;
@@ -18,9 +19,6 @@ fn is_silent(message: &Message) -> bool
 {
     matches!(message, Message::Silent)
 }
-
-/// How many cells are compared at a time.
-const STRIDE: usize = 8;
 
 /// Draws the line of a prompt, and puts the cursor behind it.
 fn draw_prompt(prompt: &Prompt, row: usize, grid: &mut Grid)
@@ -113,49 +111,14 @@ fn is_at_rest(state: &State) -> bool
     }
 }
 
-/// Whether so many characters as are compared at a time are all blanks. That costs no call.
-fn are_blanks(cells: &[char]) -> bool
-    requires { length cells.now ≡ 8 }
-    ensures { result ≡ true → count_by is_ink cells.now ≡ 0 }
-{
-    cells.starts_with(&[' '; STRIDE])
-}
-
-/// How many characters are blanks at the start, by strides: there may be some more.
-fn skip_blanks(cells: &[char]) -> usize
-    ensures within { result ≤ length cells.now }
-    ensures blank { count_by is_ink (take result cells.now) ≡ 0 }
-{
-    let mut i = 0;
-    while STRIDE <= cells.len() - i && are_blanks(&cells[i..i + STRIDE]) {
-        i += STRIDE;
-    }
-    i
-}
-
-/// Whether characters are all blanks, one by one.
-fn are_plain_blanks(cells: &[char]) -> bool
-    ensures { result ≡ true → count_by is_ink cells.now ≡ 0 }
-{
-    cells.iter().filter(|c| **c != ' ').count() == 0
-}
-
-/// Whether characters are all blanks.
-fn has_no_ink(cells: &[char]) -> bool
-    ensures { result ≡ true → count_by is_ink cells.now ≡ 0 }
-{
-    let from = skip_blanks(cells);
-    are_plain_blanks(&cells[from..])
-}
-
-/// Whether a row shows plain blanks.
+/// Whether a row is known to show plain blanks.
 fn is_blank(line: &Line) -> bool
     ensures { result ≡ true → line.now ≡ plain_row (length line.now.text) [] }
 {
-    !line.is_reversed() && has_no_ink(line.text())
+    line.is_known_blank()
 }
 
-/// Whether a row of a screen shows plain blanks.
+/// Whether a row of a screen is known to show plain blanks.
 fn is_blank_at(row: usize, grid: &Grid) -> bool
     requires { row < grid.now.rows }
     ensures { result ≡ true → rows_put row (plain_row grid.now.cols [] ∷ []) grid.now.lines ≡ grid.now.lines }
@@ -164,7 +127,21 @@ fn is_blank_at(row: usize, grid: &Grid) -> bool
     is_blank(&grid.lines()[row])
 }
 
-/// Draws the last row, and notes that it was drawn. Where it is to be blank and is so, the cursor alone is put.
+/// Clears a row that is not known to be blank, and notes that it was drawn.
+fn clear_row(row: usize, rows: &mut RowSet, grid: &mut Grid)
+    requires { row < grid.old.rows }
+    ensures grid { grid.new ≡ with_rows row (plain_row grid.old.cols [] ∷ []) grid.old }
+    ensures drawn { IsDrawnOn rows.old rows.new grid.old grid.new }
+{
+    let _rows = grid.rows();
+    if is_blank_at(row, grid) {
+        return;
+    }
+    grid.draw_blank(row, 1);
+    rows.insert(row);
+}
+
+/// Draws the last row, and notes that it was drawn. Where it is to be blank and is known to be so, the cursor alone is put.
 pub(crate) fn redraw_last_row(
     state: &State,
     row: usize,
@@ -177,7 +154,8 @@ pub(crate) fn redraw_last_row(
     ensures drawn { IsDrawnOn rows.old rows.new grid.old grid.new }
 {
     let _rows = grid.rows();
-    if is_at_rest(state) && is_blank_at(row, grid) {
+    if is_at_rest(state) {
+        clear_row(row, rows, grid);
         grid.set_cursor(point.0, point.1);
         return;
     }
