@@ -66,7 +66,7 @@ use Rattle.mgs_act.specs.Doing.{ActedBy, DoneBy}
 use Rattle.mgs_core.specs.KeyActs.{started_by, started_state, started_world}
 use Rattle.mgs_core.specs.Calls.{closed}
 use Rattle.mgs_core.specs.ByteActs.{CanDo, IsReady, asked_of, before_turn, model_act, deciding_state, deciding_world, finds, is_finding, is_replacement, is_replacing, may_want_memory, refused, seek_act, starts_replacing}
-use Rattle.mgs_core.specs.AtPlace.{IsActRefused}
+use Rattle.mgs_core.specs.AtPlace.{IsRefusedIn}
 use Rattle.mgs_core.specs.ByteSteps.{IsTurnStep, SearchStays, SeesNames, TurnLeft, keyed_without_act}
 use Rattle.mgs_core.specs.Turns.{IsLess, IsWithin, TurnDone, TurnRefused, TurnedBy, IsFit, has_all, is_played, is_quiet, weight}
 use Rattle.mgs_core.proofs.Begun.{closed_state, search_still}
@@ -587,10 +587,10 @@ module _ (d : Directory) (ks : List MarkedBuffer) (xs : List Session) (next : Op
         ap (λ (z : Session). session_of ks (refused (before_turn b h.state) z)) s.state
         ∙ (λ i. record (session_of ks h) { search = (ap (search_of (buffers_of ks)) (s.search wants) ∙ search_still (buffers_of ks) h.state.search h.state.prompt) i; state = s.again wants i })
 
-    pub refused_turn : (K : List MarkedBuffer) (ys : List Session) (before after : StoreTold) (was : Before) → was ≡ before_turn b h.state → IsActRefused d at was byte_act ks K (slice_set xs at y) ys → after ≡ before
+    pub refused_turn : (K : List MarkedBuffer) (ys : List Session) (before after : StoreTold) (was : Before) → was ≡ before_turn b h.state → IsRefusedIn d at was byte_act ks K (slice_set xs at y) ys → after ≡ before
         → TurnRefused old (world_of d K ys next) before after id
     refused_turn K ys before after was of_was did stays =
-        let r = subst (λ (e : Before). IsActRefused d at e byte_act ks K (slice_set xs at y) ys) of_was did in
+        let r = subst (λ (e : Before). IsRefusedIn d at e byte_act ks K (slice_set xs at y) ys) of_was did in
         let still : at ≡ position_or_len (session_id id) (slice_set xs at y) = place_same id at xs (slice_set xs at y) place (sizes_set xs at h y is_h (ap size_in s.state)) in
         record {
           state = state;

@@ -4,9 +4,9 @@ ghost use Rattle.mgs_plan.specs.Actions.{act_of};
 ghost use Rattle.mgs_seek.specs.Beginning.{search_held};
 ghost use Rattle.mgs_world.specs.Acted.{IsRefusable, IsSameWorld};
 ghost use Rattle.mgs_world.specs.Sound.{IsSound};
-ghost use Rattle.mgs_world.specs.Worlds.{idle, state_at};
+ghost use Rattle.mgs_world.specs.Worlds.{idle, state_at, world_of};
 ghost use Rattle.mgs_store.specs.Stores.{store_told};
-ghost use Rattle.mgs_core.specs.AtPlace.{IsKeyActDone, IsActDone, LeavesFewer};
+ghost use Rattle.mgs_core.specs.AtPlace.{IsActDone, IsActRefusable, IsAsItWas, IsDoneIn, IsKeyActDone, LeavesFewer};
 ghost use Rattle.mgs_core.specs.KeyActs.{is_acted, started_by, started_in};
 ghost use Rattle.mgs_core.specs.ByteActs.{CanDo, IsReady, asked_of, model_act, is_asked, may_want_memory};
 
@@ -114,7 +114,8 @@ fn do_key_act<T: Marked + Drop, S: Store>(
     requires fresh { state_at at sessions.old ≡ idle (state_at at sessions.old) }
     requires here { is_acted done ≡ true }
     ensures sound { IsSound buffers.new sessions.new }
-    ensures ok { IfOk result (IsKeyActDone directory.now at done buffers.old sessions.old (store_told S.failed S.accepted store.old) buffers.new sessions.new (store_told S.failed S.accepted store.new)) }
+    ensures ok { IfOk result (IsKeyActDone (store_told S.failed S.accepted) at done sessions.old
+        (world_of directory.now buffers.old sessions.old) store.old (world_of directory.now buffers.new sessions.new) store.new) }
     ensures wants { OnErr result (started_by done ≡ None) }
     ensures err { OnErr result (IsSameWorld directory.now buffers.old buffers.new sessions.old sessions.new) }
     ensures unasked { OnErr result (store.new ≡ store.old) }
@@ -144,7 +145,8 @@ fn do_in_parts<T: Marked + Drop, S: Store>(
     requires ready { IsReady act (search_held at sessions.old) (state_at at sessions.old) }
     requires here { CanDo before.now act }
     ensures sound { IsSound buffers.new sessions.new }
-    ensures ok { IsActDone directory.now at act before.now buffers.old sessions.old (store_told S.failed S.accepted store.old) buffers.new sessions.new (store_told S.failed S.accepted store.new) result }
+    ensures ok { IsDoneIn (store_told S.failed S.accepted) at act before.now sessions.old
+        (world_of directory.now buffers.old sessions.old) store.old (world_of directory.now buffers.new sessions.new) store.new result }
     ensures wants { OnErr result (may_want_memory act ≡ true) }
     ensures err { OnErr result (IsSameWorld directory.now buffers.old buffers.new sessions.old sessions.new) }
     ensures unasked { OnErr result (store.new ≡ store.old) }
@@ -203,11 +205,11 @@ pub fn do_byte_act<T: Marked + Drop, S: Store>(
     ensures directory { world.new.directory ≡ world.old.directory }
     ensures count { length world.new.sessions.items ≡ length world.old.sessions.items }
     ensures sound { IsSound world.new.buffers world.new.sessions.items }
-    ensures ok { IsActDone world.old.directory at act before.now world.old.buffers world.old.sessions.items (store_told S.failed S.accepted store.old) world.new.buffers world.new.sessions.items (store_told S.failed S.accepted store.new) result }
+    ensures ok { IsActDone (store_told S.failed S.accepted) at act before.now world.old store.old world.new store.new result }
     ensures wants { OnErr result (may_want_memory act ≡ true) }
-    ensures err { OnErr result (IsSameWorld world.old.directory world.old.buffers world.new.buffers world.old.sessions.items world.new.sessions.items) }
+    ensures err { OnErr result (IsAsItWas world.old world.new) }
     ensures unasked { OnErr result (store.new ≡ store.old) }
-    ensures may { OnErr result (IsRefusable world.old.directory at (model_act (state_at at world.old.sessions.items) before.now act) world.old.buffers world.old.sessions.items) }
+    ensures may { OnErr result (IsActRefusable at act before.now world.old) }
     ensures further { OnOk result (LeavesFewer act at world.old.buffers world.new.buffers world.old.sessions.items world.new.sessions.items) }
 {
     do_in_parts(

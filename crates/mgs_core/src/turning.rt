@@ -11,7 +11,7 @@ ghost use Rattle.mgs_session.specs.Sessions.{begun};
 ghost use Rattle.mgs_session.specs.declared.search.Search.{Search};
 ghost use Rattle.mgs_world.specs.Sound.{IsSound};
 ghost use Rattle.mgs_world.specs.Worlds.{IsUnique, state_at, state_of, session_id, sizes_in};
-ghost use Rattle.mgs_core.specs.AtPlace.{AreApart, IsActDone, IsActRefused, IsBare, IsEvent, IsPlace, IsSameBut, IsTurned, IsTyped, LeavesFewer, LeavesLess, StateAlone, SettlesApart, StaySettled, StaysStill};
+ghost use Rattle.mgs_core.specs.AtPlace.{AreApart, AreApartAt, IsActDone, IsActRefused, IsBare, IsEvent, IsPlace, IsSameBut, IsTurned, IsTyped, LeavesFewer, LeavesLess, StateAlone, SettlesApart, StaySettled, StaysStill};
 ghost use Rattle.mgs_core.specs.declared.byte_acts.ModeBefore.TheVariants.{Plain};
 ghost use Rattle.mgs_core.specs.Held.{AreSettled};
 ghost use Rattle.mgs_core.specs.Judged.{judged_touched};
@@ -183,11 +183,11 @@ fn act_turn<T: Marked + Drop, S: Store>(
     ensures sound { IsSound world.new.buffers world.new.sessions.items }
     ensures directory { world.new.directory ≡ world.old.directory }
     ensures sizes { sizes_in world.new.sessions.items ≡ sizes_in world.old.sessions.items }
-    ensures ok { IsActDone world.old.directory at act was.old.mode world.old.buffers world.old.sessions.items (store_told S.failed S.accepted store.old) world.new.buffers world.new.sessions.items (store_told S.failed S.accepted store.new) result }
-    ensures err { OnErr result (IsActRefused world.old.directory at was.old act world.old.buffers world.new.buffers world.old.sessions.items world.new.sessions.items) }
+    ensures ok { IsActDone (store_told S.failed S.accepted) at act was.old.mode world.old store.old world.new store.new result }
+    ensures err { OnErr result (IsActRefused at was.old act world.old world.new) }
     ensures unasked { OnErr result (store.new ≡ store.old) }
     ensures further { OnOk result (LeavesFewer act at world.old.buffers world.new.buffers world.old.sessions.items world.new.sessions.items) }
-    ensures touched { IfOk result (λ touched. (id : ℕ) → at ≡ position_or_len (session_id id) world.old.sessions.items → AreApart touched id world.old.directory world.old.buffers world.new.buffers world.old.sessions.items world.new.sessions.items) }
+    ensures touched { IfOk result (λ touched. AreApartAt touched at world.old world.new) }
 {
     match do_byte_act(world, at, store, act, &was.mode) {
         Ok(touched) => {
@@ -232,10 +232,10 @@ fn take_turn<T: Marked + Drop, S: Store>(
     ensures sizes { sizes_in world.new.sessions.items ≡ sizes_in world.old.sessions.items }
     ensures less { result.0 ≡ Done → LeavesLess at world.old.buffers world.new.buffers world.old.sessions.items world.new.sessions.items }
     ensures fit { result.0 ≡ Done → IsFit (state_at at world.new.sessions.items) }
-    ensures turned { (id : ℕ) → at ≡ position_or_len (session_id id) world.old.sessions.items → IsTurned world.old.directory at id world.old.buffers world.old.sessions.items (store_told S.failed S.accepted store.old) world.new.buffers world.new.sessions.items (store_told S.failed S.accepted store.new) result.0 }
-    ensures stands { result.2 ≡ true → StaySettled world.old.directory world.old.buffers world.new.buffers world.old.sessions.items world.new.sessions.items }
+    ensures turned { IsTurned (store_told S.failed S.accepted) at world.old store.old world.new store.new result.0 }
+    ensures stands { result.2 ≡ true → StaySettled world.old world.new }
     ensures alone { result.2 ≡ true → StateAlone at world.old.buffers world.new.buffers world.old.sessions.items world.new.sessions.items }
-    ensures touched { (id : ℕ) → at ≡ position_or_len (session_id id) world.old.sessions.items → AreApart result.1 id world.old.directory world.old.buffers world.new.buffers world.old.sessions.items world.new.sessions.items }
+    ensures touched { AreApartAt result.1 at world.old world.new }
 {
     // Tells the prover that each text is within the limit.
     let _count = world.buffers.len();
@@ -298,10 +298,10 @@ pub fn take_turns<T: Marked + Drop, S: Store>(
     ensures sound { IsSound world.new.buffers world.new.sessions.items }
     ensures directory { world.new.directory ≡ world.old.directory }
     ensures sizes { sizes_in world.new.sessions.items ≡ sizes_in world.old.sessions.items }
-    ensures event { (id : ℕ) → at ≡ position_or_len (session_id id) world.old.sessions.items → IsEvent world.old.directory id world.old.buffers world.old.sessions.items (store_told S.failed S.accepted store.old) world.new.buffers world.new.sessions.items (store_told S.failed S.accepted store.new) result.0 }
-    ensures stands { result.2 ≡ true → StaySettled world.old.directory world.old.buffers world.new.buffers world.old.sessions.items world.new.sessions.items }
+    ensures event { IsEvent (store_told S.failed S.accepted) at world.old store.old world.new store.new result.0 }
+    ensures stands { result.2 ≡ true → StaySettled world.old world.new }
     ensures alone { result.2 ≡ true → StateAlone at world.old.buffers world.new.buffers world.old.sessions.items world.new.sessions.items }
-    ensures touched { (id : ℕ) → at ≡ position_or_len (session_id id) world.old.sessions.items → AreApart result.1 id world.old.directory world.old.buffers world.new.buffers world.old.sessions.items world.new.sessions.items }
+    ensures touched { AreApartAt result.1 at world.old world.new }
 {
     let mut keyed = Keyed::Done;
     let mut touched = Touched::Nowhere;
@@ -376,11 +376,11 @@ pub fn type_in<T: Marked + Drop, S: Store>(
     ensures sound { IsSound world.new.buffers world.new.sessions.items }
     ensures directory { world.new.directory ≡ world.old.directory }
     ensures sizes { sizes_in world.new.sessions.items ≡ sizes_in world.old.sessions.items }
-    ensures gone { result.0 ≡ Quit → IsSameBut id world.old.directory world.old.buffers world.new.buffers world.old.sessions.items world.new.sessions.items }
+    ensures gone { result.0 ≡ Quit → IsSameBut id world.old world.new }
     ensures left { result.0 ≡ Quit → store_told S.failed S.accepted store.new ≡ store_told S.failed S.accepted store.old }
-    ensures keyed { IsTyped world.old.directory id byte world.old.buffers world.old.sessions.items (store_told S.failed S.accepted store.old) world.new.buffers world.new.sessions.items (store_told S.failed S.accepted store.new) result.0 }
-    ensures touched { AreApart result.1 id world.old.directory world.old.buffers world.new.buffers world.old.sessions.items world.new.sessions.items }
-    ensures still { result.2 ≡ true → StaysStill id world.old.directory world.old.buffers world.new.buffers world.old.sessions.items world.new.sessions.items }
+    ensures keyed { IsTyped (store_told S.failed S.accepted) id byte world.old store.old world.new store.new result.0 }
+    ensures touched { AreApart result.1 id world.old world.new }
+    ensures still { result.2 ≡ true → StaysStill id world.old world.new }
 {
     let was = is_bare(&world.sessions[at]);
     begin_at(&mut world.sessions, at, byte);

@@ -5,8 +5,8 @@ use Rattle.mgs_session.specs.declared.Session.{Session}
 use Rattle.mgs_store.specs.Stores.{store_told}
 use Rattle.mgs_world.specs.Acted.{IsRefusable, IsSameWorld}
 use Rattle.mgs_world.specs.Sound.{IsSound}
-use Rattle.mgs_world.specs.Worlds.{state_at}
-use Rattle.mgs_core.specs.AtPlace.{IsActDone, LeavesFewer}
+use Rattle.mgs_world.specs.Worlds.{state_at, world_of}
+use Rattle.mgs_core.specs.AtPlace.{IsDoneIn, LeavesFewer}
 use Rattle.mgs_core.specs.ByteActs.{model_act}
 use Rattle.mgs_core.proofs.Lent.{lent}
 use Rattle.mgs_core.proofs.byte_acts.do_byte_act.Goals as goal
@@ -30,7 +30,7 @@ returns g c =
       directory = refl;
       count = held (λ xs ys. length ys ≡ length xs) did.auto.sessions;
       sound = held (λ xs ys. IsSound ls ys) did.ensures.sound;
-      ok = held (λ xs ys. IsActDone d at act b ks xs (told c.args.store.now) ls ys (told did.new.store) r) did.ensures.ok;
+      ok = held (λ xs ys. IsDoneIn told at act b xs (world_of d ks xs) c.args.store.now (world_of d ls ys) did.new.store r) did.ensures.ok;
       wants = did.ensures.wants;
       err = held (λ xs ys. OnErr r (IsSameWorld d ks ls xs ys)) did.ensures.err;
       unasked = did.ensures.unasked;

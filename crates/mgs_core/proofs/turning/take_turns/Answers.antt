@@ -1,4 +1,4 @@
-use Rattle.std.proofs.Common.{◌≡◌, ◌∙◌, ℕ, ◌≤◌, ◌<◌, List, length, refl, ap, sym, subst}
+use Rattle.std.proofs.Common.{◌≡◌, ◌∙◌, ℕ, ◌≤◌, ◌<◌, List, Option, length, refl, ap, sym, subst}
 use Rattle.std.specs.List.{position_or_len}
 use Rattle.std.proofs.lemmas.Bool.{and_parts}
 use Rattle.mgs_model.specs.Access.{Directory}
@@ -10,8 +10,8 @@ use Rattle.mgs_laws.proofs.Apart.{apart_same}
 use Rattle.mgs_session.specs.declared.Session.{Session}
 use Rattle.mgs_store.specs.Stores.{store_told}
 use Rattle.mgs_world.specs.Worlds.{session_id, state_at, world_of}
-use Rattle.mgs_core.specs.AtPlace.{AreApart, IsTurned, StaySettled}
-use Rattle.mgs_core.specs.Turns.{goes_on}
+use Rattle.mgs_core.specs.Held.{AreSettled}
+use Rattle.mgs_core.specs.Turns.{TurnedBy, goes_on, is_played}
 use Rattle.mgs_core.proofs.Joined.{apart_both}
 use Rattle.mgs_core.proofs.Sizes.{place_same}
 use Rattle.mgs_core.proofs.Still.{alone_none, alone_then}
@@ -82,18 +82,18 @@ loop-keyed-preserved g c =
       sound = t.ensures.sound;
       sizes = t.ensures.sizes ∙ l.invariant.sizes;
       event = λ id place next.
-          let turned = subst (λ (e : Directory). IsTurned e c.args.at id ks ys (told l.store) ls zs (told t.new.store) t.result.0) same (t.ensures.turned id (here id place)) in
+          let turned = subst (λ (e : Directory). (next : Option ℕ) → TurnedBy (is_played (state_at c.args.at ys).todo) (state_at c.args.at zs).todo (world_of e ks ys next) (world_of e ls zs next) (told l.store) (told t.new.store) id t.result.0) same (t.ensures.turned id (here id place)) in
           let x = open_at d ks ys next id c.args.at (here id place) within in
           event_next id _ _ _ _ _ _ (remaining_at c.args.at ks ys) (remaining_at c.args.at ls zs) _ _ x.0 x.1 l.keyed t.result.0 on (l.invariant.event id place next) (turned next) t.ensures.less;
       fit = t.ensures.fit;
       stands = λ still.
           let both = and_parts l.stands t.result.2 still in
-          λ rests. subst (λ (e : Directory). StaySettled e ks ls ys zs) same (t.ensures.stands both.1) (l.invariant.stands both.0 rests);
+          λ rests. subst (λ (e : Directory). AreSettled e ks ys → AreSettled e ls zs) same (t.ensures.stands both.1) (l.invariant.stands both.0 rests);
       alone = λ still.
           let both = and_parts l.stands t.result.2 still in
           alone_then c.args.at w.buffers ks ls xs ys zs (l.invariant.alone both.0) (t.ensures.alone both.1);
       touched = λ id place next.
-          let apart = subst (λ (e : Directory). AreApart t.result.1 id e ks ls ys zs) same (t.ensures.touched id (here id place)) in
+          let apart = subst (λ (e : Directory). (next : Option ℕ) → Apart t.result.1 id (world_of e ks ys next) (world_of e ls zs next)) same (t.ensures.touched id (here id place)) in
           subst (λ (s : Touched). Apart s id (world_of d w.buffers xs next) (world_of d ls zs next)) (sym c.touched_both-touched.ensures)
           (apart_both l.touched t.result.1 id (world_of d w.buffers xs next) (world_of d ks ys next) (world_of d ls zs next) (l.invariant.touched id place next) (apart next));
     }

@@ -25,7 +25,7 @@ invariant-loop-keyed g l =
       sizes : sizes_in v.sessions.items ≡ sizes_in w.sessions.items;
       event : (id : ℕ) → l.at ≡ position_or_len (session_id id) w.sessions.items → (next : Option ℕ) → EventSoFar id (world_of d w.buffers w.sessions.items next) (world_of d v.buffers v.sessions.items next) (store_told g.S.Store.failed g.S.Store.accepted l.initial.store) (store_told g.S.Store.failed g.S.Store.accepted l.store) (remaining_at l.at v.buffers v.sessions.items) (state_at l.at v.sessions.items).todo l.keyed;
       fit : l.keyed ≡ Done → IsFit (state_at l.at v.sessions.items);
-      stands : l.stands ≡ true → StaySettled d w.buffers v.buffers w.sessions.items v.sessions.items;
+      stands : l.stands ≡ true → StaySettled w v;
       alone : l.stands ≡ true → StateAlone l.at w.buffers v.buffers w.sessions.items v.sessions.items;
       touched : (id : ℕ) → l.at ≡ position_or_len (session_id id) w.sessions.items → (next : Option ℕ) → Apart l.touched id (world_of d w.buffers w.sessions.items next) (world_of d v.buffers v.sessions.items next);
     }
