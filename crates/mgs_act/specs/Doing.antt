@@ -1,18 +1,17 @@
 -- What is done for the session at an index, by what was decided for it.
-use Rattle.std.specs.Prelude.{◌≡◌, ◌<◌, ℕ, Bool, true, false, List, length, Option, Some, Result, Ok, IfOk, slice_get}
+use Rattle.std.specs.Prelude.{◌≡◌, ◌<◌, ℕ, Bool, true, false, List, length, Option, Some, Ok, slice_get}
 use Rattle.std.specs.List.{flat_map, position_or_len}
 use Rattle.mgs_model.specs.Access.{Directory}
 use Rattle.mgs_laws.specs.Apart.{touched_by}
 use Rattle.mgs_model.specs.Apply.{act, apply, change_first, outcome_in}
-use Rattle.mgs_model.specs.Events.{Saved, act_effects, saved_by}
+use Rattle.mgs_model.specs.Events.{act_effects, saved_by}
 use Rattle.mgs_model.specs.Outcome.{Act}
 use Rattle.mgs_laws.specs.Refusals.{takes_memory}
 use Rattle.mgs_model.specs.Outcome as outcomes
-use Rattle.mgs_model.specs.World.{World}
+use Rattle.mgs_model.specs.World.{State, World}
 use Rattle.mgs_model.specs.declared.entry.Entry.{Entry}
-use Rattle.mgs_model.specs.declared.session.Question.{Question}
 use Rattle.mgs_model.specs.declared.touched.Touched.{Touched}
-use Rattle.mgs_store.specs.Stores.{IsCounted, StoreTold, store_told, told_more}
+use Rattle.mgs_store.specs.Stores.{IsCounted, StoreTold, told_more}
 use Rattle.mgs_buffers.specs.MarkedBuffer.{MarkedBuffer, marked_at, marked_named, marked_list_set}
 use Rattle.mgs_session.specs.declared.Session.{Session}
 use Rattle.mgs_plan.specs.Deciding.{CanPerform, outcome_read, view_at}
@@ -21,6 +20,7 @@ use Rattle.mgs_plan.specs.Tells.{touched_in}
 use Rattle.mgs_plan.specs.Listed.{entries_planned}
 use Rattle.mgs_plan.specs.declared.outcome.EntryPlan.{EntryPlan}
 use Rattle.mgs_plan.specs.declared.outcome.Outcome.{Outcome}
+use Rattle.mgs_act.specs.declared.acts.Reply.{Reply}
 pub use Rattle.mgs_world.specs.Acted.{IsRefusable}
 use Rattle.mgs_world.specs.Sound.{IsSound}
 use Rattle.mgs_world.specs.Worlds.{idle, state_at, session_id, world_of}
@@ -48,10 +48,6 @@ pub record IsDone (directory : Directory) (at : ℕ) (o : Outcome) (ks : List Ma
   pub fault : stored ≡ false → IsCounted before.failed after.failed
   pub does : (id : ℕ) (next : Option ℕ) (h : Session) → at ≡ position_or_len (session_id id) xs → slice_get xs at ≡ Some h → Does (world_of directory ks xs next) (world_of directory ls ys next) before after id (outcome_read ks (view_at directory ks xs next h) o stored) touched
 
--- by what a store tells, where it was not refused
-abbrev pub IsDoneIn : {S E : Type 0} → (S → ℕ) → (S → Option (List Saved)) → Directory → ℕ → Outcome → List MarkedBuffer → List Session → S → List MarkedBuffer → List Session → S → Result Touched E → Type 0
-IsDoneIn failed accepted directory at o ks xs s ls ys t result = IfOk result (IsDone directory at o ks xs (store_told failed accepted s) ls ys (store_told failed accepted t))
-
 -- without a store that is asked
 abbrev pub IsQuietlyDone : Directory → ℕ → Outcome → List MarkedBuffer → List Session → List MarkedBuffer → List Session → Touched → Type 0
 IsQuietlyDone directory at o ks xs ls ys touched = (t : StoreTold) → IsDone directory at o ks xs t ls ys t touched
@@ -78,11 +74,11 @@ pub record DoneBy (touched : Touched) (old new : World) (before after : StoreTol
   pub acted : ActedBy old new before after id c
   pub tells : touched ≡ touched_in (outcome_in old id c acted.stored)
 
--- by the session at an index
-abbrev pub IsActed : {S : Type 0} → (S → ℕ) → (S → Option (List Saved)) → Directory → ℕ → Act → List MarkedBuffer → List Session → S → List MarkedBuffer → List Session → S → Touched → Type 0
-IsActed failed accepted directory at c ks xs s ls ys t touched =
-    (id : ℕ) (next : Option ℕ) → at ≡ position_or_len (session_id id) xs → DoneBy touched (world_of directory ks xs next) (world_of directory ls ys next) (store_told failed accepted s) (store_told failed accepted t) id c
+-- by the session at an index: from these buffers, sessions and store to those
+abbrev pub IsActed : Directory → ℕ → Act → List MarkedBuffer → List Session → StoreTold → List MarkedBuffer → List Session → StoreTold → Touched → Type 0
+IsActed directory at c ks xs before ls ys after touched =
+    (id : ℕ) (next : Option ℕ) → at ≡ position_or_len (session_id id) xs → DoneBy touched (world_of directory ks xs next) (world_of directory ls ys next) before after id c
 
--- the answer to a question
-abbrev pub Answers : {S : Type 0} → (S → ℕ) → (S → Option (List Saved)) → Directory → ℕ → Question → Option ℕ → List ℕ → List MarkedBuffer → List Session → S → List MarkedBuffer → List Session → S → Touched → Type 0
-Answers failed accepted directory at question argument typed ks xs s ls ys t touched = IsActed failed accepted directory at (answer_act question argument typed (state_at at xs)) ks xs s ls ys t touched
+-- the act that an answer comes to, by a session that holds this
+abbrev pub answered : Reply → State → Act
+answered a state = answer_act a.question a.argument a.typed.now state

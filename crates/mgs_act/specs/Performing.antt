@@ -1,6 +1,7 @@
 -- What is done through a window's marks.
-use Rattle.std.specs.Prelude.{◌≡◌, ◌≤◌, ℕ, true, false, List, length, Option, None, Some, IsSome}
+use Rattle.std.specs.Prelude.{◌≡◌, ◌≤◌, ◌+◌, ℕ, true, false, List, length, Option, None, Some, IsSome}
 use Rattle.mgs_model.specs.Acts.{is_full}
+use Rattle.mgs_model.specs.Apply.{kill_after}
 use Rattle.mgs_laws.specs.Apart.{touched_by}
 use Rattle.mgs_model.specs.declared.touched.Touched.{Touched}
 use Rattle.mgs_laws.specs.Refusals.{takes_memory}
@@ -11,12 +12,13 @@ use Rattle.mgs_buffers.specs.MarkedBuffer.{MarkedBuffer, marked_at}
 use Rattle.mgs_buffers.specs.Placing.{CanStand, placed_if}
 use Rattle.mgs_marks.specs.Marks.{mark_in}
 use Rattle.mgs_model.specs.Outcome.{PointPlan}
-use Rattle.mgs_edit.specs.Reading.{GoesWithin, IsWithin, change_read, point_read, top_read, undone_read}
+use Rattle.mgs_edit.specs.Reading.{GoesWithin, IsWithin, change_read, kill_read, point_read, put_read, top_read, undone_read}
 use Rattle.mgs_edit.specs.declared.plan.Goes.{Goes}
 use Rattle.mgs_edit.specs.declared.plan.Change.{Change}
 use Rattle.mgs_edit.specs.declared.plan.Finish.{Finish}
+use Rattle.mgs_edit.specs.declared.plan.Piece.{Piece}
 use Rattle.mgs_edit.specs.declared.plan.Undone.{Undone}
-use Rattle.mgs_plan.specs.Actions.{CanBeDone, CanUndo, IsMarked, mark_gone, mark_told, marked_after, outcome_through, removed_by, session_acted}
+use Rattle.mgs_plan.specs.Actions.{CanBeDone, CanUndo, IsMarked, edited_by, mark_gone, mark_told, marked_after, outcome_through, removed_by, session_acted}
 use Rattle.mgs_plan.specs.declared.action.Action.{Action}
 use Rattle.mgs_session.specs.declared.Session.{Session}
 use Rattle.mgs_windows.specs.declared.WindowMarks.{WindowMarks}
@@ -30,6 +32,18 @@ back_in name ks u = removed_by u.serial (marked_at name ks).buffer.items
 
 abbrev pub undone_in : List ℕ → List MarkedBuffer → List ℕ → Undone → plans.Change
 undone_in name ks kill u = undone_read (marked_at name ks).buffer.text kill (removed_by u.serial (marked_at name ks).buffer.items) u
+
+-- the buffers once it came back
+abbrev pub buffers_undone : List ℕ → List MarkedBuffer → List ℕ → Undone → List MarkedBuffer
+buffers_undone name ks kill u = edited_by name (undone_in name ks kill u) ks
+
+-- where what a change puts in ends
+abbrev pub end_in : List ℕ → List MarkedBuffer → List ℕ → Change → ℕ
+end_in name ks kill c = c.from + length (put_read (marked_at name ks).buffer.text kill c.put)
+
+-- the kill buffer once a piece is killed
+abbrev pub killed_in : List ℕ → List MarkedBuffer → List ℕ → Option Piece → List ℕ
+killed_in name ks kill piece = kill_after (kill_read (marked_at name ks).buffer.text kill piece) kill
 
 abbrev pub IsEdit : plans.Change → Type 0
 IsEdit c = is_edit c.a c.b c.put ≡ true

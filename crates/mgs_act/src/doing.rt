@@ -1,12 +1,12 @@
 // What was decided is done: whole, or not at all.
-ghost use Rattle.std.specs.Prelude.{◌≡◌, Some, OnErr};
+ghost use Rattle.std.specs.Prelude.{◌≡◌, Some, IfOk, OnErr};
 ghost use Rattle.mgs_model.specs.Apply.{change_first};
 ghost use Rattle.mgs_buffers.specs.MarkedBuffer.{HasBuffer, marked_named, marked_owners_set};
 ghost use Rattle.mgs_plan.specs.Deciding.{CanList, IsGranted};
 ghost use Rattle.mgs_plan.specs.declared.outcome.Outcome.TheVariants.{Kills, SetsList, SetsOwners, Saves};
 ghost use Rattle.mgs_plan.specs.Rows.{scrolled_to};
 ghost use Rattle.mgs_store.specs.Stores.{store_told};
-ghost use Rattle.mgs_act.specs.Doing.{IsDone, IsDoneIn, IsListSet, IsQuietlyDone, IsReady, TakesMemory};
+ghost use Rattle.mgs_act.specs.Doing.{IsDone, IsListSet, IsQuietlyDone, IsReady, TakesMemory};
 ghost use Rattle.mgs_world.specs.Acted.{IsUnchanged};
 ghost use Rattle.mgs_world.specs.Sound.{IsSound};
 
@@ -170,8 +170,8 @@ pub fn do_decided<T: Marked + Drop, S: Store>(
 ) -> Result<Touched, Short>
     requires { IsReady directory.now at buffers.old sessions.old outcome.now }
     ensures sound { IsSound buffers.new sessions.new }
-    ensures done { IsDoneIn S.failed S.accepted directory.now at outcome.now
-        buffers.old sessions.old store.old buffers.new sessions.new store.new result }
+    ensures done { IfOk result (IsDone directory.now at outcome.now buffers.old sessions.old (store_told S.failed S.accepted store.old)
+        buffers.new sessions.new (store_told S.failed S.accepted store.new)) }
     ensures err { OnErr result (IsUnchanged buffers.old sessions.old buffers.new sessions.new) }
     ensures unasked { OnErr result (store.new ≡ store.old) }
     ensures may { OnErr result (TakesMemory at outcome.now buffers.old sessions.old) }

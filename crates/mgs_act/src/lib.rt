@@ -8,4 +8,4 @@ mod performing;
 mod setting;
 mod switching;
 
-pub use acts::{act, answer};
+pub use acts::{Reply, act, answer};

@@ -1,18 +1,17 @@
 // An action is done: in the buffers, and to the session that acts.
 ghost use Rattle.std.specs.Prelude.{◌≡◌, ◌+◌, ◌-◌, ◌<◌, ◌≤◌, ℕ, List, [], length, take, Option, Some, None, IfOk, OnOk, OnErr, false, true};
 ghost use Rattle.std.specs.List.{position_or_len};
-ghost use Rattle.mgs_model.specs.Apply.{kill_after};
 ghost use Rattle.mgs_laws.specs.Refusals.{kill_takes_memory};
 ghost use Rattle.mgs_buffers.specs.Changing.{writes};
 ghost use Rattle.mgs_buffers.specs.MarkedBuffer.{HasBuffer, marked_at, marked_named};
-ghost use Rattle.mgs_edit.specs.Reading.{ChangeWithin, GoesWithin, IsWithin, PieceWithin, kill_read, point_read, put_read, top_read};
+ghost use Rattle.mgs_edit.specs.Reading.{ChangeWithin, GoesWithin, IsWithin, PieceWithin, kill_read, point_read, top_read};
 ghost use Rattle.mgs_session.specs.Sessions.{acted, told};
 ghost use Rattle.mgs_plan.specs.declared.action.Action.TheVariants.{Edits, Moves, Undoes};
 ghost use Rattle.mgs_plan.specs.declared.outcome.Outcome.TheVariants.{Acts};
 ghost use Rattle.mgs_plan.specs.Actions.{AreMarks, CanBeDone, edited_by, kill_set, mark_told, removed_by};
 ghost use Rattle.mgs_plan.specs.Deciding.{IsActionGranted, IsGranted};
 ghost use Rattle.mgs_act.specs.Doing.{IsQuietlyDone, IsReady, TakesMemory};
-ghost use Rattle.mgs_act.specs.Performing.{CanComeBack, HasRoom, IsCarriedOut, IsEdit, IsTarget, IsTouched, MayBeShort, PointCanStand, TopCanStand, acted_in, back_in, buffers_acted, change_in, marks_left, undone_in};
+ghost use Rattle.mgs_act.specs.Performing.{CanComeBack, HasRoom, IsCarriedOut, IsEdit, IsTarget, IsTouched, MayBeShort, PointCanStand, TopCanStand, acted_in, back_in, buffers_acted, buffers_undone, change_in, end_in, killed_in, marks_left, undone_in};
 ghost use Rattle.mgs_world.specs.Acted.{IsUnchanged};
 ghost use Rattle.mgs_world.specs.Sound.{IsSound};
 ghost use Rattle.mgs_world.specs.WindowMarks.{WindowMarksDropped};
@@ -42,7 +41,7 @@ fn killed_if<T: Marked + Drop>(
     requires kept { HasBuffer name.now buffers.now }
     requires place { at ≡ position_or_len (marked_named name.now) buffers.now }
     requires within { PieceWithin (length (marked_at name.now buffers.now).buffer.text) piece.now }
-    ensures ok { IfOk result (λ made. kill_set made kill.new ≡ kill_after (kill_read (marked_at name.now buffers.now).buffer.text kill.old piece.now) kill.old) }
+    ensures ok { IfOk result (λ made. kill_set made kill.new ≡ killed_in name.now buffers.now kill.old piece.now) }
     ensures held { OnOk result (take (length kill.old) kill.new ≡ kill.old) }
     ensures err { OnErr result (kill.new ≡ kill.old) }
     ensures may { OnErr result (kill_takes_memory (kill_read (marked_at name.now buffers.now).buffer.text kill.old piece.now) ≡ true) }
@@ -80,7 +79,7 @@ fn edit<T: Marked + Drop>(
     requires within { ChangeWithin (marked_at writer.name.now buffers.old).buffer.text kill.now change.now }
     requires room { HasRoom writer.name.now buffers.old (change_in writer.name.now buffers.old kill.now change.now) }
     ensures ok { OnOk result (buffers.new ≡ edited_by writer.entry.name.now (change_in writer.entry.name.now buffers.old kill.now change.now) buffers.old) }
-    ensures end { IfOk result (λ end. end ≡ change.now.from + length (put_read (marked_at writer.entry.name.now buffers.old).buffer.text kill.now change.now.put)) }
+    ensures end { IfOk result (λ end. end ≡ end_in writer.entry.name.now buffers.old kill.now change.now) }
     ensures err { OnErr result (buffers.new ≡ buffers.old) }
     ensures may { OnErr result (IsEdit (change_in writer.entry.name.now buffers.old kill.now change.now)) }
 {
@@ -136,7 +135,7 @@ fn restore<T: Marked + Drop>(
     requires place { writer.at ≡ position_or_len (marked_named writer.name.now) buffers.old }
     requires granted { IsGranted writer.directory.now buffers.old writer.user.now writer.name.now 3 }
     requires can { CanComeBack writer.name.now buffers.old undone.now }
-    ensures ok { (kill : List ℕ) → OnOk result (buffers.new ≡ edited_by writer.entry.name.now (undone_in writer.entry.name.now buffers.old kill undone.now) buffers.old) }
+    ensures ok { (kill : List ℕ) → OnOk result (buffers.new ≡ buffers_undone writer.entry.name.now buffers.old kill undone.now) }
     ensures end { IfOk result (λ end. end ≡ undone.now.from + length (back_in writer.entry.name.now buffers.old undone.now)) }
     ensures err { OnErr result (buffers.new ≡ buffers.old) }
     ensures may { OnErr result (IsEdit (undone_in writer.entry.name.now buffers.old [] undone.now)) }

@@ -11,7 +11,7 @@ ghost use Rattle.mgs_core.specs.KeyActs.{is_acted, started_by, started_in};
 ghost use Rattle.mgs_core.specs.ByteActs.{CanDo, IsReady, asked_of, model_act, is_asked, may_want_memory};
 
 use crate::world::World;
-use mgs_act::{act, answer};
+use mgs_act::{Reply, act, answer};
 use mgs_buffers::Buffers;
 use mgs_marks::Marked;
 use mgs_mini::Prompt;
@@ -160,9 +160,12 @@ fn do_in_parts<T: Marked + Drop, S: Store>(
             let question = prompt.question();
             let input = prompt.input();
             let count = counted(argument);
-            answer(
-                buffers, directory, sessions, at, store, question, count, input,
-            )
+            let given = Reply {
+                question,
+                argument: count,
+                typed: input,
+            };
+            answer(buffers, directory, sessions, at, store, given)
         }
         ByteAct::Seek(step) => {
             search_on(buffers, directory, sessions, at, step);

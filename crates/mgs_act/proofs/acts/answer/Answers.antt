@@ -18,11 +18,11 @@ do_decided-requires g c = record {
 
 pub returns-clause-ok : goal.returns-clause-ok
 returns-clause-ok g c =
-    when_ok c.do_decided.result (did c.args.directory.now c.args.at (answer_act c.args.question c.args.argument c.args.typed.now (state_at c.args.at c.args.sessions.now)) c.args.buffers.now c.args.sessions.now c.requires.within c.plan_answer-outcome.result c.index-sessions-at.result (asked_at c.args.directory.now c.args.buffers.now c.args.sessions.now c.args.at c.index-sessions-at.result c.args.question c.args.argument c.args.typed.now c.plan_answer-outcome.result c.requires.within (c.plan_answer-outcome.ensures.value c.args.sessions.now)) _ _ _ _) c.do_decided.ensures.done
+    when_ok c.do_decided.result (did c.args.directory.now c.args.at (answer_act c.args.given.question c.args.given.argument c.args.given.typed.now (state_at c.args.at c.args.sessions.now)) c.args.buffers.now c.args.sessions.now c.requires.within c.plan_answer-outcome.result c.index-sessions-at.result (asked_at c.args.directory.now c.args.buffers.now c.args.sessions.now c.args.at c.index-sessions-at.result c.args.given.question c.args.given.argument c.args.given.typed.now c.plan_answer-outcome.result c.requires.within (c.plan_answer-outcome.ensures.value c.args.sessions.now)) _ _ _ _) c.do_decided.ensures.done
 
 pub returns-clause-err : goal.returns-clause-err
 returns-clause-err g c = OnErr-map c.do_decided.result (λ same. same c.args.directory.now) c.do_decided.ensures.err
 
 pub returns-clause-may : goal.returns-clause-may
 returns-clause-may g c =
-    OnErr-map c.do_decided.result (may_decided c.args.directory.now c.args.at (answer_act c.args.question c.args.argument c.args.typed.now (state_at c.args.at c.args.sessions.now)) c.args.buffers.now c.args.sessions.now c.requires.within c.plan_answer-outcome.result c.index-sessions-at.result (asked_at c.args.directory.now c.args.buffers.now c.args.sessions.now c.args.at c.index-sessions-at.result c.args.question c.args.argument c.args.typed.now c.plan_answer-outcome.result c.requires.within (c.plan_answer-outcome.ensures.value c.args.sessions.now))) c.do_decided.ensures.may
+    OnErr-map c.do_decided.result (may_decided c.args.directory.now c.args.at (answer_act c.args.given.question c.args.given.argument c.args.given.typed.now (state_at c.args.at c.args.sessions.now)) c.args.buffers.now c.args.sessions.now c.requires.within c.plan_answer-outcome.result c.index-sessions-at.result (asked_at c.args.directory.now c.args.buffers.now c.args.sessions.now c.args.at c.index-sessions-at.result c.args.given.question c.args.given.argument c.args.given.typed.now c.plan_answer-outcome.result c.requires.within (c.plan_answer-outcome.ensures.value c.args.sessions.now))) c.do_decided.ensures.may
