@@ -125,10 +125,10 @@ const ROUNDS: [(&[u8], [&str; 4]); 3] = [
             "",
         ],
     ),
-    (b"\x18bplan\rq", ["plan is edited qp\n", "", "", ""]),
+    (b"\x18bplan\rq", ["plan is edited pq\n", "", "", ""]),
     (
         b"\x18bnotes\rx\x18bdiary\re",
-        ["notes is edited xn\n", "diary is edited ed\n", "", ""],
+        ["notes is edited xn\n", "diary is edited de\n", "", ""],
     ),
 ];
 
