@@ -35,8 +35,7 @@ fn rearrange_windows<T: Marked + Drop>(
     ensures seen { OnErr result ((ks : List MarkedBuffer) → session_of ks session.new ≡ session_of ks session.old) }
     ensures may { OnErr result ((ks : List MarkedBuffer) → MayBeRefused arrangement argument (session_of ks session.old)) }
 {
-    // For what it says of the selected window.
-    let _selected = session.windows.selected();
+    prove!(session.windows.selected() < session.windows.as_slice().len());
     match arrangement {
         Arrangement::DeleteWindow => delete(buffers, session),
         Arrangement::DeleteOtherWindows => delete_others(buffers, session),

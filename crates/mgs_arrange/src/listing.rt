@@ -24,8 +24,7 @@ fn come_to_rows<T: Marked + Drop>(buffers: &mut Buffers<T>, session: &mut Sessio
     ensures rearranged { Rearranged buffers.old buffers.new session.old session.new }
     ensures seen { session_of buffers.new session.new ≡ window_lists (rows_shown rows) (session_of buffers.old session.old) }
 {
-    // For what it says of the selected window.
-    let _selected = session.windows.selected();
+    prove!(session.windows.selected() < session.windows.as_slice().len());
     let before = session.windows.show_rows(rows);
     drop_window_marks(buffers, before);
 }

@@ -90,8 +90,7 @@ fn show_in_session<T: Marked + Drop>(
     ensures same { OnErr result (IsResized session.old session.new) }
     ensures seen { OnErr result ((ks : List MarkedBuffer) → session_of ks session.new ≡ session_of ks session.old) }
 {
-    // For what it says of the selected window.
-    let _selected = session.windows.selected();
+    prove!(session.windows.selected() < session.windows.as_slice().len());
     let stood = standing(&session.windows, name);
     reserve(buffers.alloc(), &mut session.windows)?;
     let window_marks = add_standing(buffers, name, stood)?;

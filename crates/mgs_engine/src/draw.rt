@@ -12,7 +12,7 @@ use crate::screen::Screen;
 use mgs_core::{Core, Size};
 use mgs_grid::RowSet;
 use mgs_marks::Marked;
-use mgs_model::{QUEUE_LIMIT, SessionId, Short, Touched};
+use mgs_model::{QUEUE_LIMIT, ROWS_MAX, SessionId, Short, Touched};
 use mgs_paint::bound;
 use mgs_store::Store;
 use std::alloc::Global;
@@ -80,8 +80,7 @@ fn paint_whole(screen: &mut Screen, rows: &RowSet)
     ensures late { screen.new.late ≡ screen.old.late }
     ensures first { IsFirst screen.new }
 {
-    // Reads the grid once: its rows and columns are those of a picture.
-    let _rows = screen.next.rows();
+    prove!(screen.next.rows() <= ROWS_MAX);
     screen.queue.first(&screen.next);
     show(screen, rows);
 }

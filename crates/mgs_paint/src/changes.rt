@@ -331,9 +331,7 @@ pub fn paint(old: &Grid, new: &Grid, out: &mut Vec<u8>)
     ensures repaints { (bytes : List ℕ) × (out.new.items ≡ out.old.items ++ bytes) × Repaints old.now new.now bytes }
     ensures capacity { vec_capacity out.new ≡ vec_capacity out.old }
 {
-    // Reads each grid once: they have as many rows.
-    let _old_rows = old.rows();
-    let _new_rows = new.rows();
+    prove!(old.rows() == new.rows());
     paint_rows(old, new, &RowSet::all(), out);
 }
 
@@ -349,8 +347,6 @@ pub fn paint_rows(old: &Grid, new: &Grid, rows: &RowSet, out: &mut Vec<u8>)
     ensures repaints { (bytes : List ℕ) × (out.new.items ≡ out.old.items ++ bytes) × Repaints old.now new.now bytes }
     ensures capacity { vec_capacity out.new ≡ vec_capacity out.old }
 {
-    // Reads each grid once: its rows and columns are those of a picture.
-    let _old_rows = old.rows();
-    let _new_rows = new.rows();
+    prove!(old.rows() == new.rows());
     put_changes(out, old, new, rows);
 }

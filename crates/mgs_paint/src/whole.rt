@@ -6,6 +6,7 @@ ghost use Rattle.mgs_paint.specs.Operations.{bytes_of, rows_operations, whole_op
 
 use crate::put::{put_goto, put_reverse, put_row, put_unwrap};
 use mgs_grid::{Grid, Line};
+use mgs_model::ROWS_MAX;
 
 /// The most bytes that a paint of this many rows and columns gives.
 pub fn bound(rows: usize, cols: usize) -> usize
@@ -50,7 +51,6 @@ pub fn first(new: &Grid, out: &mut Vec<u8>)
     ensures paints { (bytes : List ℕ) × (out.new.items ≡ out.old.items ++ bytes) × Paints new.now bytes }
     ensures capacity { vec_capacity out.new ≡ vec_capacity out.old }
 {
-    // Reads the grid once: its rows and columns are those of a picture.
-    let _rows = new.rows();
+    prove!(new.rows() <= ROWS_MAX);
     put_whole(out, new);
 }

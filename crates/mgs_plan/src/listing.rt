@@ -30,8 +30,7 @@ pub(crate) fn plan_list<T: Marked + Drop>(
     ensures value { (n : Option ℕ) → IsPlanned directory.now buffers.now session.now (Run ListEntries n []) result }
     ensures can { CanPerform directory.now buffers.now session.now result }
 {
-    // Tells the prover that no buffer has an empty name.
-    let _unnamed = buffers.name_typed(&[]);
+    prove!(buffers.name_typed(&[]).is_none());
     let Some(name) = subject_in(buffers, session) else {
         return Outcome::Fails(Message::NoBuffer);
     };

@@ -223,8 +223,7 @@ pub(crate) fn plan_rule<T: Marked + Drop>(
     ensures value { IsPlanned directory.now buffers.now session.now (Run (command_of ruling) argument typed.now) result }
     ensures can { CanPerform directory.now buffers.now session.now result }
 {
-    // Tells the prover that no buffer has an empty name.
-    let _unnamed = buffers.name_typed(&[]);
+    prove!(buffers.name_typed(&[]).is_none());
     let Some(name) = subject_in(buffers, session) else {
         return Outcome::Fails(Message::NoBuffer);
     };

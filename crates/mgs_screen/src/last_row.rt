@@ -11,7 +11,7 @@ ghost use Rattle.mgs_screen.specs.Screens.{IsAtRest, prompt_drawn, last_row_draw
 
 use mgs_grid::{Grid, Line, RowSet};
 use mgs_mini::Prompt;
-use mgs_model::Message;
+use mgs_model::{Message, ROWS_MAX};
 use mgs_session::{Aim, State};
 
 fn is_silent(message: &Message) -> bool
@@ -123,7 +123,7 @@ fn is_blank_at(row: usize, grid: &Grid) -> bool
     requires { row < grid.now.rows }
     ensures { result ≡ true → rows_put row (plain_row grid.now.cols [] ∷ []) grid.now.lines ≡ grid.now.lines }
 {
-    let _rows = grid.rows();
+    prove!(grid.rows() <= ROWS_MAX);
     is_blank(&grid.lines()[row])
 }
 
@@ -133,7 +133,7 @@ fn clear_row(row: usize, rows: &mut RowSet, grid: &mut Grid)
     ensures grid { grid.new ≡ with_rows row (plain_row grid.old.cols [] ∷ []) grid.old }
     ensures drawn { IsDrawnOn rows.old rows.new grid.old grid.new }
 {
-    let _rows = grid.rows();
+    prove!(grid.rows() <= ROWS_MAX);
     if is_blank_at(row, grid) {
         return;
     }
@@ -153,7 +153,7 @@ pub(crate) fn redraw_last_row(
     ensures grid { grid.new ≡ last_row_drawn (state_of state.now) row point grid.old }
     ensures drawn { IsDrawnOn rows.old rows.new grid.old grid.new }
 {
-    let _rows = grid.rows();
+    prove!(grid.rows() <= ROWS_MAX);
     if is_at_rest(state) {
         clear_row(row, rows, grid);
         grid.set_cursor(point.0, point.1);

@@ -15,7 +15,7 @@ use mgs_buffers::{Attributes, Buffers, Found};
 use mgs_cache::Judge;
 use mgs_grid::Grid;
 use mgs_marks::Marked;
-use mgs_model::{Decision, Name, Right};
+use mgs_model::{Decision, Name, ROWS_MAX, Right};
 use mgs_windows::{RowPane, Window};
 
 /// Where the rows of a list are drawn: `height` rows from row `first` on, of which the first shows the row of number `row`.
@@ -53,7 +53,7 @@ fn draw_listed(attributes: &Attributes, number: usize, sight: Sight, grid: &mut 
     requires { sight.first + sight.height ≤ grid.old.rows }
     ensures { grid.new ≡ row_drawn sight number (listing_text (attributes_read attributes.now)) grid.old }
 {
-    let _rows = grid.rows();
+    prove!(grid.rows() <= ROWS_MAX);
     if let Some(at) = place_in(sight, number) {
         grid.draw_listed(
             at,
@@ -100,7 +100,7 @@ fn draw_buffers<T: Marked + Drop>(
     ensures grid { grid.new ≡ drawn sight (map listing_text (listed viewer.now.directory.now viewer.now.user.now buffers.now)) grid.old }
     ensures judged { AreJudged viewer.now.directory.now (rules_kept buffers.now) judge.new }
 {
-    let _rows = grid.rows();
+    prove!(grid.rows() <= ROWS_MAX);
     grid.draw_blank(sight.first, sight.height);
     let mut number = 0;
     for i in 0..buffers.len() {
@@ -128,7 +128,7 @@ pub fn draw_listing<T: Marked + Drop>(
     ensures grid { IsDrawnInSight sight (listing_to viewer.now.directory.now viewer.now.user.now buffers.now sight.row) grid.old grid.new }
     ensures judged { AreJudged viewer.now.directory.now (rules_kept buffers.now) judge.new }
 {
-    let _rows = grid.rows();
+    prove!(grid.rows() <= ROWS_MAX);
     draw_buffers(buffers, judge, viewer, sight, grid);
     grid.draw_buffers_mode(sight.first + sight.height);
 }
@@ -139,7 +139,7 @@ fn draw_entry(entry: &Entry, i: usize, sight: Sight, grid: &mut Grid)
     requires few { i + 1 < 2 ^ 64 }
     ensures { grid.new ≡ row_drawn sight i (decimal (i + 1) ++ 32 ∷ entry_text entry.now) grid.old }
 {
-    let _rows = grid.rows();
+    prove!(grid.rows() <= ROWS_MAX);
     if let Some(at) = place_in(sight, i) {
         let text = print_entry(entry);
         grid.draw_entry(at, i + 1, text.as_str().as_bytes());
@@ -151,7 +151,7 @@ fn draw_list(entries: &[Entry], sight: Sight, grid: &mut Grid)
     requires { sight.first + sight.height ≤ grid.old.rows }
     ensures { grid.new ≡ drawn sight (entries_texts 1 entries.now) grid.old }
 {
-    let _rows = grid.rows();
+    prove!(grid.rows() <= ROWS_MAX);
     grid.draw_blank(sight.first, sight.height);
     for (i, entry) in entries.iter().enumerate() {
         // No further row is in sight.
@@ -167,7 +167,7 @@ fn draw_cause(decision: Decision, sight: Sight, grid: &mut Grid)
     requires { sight.first + sight.height ≤ grid.old.rows }
     ensures { grid.new ≡ row_drawn sight 0 (unlisted_text decision) grid.old }
 {
-    let _rows = grid.rows();
+    prove!(grid.rows() <= ROWS_MAX);
     if let Some(at) = place_in(sight, 0) {
         grid.draw_unlisted(at, decision);
     }
@@ -178,7 +178,7 @@ fn draw_unlisted(decision: Decision, sight: Sight, grid: &mut Grid)
     requires { sight.first + sight.height ≤ grid.old.rows }
     ensures { grid.new ≡ drawn sight (unlisted_text decision ∷ []) grid.old }
 {
-    let _rows = grid.rows();
+    prove!(grid.rows() <= ROWS_MAX);
     grid.draw_blank(sight.first, sight.height);
     draw_cause(decision, sight, grid);
 }
@@ -238,7 +238,7 @@ pub fn draw_entries<T: Marked + Drop>(
     ensures judged { AreJudged viewer.now.directory.now (rules_kept buffers.now) judge.new }
     ensures grid { IsDrawnInSight sight (entries_to viewer.now.directory.now viewer.now.user.now buffers.now name.now sight.row) grid.old grid.new }
 {
-    let _rows = grid.rows();
+    prove!(grid.rows() <= ROWS_MAX);
     let found = buffers.find(name);
     draw_acl(&found, judge, viewer, sight, grid);
     let shown = shown_name(&found, judge, viewer);
@@ -250,7 +250,7 @@ fn draw_none(first: usize, height: usize, grid: &mut Grid)
     requires { first + height < grid.old.rows }
     ensures { IsPaneDrawn first height No_pane grid.old grid.new }
 {
-    let _rows = grid.rows();
+    prove!(grid.rows() <= ROWS_MAX);
     grid.draw_blank(first, height);
     grid.draw_none_mode(first + height);
 }

@@ -13,6 +13,7 @@ use crate::tab_stops::begin_at;
 use mgs_buffers::Found;
 use mgs_grid::{Grid, RowSet, ShiftedRow};
 use mgs_marks::Marked;
+use mgs_model::ROWS_MAX;
 use mgs_text::Text;
 
 /// Draws all rows of a text.
@@ -21,7 +22,7 @@ fn draw_rows_of<T: Text>(text: &T, drawn: &DrawnText, rows: &mut RowSet, grid: &
     ensures grid { grid.new ≡ showing drawn.now drawn.now.shown.row drawn.now.shown.shift (T.text text.now) grid.old }
     ensures drawn { IsDrawnOn rows.old rows.new grid.old grid.new }
 {
-    let _rows = grid.rows();
+    prove!(grid.rows() <= ROWS_MAX);
     let own = ShiftedRow {
         row: drawn.shown.row,
         shift: drawn.shown.shift,
@@ -44,7 +45,7 @@ fn draw_row_of<T: Text>(
     ensures grid { CompletesRow drawn.now at.row at.shift (T.text text.now) grid.old grid.new }
     ensures drawn { IsDrawnOn rows.old rows.new grid.old grid.new }
 {
-    let _rows = grid.rows();
+    prove!(grid.rows() <= ROWS_MAX);
     if at.row >= drawn.height {
         return;
     }
@@ -67,7 +68,7 @@ fn shift_row<T: Text>(
     ensures grid { DoesShow drawn.now from.row from.shift (T.text text.now) grid.old → grid.new ≡ showing drawn.now from.row to (T.text text.now) grid.old }
     ensures drawn { IsDrawnOn rows.old rows.new grid.old grid.new }
 {
-    let _rows = grid.rows();
+    prove!(grid.rows() <= ROWS_MAX);
     if from.shift == to {
         return;
     }
@@ -90,7 +91,7 @@ fn shift_rows<T: Text>(
     ensures grid { CompletesShifts drawn.now from.row from.shift (T.text text.now) grid.old grid.new }
     ensures drawn { IsDrawnOn rows.old rows.new grid.old grid.new }
 {
-    let _rows = grid.rows();
+    prove!(grid.rows() <= ROWS_MAX);
     if from.row == drawn.shown.row {
         shift_row(text, drawn, from, drawn.shown.shift, rows, grid);
         return;
@@ -157,7 +158,7 @@ fn redraw_rows<T: Text>(
     ensures grid { CompletesChange change earlier.now drawn.now (T.text text.now) grid.old grid.new }
     ensures drawn { IsDrawnOn rows.old rows.new grid.old grid.new }
 {
-    let _rows = grid.rows();
+    prove!(grid.rows() <= ROWS_MAX);
     let from = ShiftedRow {
         row: earlier.row,
         shift: earlier.shift,

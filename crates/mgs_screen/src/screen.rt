@@ -27,7 +27,7 @@ use mgs_buffers::{Buffers, Found};
 use mgs_cache::Judge;
 use mgs_grid::{Grid, RowSet};
 use mgs_marks::Marked;
-use mgs_model::{Decision, Mask, Name, ROWS_MAX, Right};
+use mgs_model::{COLS_MAX, Decision, Mask, Name, ROWS_MAX, Right};
 use mgs_policy::Directory;
 use mgs_session::Session;
 use mgs_text::Text;
@@ -141,7 +141,7 @@ fn redraw_mode(
     ensures grid { grid.new ≡ with_rows row (mode_row grid.old.cols (mode_text name.now mode.now) ∷ []) grid.old }
     ensures drawn { IsDrawnOn rows.old rows.new grid.old grid.new }
 {
-    let _rows = grid.rows();
+    prove!(grid.rows() <= ROWS_MAX);
     if let Some(earlier) = earlier {
         if is_same_mode(&earlier.mode, mode) {
             return;
@@ -261,7 +261,7 @@ fn redraw_window<T: Marked + Drop>(
     ensures stands { AreStandingAround (row_below place.now) (buffers_of buffers.now) grid.new redraw.new.before.now redraw.new.texts }
     ensures drawn { IsDrawnOn redraw.old.rows redraw.new.rows grid.old grid.new }
 {
-    let _cols = grid.cols();
+    prove!(grid.cols() <= COLS_MAX);
     let height = place.window.height;
     let Some(window_marks) = place.window.shows else {
         draw_rows(buffers, judge, viewer, place.window, place.first, grid);
@@ -301,7 +301,7 @@ pub fn redraw_session<T: Marked + Drop>(
     ensures stands { AreStanding (buffers_of buffers.now) grid.new drawn_texts.new }
     ensures apart { AreSameApart result grid.old.lines grid.new.lines }
 {
-    let _rows = grid.rows();
+    prove!(grid.rows() <= ROWS_MAX);
     let selected = session.windows.selected();
     let viewer = Viewer {
         directory,

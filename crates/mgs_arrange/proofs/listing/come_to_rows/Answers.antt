@@ -15,7 +15,7 @@ pub drop_window_marks-requires : goal.drop_window_marks-requires
 drop_window_marks-requires g c =
     let ks = c.args.buffers.now in
     let x : Session = c.args.session.now in
-    let within : x.windows.selected < length x.windows.windows = omega (arith, c.selected-selected.ensures.value, c.selected-selected.ensures.within) in
+    let within : x.windows.selected < length x.windows.windows = omega (arith, c.selected.ensures.value, c.selected.ensures.within) in
     subst (IsShownSound ks) (sym c.show_rows-before.ensures.left) (left_sound ks ks c.args.rows x within c.requires.sound)
 
 pub returns : goal.returns
@@ -23,7 +23,7 @@ returns g c =
     let ks = c.args.buffers.now in
     let ls = c.drop_window_marks.new.buffers in
     let x : Session = c.args.session.now in
-    let within : x.windows.selected < length x.windows.windows = omega (arith, c.selected-selected.ensures.value, c.selected-selected.ensures.within) in
+    let within : x.windows.selected < length x.windows.windows = omega (arith, c.selected.ensures.value, c.selected.ensures.within) in
     let dropped : WindowMarksDropped (given_up x) ks ls = subst (λ (o : Option WindowMarks). WindowMarksDropped o ks ls) c.show_rows-before.ensures.left c.drop_window_marks.ensures in
     let list = sym c.show_rows-before.ensures.list in
     record {

@@ -16,7 +16,7 @@ use Rattle.mgs_arrange.proofs.showing.show_in_session.Goals as goal
 pub add_standing-requires-clause-sound : goal.add_standing-requires-clause-sound
 add_standing-requires-clause-sound g c =
     let x : Session = c.args.session.now in
-    let within : x.windows.selected < length x.windows.windows = omega (arith, c.selected-selected.ensures.value, c.selected-selected.ensures.within) in
+    let within : x.windows.selected < length x.windows.windows = omega (arith, c.selected.ensures.value, c.selected.ensures.within) in
     subst (IsShownSound c.args.buffers.now) (sym c.standing-stood.ensures) (standing_sound c.args.buffers.now c.args.name.now x within c.requires.sound)
 
 pub add_standing-requires-clause-named : goal.add_standing-requires-clause-named
@@ -26,7 +26,7 @@ add_standing-requires-clause-named g c =
 pub drop_window_marks-requires : goal.drop_window_marks-requires
 drop_window_marks-requires g c =
     let x : Session = c.args.session.now in
-    let within : x.windows.selected < length x.windows.windows = omega (arith, c.selected-selected.ensures.value, c.selected-selected.ensures.within) in
+    let within : x.windows.selected < length x.windows.windows = omega (arith, c.selected.ensures.value, c.selected.ensures.within) in
     let given : c.show-before.result ≡ given_up x = c.show-before.ensures.left ∙ ap (λ (w : WindowList). left_by (shows_at w.selected w.windows) w.places) c.reserve.ensures.same in
     subst (IsShownSound c.add_standing.new.buffers) (sym given)
     (before_sound c.args.name.now _ _ c.reserve.new.windows.capacity c.in_ok-window_marks.window_marks x c.args.buffers.now c.add_standing.new.buffers within c.requires.sound c.in_ok-window_marks.ensures.ok)
@@ -40,7 +40,7 @@ returns g c =
     let ls = c.add_standing.new.buffers in
     let ms = c.drop_window_marks.new.buffers in
     let capacity = c.reserve.new.windows.capacity in
-    let within : x.windows.selected < length x.windows.windows = omega (arith, c.selected-selected.ensures.value, c.selected-selected.ensures.within) in
+    let within : x.windows.selected < length x.windows.windows = omega (arith, c.selected.ensures.value, c.selected.ensures.within) in
     let given : c.show-before.result ≡ given_up x = c.show-before.ensures.left ∙ ap (λ (w : WindowList). left_by (shows_at w.selected w.windows) w.places) c.reserve.ensures.same in
     let session : c.set_kind.new.session ≡ acted Other (shown_session capacity y x) =
     c.set_kind.ensures ∙ ap (λ (w : WindowList). acted Other (record x { windows = w })) (c.show-before.ensures.list ∙ ap (window_shown y) c.reserve.ensures.same) in

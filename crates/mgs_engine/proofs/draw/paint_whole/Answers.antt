@@ -5,7 +5,7 @@ use Rattle.mgs_engine.proofs.Repaints.{paint_first}
 use Rattle.mgs_engine.proofs.draw.paint_whole.Goals as goal
 
 pub first-requires : goal.first-requires
-first-requires c = paint_room c.args.screen.now c.rows-rows.ensures.picture c.requires.taken
+first-requires c = paint_room c.args.screen.now c.rows.ensures.picture c.requires.taken
 
 pub returns-clause-first : goal.returns-clause-first
 returns-clause-first c =

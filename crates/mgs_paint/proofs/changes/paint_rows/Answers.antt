@@ -13,7 +13,7 @@ returns-clause-repaints c =
       c.put_changes.ensures.items,
       record {
         bounded = grown c.args.out.now.items c.put_changes.new.out.items (bytes_of (changes old new)) _ c.put_changes.ensures.items (omega arith);
-        draws = (changes old new, refl, changes_lead old new c.rows-old_rows.ensures.picture c.rows-new_rows.ensures.picture (sym c.requires.rows) (sym c.requires.cols));
+        draws = (changes old new, refl, changes_lead old new c.rows.ensures.picture c.rows-2.ensures.picture (sym c.requires.rows) (sym c.requires.cols));
         quiet = changes_same old new;
       },
     )

@@ -10,6 +10,6 @@ returns-clause-paints c =
       c.put_whole.ensures.items,
       record {
         bounded = grown c.args.out.now.items c.put_whole.new.out.items (bytes_of (whole_operations p)) _ c.put_whole.ensures.items (omega arith);
-        draws = λ s valid rows cols. (whole_operations p, refl, whole_leads p s c.rows-rows.ensures.picture valid rows cols);
+        draws = λ s valid rows cols. (whole_operations p, refl, whole_leads p s c.rows.ensures.picture valid rows cols);
       },
     )

@@ -5,15 +5,15 @@ use Rattle.mgs_plan.proofs.listing.plan_list.Goals as goal
 
 pub returns-in_default-clause-value : goal.returns-in_default-clause-value
 returns-in_default-clause-value g c = λ n xs next.
-    let named = c.name_typed-unnamed.ensures in
+    let named = c.name_typed.ensures in
     list_unshown c.args.directory.now c.args.buffers.now xs next n c.args.session.now
-    (no_empty_name c.args.buffers.now c.name_typed-unnamed.result named.value named.form named.there) (sym c.in_default.is ∙ c.subject_in.ensures.value)
+    (no_empty_name c.args.buffers.now c.name_typed.result named.value named.form named.there) (sym c.in_default.is ∙ c.subject_in.ensures.value)
 
 pub returns-clause-value : goal.returns-clause-value
 returns-clause-value g c = λ n xs next.
-    let named = c.name_typed-unnamed.ensures in
+    let named = c.name_typed.ensures in
     list_planned c.args.directory.now c.args.buffers.now xs next n c.args.session.now
-    (no_empty_name c.args.buffers.now c.name_typed-unnamed.result named.value named.form named.there)
+    (no_empty_name c.args.buffers.now c.name_typed.result named.value named.form named.there)
     c.in-Some.name c.right_to_list-mask.result c.judged.result (sym c.in-Some.is ∙ c.subject_in.ensures.value) c.right_to_list-mask.ensures c.judged.ensures.value
 
 pub returns-clause-can : goal.returns-clause-can

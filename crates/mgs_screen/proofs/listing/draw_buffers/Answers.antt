@@ -26,7 +26,7 @@ loop-i-preserved g c =
     record {
       grid = c.draw_buffer-number.ensures.grid
           ∙ ap (buffer_drawn c.args.sight n o) c.loop-i.invariant.grid
-          ∙ buffer_more c.args.sight n xs o p c.loop-i.invariant.number (omega (arith, c.requires.room, c.rows-rows.ensures.picture.count))
+          ∙ buffer_more c.args.sight n xs o p c.loop-i.invariant.number (omega (arith, c.requires.room, c.rows.ensures.picture.count))
           ∙ ap (λ (told : List Attributes). drawn c.args.sight (map listing_text told) p) (sym more);
       number = c.draw_buffer-number.ensures.next
           ∙ ap (λ (k : ℕ). k + length (if_granted o)) c.loop-i.invariant.number

@@ -19,7 +19,7 @@ returns-clause-grid g c = λ selected.
     let shown : Named → Option (List ℕ) = λ (y : Named). name_to c.args.viewer.now.directory.now c.args.viewer.now.user.now y.all y.name in
     let drawn : Named → Option (List ℕ) → Picture = λ (y : Named) (name : Option (List ℕ)).
     record old { lines = rows_put c.args.sight.first (rows_from old.cols c.args.sight.height c.args.sight.row (texts y) ++ mode_row old.cols (acl_mode name) ∷ []) old.lines } in
-    mode_below c.args.sight.first c.args.sight.height c.args.sight.row (texts f) (acl_mode c.shown_name-shown.result) old c.draw_acl.new.grid c.draw_acl_mode.new.self (omega (arith, c.requires.room, c.rows-rows.ensures.picture.count)) c.draw_acl.ensures.grid c.draw_acl_mode.ensures
+    mode_below c.args.sight.first c.args.sight.height c.args.sight.row (texts f) (acl_mode c.shown_name-shown.result) old c.draw_acl.new.grid c.draw_acl_mode.new.self (omega (arith, c.requires.room, c.rows.ensures.picture.count)) c.draw_acl.ensures.grid c.draw_acl_mode.ensures
     ∙ ap (drawn f) c.shown_name-shown.ensures.value
     ∙ ap (λ (y : Named). drawn y (shown y)) c.find-found.ensures
     ∙ ap (λ (rs : List Row). record old { lines = rows_put c.args.sight.first rs old.lines }) (sym (entries_pane_is selected old.cols c.args.sight.height c.args.sight.row c.args.viewer.now.directory.now c.args.viewer.now.user.now c.args.name.now c.args.buffers.now c.requires.kept))

@@ -9,4 +9,4 @@ returns c =
     let text : List ℕ = unlisted_text c.args.decision in
     c.draw_cause.ensures
     ∙ ap (row_drawn c.args.sight 0 text) (drawn_none c.args.sight c.args.grid.now c.draw_blank.new.self c.draw_blank.ensures)
-    ∙ row_more c.args.sight [] text c.args.grid.now (omega (arith, c.requires, c.rows-rows.ensures.picture.count))
+    ∙ row_more c.args.sight [] text c.args.grid.now (omega (arith, c.requires, c.rows.ensures.picture.count))

@@ -21,12 +21,12 @@ returns-clause-grid g c = λ top from olds column stand same.
     let begin = c.begin_at-begin.result in
     let start : ℕ = start_of (d.shown.above + row) text in
     let pane : TextPane = record { first = d.first; height = d.height; top = d.shown.start; row = top; shift = from } in
-    let drawn = but_one row start c.args.at.shift pane text olds p c.rows-rows.ensures.picture.count c.requires.pane.room c.if-at-drawn.false
+    let drawn = but_one row start c.args.at.shift pane text olds p c.rows.ensures.picture.count c.requires.pane.room c.if-at-drawn.false
     (start_down d.shown.above row d.shown.start text c.requires.pane.top.begins) column stand same in
     c.draw_text_row.ensures.row
     ∙ ap (λ (ls : List Row). record p { lines = ls }) (
     row_same at begin.shift c.args.at.shift begin.place start text p (c.begin_at-begin.ensures.row p.cols)
-    ∙ text_by_row row at start c.args.at.shift pane text p c.rows-rows.ensures.picture.count drawn)
+    ∙ text_by_row row at start c.args.at.shift pane text p c.rows.ensures.picture.count drawn)
 
 pub returns-clause-drawn : goal.returns-clause-drawn
 returns-clause-drawn g c =
@@ -38,9 +38,9 @@ returns-clause-drawn g c =
     let pane : List Row = text_rows p.cols (shift_at 0 begin.shift) 0 1 rest in
     let size : length pane ≡ 1 = length-text_rows p.cols (shift_at 0 begin.shift) 0 1 rest in
     row_drawn c.args.rows.now c.insert.new.self at pane p q
-    (is_put at pane p q c.draw_text_row.ensures.row (omega (arith, size, c.requires.pane.room, c.if-at-drawn.false, c.rows-rows.ensures.picture.count))) size c.insert.ensures.kept c.insert.ensures.put
+    (is_put at pane p q c.draw_text_row.ensures.row (omega (arith, size, c.requires.pane.room, c.if-at-drawn.false, c.rows.ensures.picture.count))) size c.insert.ensures.kept c.insert.ensures.put
 
 pub returns-then-at-drawn-clause-grid : goal.returns-then-at-drawn-clause-grid
 returns-then-at-drawn-clause-grid g c = λ top from olds column stand same.
     let d = c.args.drawn.now in
-    out_of_sight c.args.at.row d.first d.height d.shown.start top from (g.T.Text.text c.args.text.now) olds c.args.grid.now c.rows-rows.ensures.picture.count c.requires.pane.room c.if-at-drawn.true stand same
+    out_of_sight c.args.at.row d.first d.height d.shown.start top from (g.T.Text.text c.args.text.now) olds c.args.grid.now c.rows.ensures.picture.count c.requires.pane.room c.if-at-drawn.true stand same

@@ -15,4 +15,4 @@ returns-clause-drawn g c =
     let pane : List Row = shown_rows p.cols d d.shown.row d.shown.shift text in
     let size : length pane ≡ d.height = length-shown_rows p.cols d d.shown.row d.shown.shift text in
     put_drawn c.args.rows.now c.insert_rows.new.self d.first d.height pane p q
-    (is_put d.first pane p q c.draw_text.ensures (omega (arith, size, c.requires.pane.room, c.rows-rows.ensures.picture.count))) size c.insert_rows.ensures.kept c.insert_rows.ensures.put
+    (is_put d.first pane p q c.draw_text.ensures (omega (arith, size, c.requires.pane.room, c.rows.ensures.picture.count))) size c.insert_rows.ensures.kept c.insert_rows.ensures.put

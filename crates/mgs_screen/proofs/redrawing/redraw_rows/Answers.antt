@@ -15,6 +15,6 @@ returns-in-Line-clause-grid g c = λ old stand change.
     let shift : ℕ = c.draw_line_of-shift.result in
     let text : List ℕ = g.T.Text.text c.args.text.now in
     let edited : IsLineEdited c.in-Line.down e.start d.shown.start old text = subst (λ (x : Change). IsChange x e.start d.shown.start old text) c.in-Line.is change in
-    let begins : d.first ≤ length p.lines = omega (arith, c.requires.pane.room, c.rows-rows.ensures.picture.count) in
+    let begins : d.first ≤ length p.lines = omega (arith, c.requires.pane.room, c.rows.ensures.picture.count) in
     let first = c.draw_line_of-shift.ensures.grid e old stand edited in
     shown_over d e.row shift d.shown.row d.shown.shift text text p q r begins first (c.shift_rows-in-Line.ensures.grid (shown_there d e.row shift text p q begins first))

@@ -7,7 +7,7 @@ use Rattle.mgs_screen.proofs.redrawing.shift_row.Goals as goal
 pub returns-then-from-to-clause-grid : goal.returns-then-from-to-clause-grid
 returns-then-from-to-clause-grid g c = λ stand.
     let d = c.args.drawn.now in
-    shown_already d c.args.from.row c.args.from.shift c.args.to (g.T.Text.text c.args.text.now) c.args.grid.now c.rows-rows.ensures.picture.count c.requires.pane.room c.if-from-to.true stand
+    shown_already d c.args.from.row c.args.from.shift c.args.to (g.T.Text.text c.args.text.now) c.args.grid.now c.rows.ensures.picture.count c.requires.pane.room c.if-from-to.true stand
 
 pub returns-clause-grid : goal.returns-clause-grid
 returns-clause-grid g c = λ stand.

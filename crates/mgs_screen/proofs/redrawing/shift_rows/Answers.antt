@@ -11,7 +11,7 @@ returns-clause-grid g c = λ stand.
     let d = c.args.drawn.now in
     let row : ℕ = c.args.from.row in
     let text : List ℕ = g.T.Text.text c.args.text.now in
-    let begins : d.first ≤ length p.lines = omega (arith, c.requires.pane.room, c.rows-rows.ensures.picture.count) in
+    let begins : d.first ≤ length p.lines = omega (arith, c.requires.pane.room, c.rows.ensures.picture.count) in
     let first = c.shift_row-2.ensures.grid stand in
     shown_over d row 0 d.shown.row d.shown.shift text text p q r begins first
     (c.shift_row-3.ensures.grid (shown_unshifted d row d.shown.row text q (shown_there d row 0 text p q begins first)))

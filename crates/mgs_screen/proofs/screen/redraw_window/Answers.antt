@@ -71,7 +71,7 @@ returns-clause-lines g c =
     let drawn : Option (List ℕ × Bool) → Decision → List Row = λ (h : Option (List ℕ × Bool)) (d : Decision).
     rows_put c.args.place.now.first (unread_rows cols w.height d ++ mode_row cols (buffer_mode h None) ∷ []) c.args.grid.now.lines in
     (pane_put c.args.place.now.first w.height (unread_rows cols w.height c.denial-decision.result) (buffer_mode (told_as c.name.result.now c.seen-heading.result.0) None) c.args.grid.now c.draw_unread.new.self c.draw_unread_mode.new.grid
-    c.requires.room.rows c.cols-cols.ensures.picture.count (length-unread_rows cols w.height c.denial-decision.result) c.draw_unread.ensures c.draw_unread_mode.ensures).lines
+    c.requires.room.rows c.cols.ensures.picture.count (length-unread_rows cols w.height c.denial-decision.result) c.draw_unread.ensures c.draw_unread_mode.ensures).lines
     ∙ ap (λ (h : Option (List ℕ × Bool)). drawn h c.denial-decision.result) (ap (λ (n : List ℕ). told_as n c.seen-heading.result.0) c.name.ensures.value ∙ c.seen-heading.ensures.heading)
     ∙ ap (drawn (head c.find-found.result)) c.denial-decision.ensures.value
     ∙ ap (λ (f : Named). drawn (head f) (why f)) c.find-found.ensures
@@ -96,7 +96,7 @@ returns-in_default-clause-stands g c =
     let first : ℕ = c.args.place.now.first in
     let rows : List Row = pane_rows c.args.place.now.selected p.cols w.height (rows_to c.args.viewer.now.directory.now c.args.viewer.now.user.now c.args.buffers.now w.rows) in
     let size : length rows ≡ w.height + 1 = length_rows c.args.place.now.selected p.cols w.height c.args.viewer.now.directory.now c.args.viewer.now.user.now c.args.buffers.now w.rows in
-    let put : IsPut first rows p q = is_put first rows p q (c.draw_rows.ensures.grid c.args.place.now.selected) (omega (arith, size, c.requires.room.rows, c.cols-cols.ensures.picture.count)) in
+    let put : IsPut first rows p q = is_put first rows p q (c.draw_rows.ensures.grid c.args.place.now.selected) (omega (arith, size, c.requires.room.rows, c.cols.ensures.picture.count)) in
     texts_passed (buffers_of c.args.buffers.now) p q first (first + (w.height + 1)) rows c.args.redraw.now.before.now c.args.redraw.now.texts c.note_rows.new.texts put (omega (arith, size)) c.note_rows.ensures.texts c.requires.stands
 
 pub returns-in_default-clause-drawn : goal.returns-in_default-clause-drawn
@@ -107,7 +107,7 @@ returns-in_default-clause-drawn g c =
     let first : ℕ = c.args.place.now.first in
     let rows : List Row = pane_rows c.args.place.now.selected p.cols w.height (rows_to c.args.viewer.now.directory.now c.args.viewer.now.user.now c.args.buffers.now w.rows) in
     let size : length rows ≡ w.height + 1 = length_rows c.args.place.now.selected p.cols w.height c.args.viewer.now.directory.now c.args.viewer.now.user.now c.args.buffers.now w.rows in
-    let put : IsPut first rows p q = is_put first rows p q (c.draw_rows.ensures.grid c.args.place.now.selected) (omega (arith, size, c.requires.room.rows, c.cols-cols.ensures.picture.count)) in
+    let put : IsPut first rows p q = is_put first rows p q (c.draw_rows.ensures.grid c.args.place.now.selected) (omega (arith, size, c.requires.room.rows, c.cols.ensures.picture.count)) in
     put_drawn c.args.redraw.now.rows c.note_rows.new.rows first (w.height + 1) rows p q put size c.note_rows.ensures.kept c.note_rows.ensures.put
 
 pub returns-clause-stands : goal.returns-clause-stands
@@ -119,7 +119,7 @@ returns-clause-stands g c =
     let pane : List Row = unread_rows p.cols w.height c.denial-decision.result in
     let size : length pane ≡ w.height = length-unread_rows p.cols w.height c.denial-decision.result in
     let mode : List ℕ = buffer_mode (told_as c.name.result.now c.seen-heading.result.0) None in
-    let put : IsPut first (pane ++ mode_row p.cols mode ∷ []) p q = pane_put first w.height pane mode p c.draw_unread.new.self q c.requires.room.rows c.cols-cols.ensures.picture.count size c.draw_unread.ensures c.draw_unread_mode.ensures in
+    let put : IsPut first (pane ++ mode_row p.cols mode ∷ []) p q = pane_put first w.height pane mode p c.draw_unread.new.self q c.requires.room.rows c.cols.ensures.picture.count size c.draw_unread.ensures c.draw_unread_mode.ensures in
     texts_passed (buffers_of c.args.buffers.now) p q first (first + (w.height + 1)) (pane ++ mode_row p.cols mode ∷ []) c.args.redraw.now.before.now c.args.redraw.now.texts c.note_rows-2.new.texts put
     (omega (arith, length-append pane (mode_row p.cols mode ∷ []), size)) c.note_rows-2.ensures.texts c.requires.stands
 
@@ -132,5 +132,5 @@ returns-clause-drawn g c =
     let pane : List Row = unread_rows p.cols w.height c.denial-decision.result in
     let size : length pane ≡ w.height = length-unread_rows p.cols w.height c.denial-decision.result in
     let mode : List ℕ = buffer_mode (told_as c.name.result.now c.seen-heading.result.0) None in
-    let put : IsPut first (pane ++ mode_row p.cols mode ∷ []) p q = pane_put first w.height pane mode p c.draw_unread.new.self q c.requires.room.rows c.cols-cols.ensures.picture.count size c.draw_unread.ensures c.draw_unread_mode.ensures in
+    let put : IsPut first (pane ++ mode_row p.cols mode ∷ []) p q = pane_put first w.height pane mode p c.draw_unread.new.self q c.requires.room.rows c.cols.ensures.picture.count size c.draw_unread.ensures c.draw_unread_mode.ensures in
     put_drawn c.args.redraw.now.rows c.note_rows-2.new.rows first (w.height + 1) (pane ++ mode_row p.cols mode ∷ []) p q put (omega (arith, length-append pane (mode_row p.cols mode ∷ []), size)) c.note_rows-2.ensures.kept c.note_rows-2.ensures.put
