@@ -11,27 +11,27 @@ use Rattle.mgs_act.proofs.performing.carry_out_marked.Goals as goal
 
 pub carry_out-requires-2-clause-marks : goal.carry_out-requires-2-clause-marks
 carry_out-requires-2-clause-marks g c =
-    marks_then c.args.window_marks.now c.args.buffers.now c.reserve_mark.new.buffers c.in_ok-mark.mark c.requires.marks c.in_ok-mark.ensures.ok
+    marks_then c.args.spot.marks.now c.args.buffers.now c.reserve_mark.new.buffers c.in_ok-mark.mark c.requires.marks c.in_ok-mark.ensures.ok
 
 pub carry_out-requires-2-clause-place : goal.carry_out-requires-2-clause-place
 carry_out-requires-2-clause-place g c =
-    let x = c.args.window_marks.now in
-    place_reserved x.name x.mark c.in_ok-mark.mark c.args.at c.args.buffers.now c.reserve_mark.new.buffers c.in_ok-mark.ensures.ok c.requires.place
+    let x = c.args.spot.marks.now in
+    place_reserved x.name x.mark c.in_ok-mark.mark c.args.spot.at c.args.buffers.now c.reserve_mark.new.buffers c.in_ok-mark.ensures.ok c.requires.place
 
 pub carry_out-requires-2-clause-can : goal.carry_out-requires-2-clause-can
 carry_out-requires-2-clause-can g c =
-    let x = c.args.window_marks.now in
+    let x = c.args.spot.marks.now in
     let same = reserved_buffer x.name x.mark c.in_ok-mark.mark c.args.buffers.now c.reserve_mark.new.buffers c.in_ok-mark.ensures.ok in
     subst (λ (b : Buffer). CanDo b.text b.items c.args.session.now.kill b.serial c.args.action.now) (sym same) c.requires.can
 
 pub carry_out-requires-2-clause-granted : goal.carry_out-requires-2-clause-granted
 carry_out-requires-2-clause-granted g c =
-    let x = c.args.window_marks.now in
+    let x = c.args.spot.marks.now in
     granted_still c.args.directory.now c.args.buffers.now c.reserve_mark.new.buffers c.args.session.now.user x.name c.args.action.now (reserved_buffer x.name x.mark c.in_ok-mark.mark c.args.buffers.now c.reserve_mark.new.buffers c.in_ok-mark.ensures.ok) c.requires.granted
 
 pub set_mark-requires-clause-mark : goal.set_mark-requires-clause-mark
 set_mark-requires-clause-mark g c =
-    let x = c.args.window_marks.now in
+    let x = c.args.spot.marks.now in
     let ks = c.args.buffers.now in
     let ls = c.reserve_mark.new.buffers in
     let mid = c.in_ok-mark.mark in
@@ -41,19 +41,19 @@ set_mark-requires-clause-mark g c =
 
 pub set_mark-requires-clause-kept : goal.set_mark-requires-clause-kept
 set_mark-requires-clause-kept g c =
-    mark_is_kept c.args.window_marks.now.name c.in_ok-mark.mark c.carry_out-2.new.buffers (set_mark-requires-clause-mark g c)
+    mark_is_kept c.args.spot.marks.now.name c.in_ok-mark.mark c.carry_out-2.new.buffers (set_mark-requires-clause-mark g c)
 
 pub set_mark-requires-clause-place : goal.set_mark-requires-clause-place
 set_mark-requires-clause-place g c =
-    let x = c.args.window_marks.now in
+    let x = c.args.spot.marks.now in
     let ks = c.args.buffers.now in
     let ls = c.reserve_mark.new.buffers in
     let b = (marked_at x.name ls).buffer in
-    rw c.in-Ok.ensures.ok (place_after_action x b.text b.items c.args.session.now.kill c.args.action.now ls c.args.at (place_reserved x.name x.mark c.in_ok-mark.mark c.args.at ks ls c.in_ok-mark.ensures.ok c.requires.place))
+    rw c.in-Ok.ensures.ok (place_after_action x b.text b.items c.args.session.now.kill c.args.action.now ls c.args.spot.at (place_reserved x.name x.mark c.in_ok-mark.mark c.args.spot.at ks ls c.in_ok-mark.ensures.ok c.requires.place))
 
 pub set_mark-requires-clause-within : goal.set_mark-requires-clause-within
 set_mark-requires-clause-within g c =
-    let x = c.args.window_marks.now in
+    let x = c.args.spot.marks.now in
     let ks = c.args.buffers.now in
     let ls = c.reserve_mark.new.buffers in
     let mid = c.in_ok-mark.mark in
@@ -63,15 +63,15 @@ set_mark-requires-clause-within g c =
 
 pub give_up_mark-requires-clause-mark : goal.give_up_mark-requires-clause-mark
 give_up_mark-requires-clause-mark g c =
-    rw c.in-Err.ensures.err (mark_then c.args.window_marks.now c.args.buffers.now c.reserve_mark.new.buffers c.in_ok-mark.mark c.requires.marks c.in_ok-mark.ensures.ok)
+    rw c.in-Err.ensures.err (mark_then c.args.spot.marks.now c.args.buffers.now c.reserve_mark.new.buffers c.in_ok-mark.mark c.requires.marks c.in_ok-mark.ensures.ok)
 
 pub give_up_mark-requires-clause-kept : goal.give_up_mark-requires-clause-kept
 give_up_mark-requires-clause-kept g c =
-    mark_is_kept c.args.window_marks.now.name c.in_ok-mark.mark c.carry_out-2.new.buffers (give_up_mark-requires-clause-mark g c)
+    mark_is_kept c.args.spot.marks.now.name c.in_ok-mark.mark c.carry_out-2.new.buffers (give_up_mark-requires-clause-mark g c)
 
 pub returns-in-Ok-clause-ok : goal.returns-in-Ok-clause-ok
 returns-in-Ok-clause-ok g c =
-    let x = c.args.window_marks.now in
+    let x = c.args.spot.marks.now in
     let ks = c.args.buffers.now in
     let ls = c.reserve_mark.new.buffers in
     let mid = c.in_ok-mark.mark in
@@ -88,4 +88,4 @@ returns-in-Ok-clause-ok g c =
 
 pub returns-in-Err-clause-err : goal.returns-in-Err-clause-err
 returns-in-Err-clause-err g c =
-    dropped_then c.args.window_marks.now c.args.buffers.now c.reserve_mark.new.buffers c.in_ok-mark.mark c.requires.marks c.in_ok-mark.ensures.ok c.carry_out-2.new.buffers c.give_up_mark.new.buffers c.in-Err.ensures.err c.give_up_mark.ensures
+    dropped_then c.args.spot.marks.now c.args.buffers.now c.reserve_mark.new.buffers c.in_ok-mark.mark c.requires.marks c.in_ok-mark.ensures.ok c.carry_out-2.new.buffers c.give_up_mark.new.buffers c.in-Err.ensures.err c.give_up_mark.ensures

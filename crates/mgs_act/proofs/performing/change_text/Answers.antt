@@ -10,21 +10,21 @@ use Rattle.mgs_act.proofs.performing.change_text.Goals as goal
 pub leave-requires-clause-marks : goal.leave-requires-clause-marks
 leave-requires-clause-marks g c =
     let held = (λ i. take (length (c.as_slice-held.ensures i)) (c.as_slice.ensures i)) ∙ c.in_ok-made.ensures.held in
-    let x = c.args.window_marks.now in
+    let x = c.args.spot.marks.now in
     let change = change_read (marked_at x.name c.args.buffers.now).buffer.text c.args.session.now.kill c.args.change.now in
     rw (c.in-Ok.ensures.ok, held) (marks_edited_by change c.args.buffers.now x c.requires.marks)
 
 pub leave-requires-clause-place : goal.leave-requires-clause-place
 leave-requires-clause-place g c =
     let held = (λ i. take (length (c.as_slice-held.ensures i)) (c.as_slice.ensures i)) ∙ c.in_ok-made.ensures.held in
-    let x = c.args.window_marks.now in
+    let x = c.args.spot.marks.now in
     let change = change_read (marked_at x.name c.args.buffers.now).buffer.text c.args.session.now.kill c.args.change.now in
-    rw (c.in-Ok.ensures.ok, held) (place_edited_by x.name change c.args.buffers.now c.args.at c.requires.place)
+    rw (c.in-Ok.ensures.ok, held) (place_edited_by x.name change c.args.buffers.now c.args.spot.at c.requires.place)
 
 pub leave-requires-clause-point : goal.leave-requires-clause-point
 leave-requires-clause-point g c =
     let held = (λ i. take (length (c.as_slice-held.ensures i)) (c.as_slice.ensures i)) ∙ c.in_ok-made.ensures.held in
-    let x = c.args.window_marks.now in
+    let x = c.args.spot.marks.now in
     let ks = c.args.buffers.now in
     let change = change_read (marked_at x.name ks).buffer.text c.args.session.now.kill c.args.change.now in
     let within = c.requires.can.within in
@@ -33,7 +33,7 @@ leave-requires-clause-point g c =
 pub leave-requires-clause-top : goal.leave-requires-clause-top
 leave-requires-clause-top g c =
     let held = (λ i. take (length (c.as_slice-held.ensures i)) (c.as_slice.ensures i)) ∙ c.in_ok-made.ensures.held in
-    let x = c.args.window_marks.now in
+    let x = c.args.spot.marks.now in
     let ks = c.args.buffers.now in
     let change = change_read (marked_at x.name ks).buffer.text c.args.session.now.kill c.args.change.now in
     let within = c.requires.can.within in
@@ -42,7 +42,7 @@ leave-requires-clause-top g c =
 pub leave-requires-clause-behind : goal.leave-requires-clause-behind
 leave-requires-clause-behind g c =
     let held = (λ i. take (length (c.as_slice-held.ensures i)) (c.as_slice.ensures i)) ∙ c.in_ok-made.ensures.held in
-    let x = c.args.window_marks.now in
+    let x = c.args.spot.marks.now in
     let ks = c.args.buffers.now in
     let change = change_read (marked_at x.name ks).buffer.text c.args.session.now.kill c.args.change.now in
     let within = c.requires.can.within in
@@ -51,7 +51,7 @@ leave-requires-clause-behind g c =
 pub returns-in-Ok-clause-ok : goal.returns-in-Ok-clause-ok
 returns-in-Ok-clause-ok g c =
     let held = (λ i. take (length (c.as_slice-held.ensures i)) (c.as_slice.ensures i)) ∙ c.in_ok-made.ensures.held in
-    let x = c.args.window_marks.now in
+    let x = c.args.spot.marks.now in
     let left = c.args.change.now.finish in
     let text = (marked_at x.name c.args.buffers.now).buffer.text in
     c.leave.ensures.marks

@@ -17,7 +17,7 @@ pub edit_of-edit-requires-clause-kept : goal.edit_of-edit-requires-clause-kept
 edit_of-edit-requires-clause-kept g c =
     let ks = c.args.buffers.now in
     let xs = c.args.sessions.now in
-    let x = c.args.window_marks.now in
+    let x = c.args.spot.marks.now in
     let r = c.index-sessions-at.result in
     let found = slice_get-get_or xs c.args.at r c.requires.within in
     mark_is_kept x.name x.point ks (selected_marks ks xs c.args.at (get_or xs c.args.at r) x c.requires.sound found (c.requires.can (get_or xs c.args.at r) found).selected).point
@@ -39,7 +39,7 @@ carry_out_marked-requires-clause-marks g c =
     let xs = c.args.sessions.now in
     let r = c.index-sessions-at-2.result in
     let found = slice_get-get_or xs c.args.at r c.requires.within in
-    selected_marks c.args.buffers.now xs c.args.at (get_or xs c.args.at r) c.args.window_marks.now c.requires.sound found (c.requires.can (get_or xs c.args.at r) found).selected
+    selected_marks c.args.buffers.now xs c.args.at (get_or xs c.args.at r) c.args.spot.marks.now c.requires.sound found (c.requires.can (get_or xs c.args.at r) found).selected
 
 pub carry_out_marked-requires-clause-place : goal.carry_out_marked-requires-clause-place
 carry_out_marked-requires-clause-place g c =
@@ -67,13 +67,13 @@ returns-in_err-carry_out_marked-clause-err g c =
 
 pub returns-in_err-carry_out_marked-clause-may : goal.returns-in_err-carry_out_marked-clause-may
 returns-in_err-carry_out_marked-clause-may g c =
-    when_refused c.from_residual.result (through_takes c.args.at c.args.buffers.now c.args.sessions.now c.index-sessions-at-2.result c.args.window_marks.now c.args.place c.args.action.now c.requires.within c.in_err-carry_out_marked.ensures.may)
+    when_refused c.from_residual.result (through_takes c.args.at c.args.buffers.now c.args.sessions.now c.index-sessions-at-2.result c.args.spot.marks.now c.args.spot.at c.args.action.now c.requires.within c.in_err-carry_out_marked.ensures.may)
 
 pub returns-clause-sound : goal.returns-clause-sound
 returns-clause-sound g c =
     let ks = c.args.buffers.now in
     let xs = c.args.sessions.now in
-    let x = c.args.window_marks.now in
+    let x = c.args.spot.marks.now in
     let r = c.index-sessions-at-2.result in
     let found = slice_get-get_or xs c.args.at r c.requires.within in
     let sel = (c.requires.can (get_or xs c.args.at r) found).selected in
@@ -85,12 +85,12 @@ returns-clause-done g c =
     let d = c.args.directory.now in
     let ks = c.args.buffers.now in
     let xs = c.args.sessions.now in
-    let x = c.args.window_marks.now in
+    let x = c.args.spot.marks.now in
     let r = c.index-sessions-at.result in
     let h : Session = get_or xs c.args.at c.index-sessions-at-2.result in
     let found = slice_get-get_or xs c.args.at c.index-sessions-at-2.result c.requires.within in
     let can = c.requires.can h found in
-    through_done d c.args.at ks _ xs _ x c.args.place c.args.action.now c.touched_by-touched.result
+    through_done d c.args.at ks _ xs _ x c.args.spot.at c.args.action.now c.touched_by-touched.result
     (λ id next place.
     ap (λ (ys : List Session). world_of d c.carry_out_marked.new.buffers ys next)
     (c.follow.ensures
