@@ -308,7 +308,7 @@ fn carry_out<T: Marked + Drop>(
         Action::Edits(mask, change) => {
             change_text(buffers, directory, session, spot, *mask, change)
         }
-        Action::Undoes(undone) => { take_back(buffers, directory, session, spot, undone) }
+        Action::Undoes(undone) => take_back(buffers, directory, session, spot, undone),
         Action::Moves(left) => {
             let made = killed_if(buffers, spot, &mut session.kill, &left.kill)?;
             leave(buffers, session, spot, left, 0, made);
