@@ -9,9 +9,8 @@ use Rattle.mgs_model.specs.Access.{Directory}
 use Rattle.mgs_laws.specs.Apart.{touched_by}
 use Rattle.mgs_model.specs.Apply.{applied, apply, outcome_in}
 use Rattle.mgs_model.specs.Events.{Saved, effect_in, saved_by}
-use Rattle.mgs_laws.specs.Refusals.{may_be_refused}
-use Rattle.mgs_model.specs.Outcome.{Act, Effect, No_effect, Edit, Unmodified, SetList, SetOwners, Create, Kill, Save, Quit}
-use Rattle.mgs_laws.specs.Refusals.{takes_memory}
+use Rattle.mgs_laws.specs.Refusals.{may_be_refused, takes_memory}
+use Rattle.mgs_model.specs.Outcome.{Act, Effect, Save}
 use Rattle.mgs_model.specs.Outcome as outcomes
 use Rattle.mgs_model.specs.Plans.{acted_state}
 use Rattle.mgs_model.specs.World.{State}
@@ -37,7 +36,7 @@ use Rattle.mgs_plan.proofs.Commands.{outcome_answered}
 use Rattle.mgs_plan.proofs.Deeds.{acting_marks}
 use Rattle.mgs_plan.proofs.Tells.{tells_known}
 use Rattle.mgs_world.specs.Sound.{IsSound}
-use Rattle.mgs_act.specs.Doing.{CanDo, DoneBy, IsDone, IsQuietlyDone}
+use Rattle.mgs_act.specs.Doing.{CanDo, DoneBy, IsDone, IsQuietlyDone, IsReady}
 use Rattle.mgs_world.proofs.Owns.{at_rest}
 use Rattle.mgs_world.specs.Worlds.{idle, state_at, state_of, state_or_first, session_id, world_of}
 
@@ -50,7 +49,11 @@ got [] at within = absurd (omega (arith, within))
 got (x ∷ xs) zero within = (x, refl)
 got (x ∷ xs) (suc at) within = got xs at (omega (arith, within))
 
--- what can be done for the session that is there
+-- what can be done for it
+pub can_at : {directory : Directory} {at : ℕ} {ks : List MarkedBuffer} {xs : List Session} {o : Outcome} → IsReady directory at ks xs o → (r : Session) → CanPerform directory ks (get_or xs at r) o
+can_at {directory} {at} {ks} {xs} ready r = ready.can (get_or xs at r) (slice_get-get_or xs at r ready.within)
+
+-- and what was to be for any session that is there
 pub can_here : (directory : Directory) (at : ℕ) (ks : List MarkedBuffer) (xs : List Session) (r : Session) (o : Outcome) → at < length xs → CanPerform directory ks (get_or xs at r) o → CanDo directory at ks xs o
 can_here directory at ks xs r o within can = λ h found. subst (λ x. CanPerform directory ks x o) (here_is xs at r h within found) can
 
@@ -94,15 +97,8 @@ done_as directory at o p ks ls xs ys s t touched is done = subst (λ q. IsDone d
 
 -- what touches nothing saves nothing
 pub nowhere_saves_none : (e : Effect) → touched_by e ≡ Nowhere → saved_by e ≡ []
-nowhere_saves_none No_effect is = refl
-nowhere_saves_none (Edit name a b put) is = refl
-nowhere_saves_none (Unmodified name) is = refl
-nowhere_saves_none (SetList name entries) is = refl
-nowhere_saves_none (SetOwners name new) is = refl
-nowhere_saves_none (Create name owner) is = refl
-nowhere_saves_none (Kill name) is = refl
 nowhere_saves_none (Save name text) is = cc
-nowhere_saves_none Quit is = refl
+nowhere_saves_none _ is = refl
 
 pub quiet_done : (directory : Directory) (at : ℕ) (o p : Outcome) (ks ls : List MarkedBuffer) (xs ys : List Session) (t : StoreTold) → o ≡ p
     → ((id : ℕ) (next : Option ℕ) (h : Session) → at ≡ position_or_len (session_id id) xs → slice_get xs at ≡ Some h

@@ -1,9 +1,9 @@
 -- What an action does that sets the mark of the window.
-use Rattle.std.proofs.Common.{◌≡◌, ℕ, ◌+◌, ◌<◌, ◌≤◌, true, false, cond, List, [], length, map, Option, Some, None, refl, sym, ap, subst, ◌∙◌, arith}
-use Rattle.std.specs.Prelude.{find, is_some, slice_get, slice_set, Result, Ok, Err, OnOk, OnErr}
+use Rattle.std.proofs.Common.{◌≡◌, ℕ, ◌+◌, ◌<◌, ◌≤◌, true, false, cond, List, [], length, map, get_or, Option, Some, None, refl, sym, ap, subst, ◌∙◌, arith}
+use Rattle.std.specs.Prelude.{find, is_some, slice_get, slice_set, Result, Ok, Err, OnOk}
 use Rattle.std.specs.List.{position_or_len}
 use Rattle.std.specs.Option.{option_and_then, option_map}
-use Rattle.std.proofs.lemmas.Option.{get_or_from_slice_get}
+use Rattle.std.proofs.lemmas.Option.{get_or_from_slice_get, slice_get-get_or}
 use Rattle.mgs_model.specs.Access.{Directory, decision}
 use Rattle.mgs_model.specs.World.{Buffer, Item, has_id}
 use Rattle.mgs_model.specs.World as model
@@ -25,9 +25,11 @@ use Rattle.mgs_edit.specs.Reading.{IsWithin, change_read, finish_read, kill_read
 use Rattle.mgs_edit.specs.declared.plan.Finish.{Finish}
 use Rattle.mgs_plan.specs.Deciding.{IsActionGranted}
 use Rattle.mgs_plan.specs.declared.action.Action.{Action}
+use Rattle.mgs_plan.specs.declared.outcome.Outcome.{Outcome}
 use Rattle.mgs_plan.specs.declared.action.Action.TheVariants.{Fails, Edits, Undoes, Moves, Clears}
 use Rattle.mgs_plan.specs.Following.{edit_through, edit_told, followed}
 use Rattle.mgs_plan.specs.Actions.{AreMarks, CanBeDone, IsMarked, edited_by, kill_at, kill_or_none, mark_gone, mark_told, marked_after, marks_gone, outcome_through, removed_by, session_finished}
+use Rattle.mgs_act.specs.Doing.{IsReady}
 use Rattle.mgs_act.specs.Performing.{IsCarriedOut, IsCarriedOutBy, acted_in, buffers_acted}
 use Rattle.mgs_world.specs.Acted.{IsUnchanged}
 use Rattle.mgs_world.specs.Marking.{IsGivenUp, IsReserved, mark_at_place, session_marked}
@@ -74,11 +76,10 @@ place_reserved n (Some m) id at ks ls r place = place ∙ ap (λ (s : List Marke
 
 -- and what is granted in it
 pub granted_still : (directory : Directory) (ks ls : List MarkedBuffer) (user name : List ℕ) (action : Action) → (marked_at name ls).buffer ≡ (marked_at name ks).buffer → IsActionGranted directory ks user name action → IsActionGranted directory ls user name action
-granted_still directory ks ls user name (Fails message) same granted = tt
 granted_still directory ks ls user name (Edits mask c) same granted = (ap (λ (b : Buffer). decision directory b.owners user b.entries mask) same ∙ granted.0, granted.1)
 granted_still directory ks ls user name (Undoes u) same granted = ap (λ (b : Buffer). decision directory b.owners user b.entries 3) same ∙ granted
-granted_still directory ks ls user name (Moves f) same granted = tt
 granted_still directory ks ls user name Clears same granted = ap (λ (b : Buffer). decision directory b.owners user b.entries 3) same ∙ granted
+granted_still directory ks ls user name _ same granted = tt
 
 -- and the mark is in use
 pub reserved_in_use : (o : Option ℕ) (x : WindowMarks) (id : ℕ) (ks ls : List MarkedBuffer) → x.mark ≡ o → HasBuffer x.name ks → AreMarks ks x → IsReserved x.name o id ks ls → IsMark x.name id ls
@@ -178,19 +179,17 @@ told_within : (n p : ℕ) (mark : Option ℕ) → mark ≡ Some p → IsWithin n
 told_within n p mark is within = subst (IsWithin n) is within
 
 pub within_after : (x : WindowMarks) (p : ℕ) (kill : List ℕ) (action : Action) (ls : List MarkedBuffer) → HasBuffer x.name ls → CanBeDone ls x kill action → mark_told action ≡ Some p → p ≤ length (marked_at x.name (marked_after x (marked_at x.name ls).buffer.text (marked_at x.name ls).buffer.items kill action ls)).buffer.text
-within_after x p kill (Fails message) ls kept can told = cc
 within_after x p kill (Edits mask c) ls kept can told =
     let text = (marked_at x.name ls).buffer.text in
     let change = change_read text kill c in
     let w = can.within in
     let same = ap (λ (t : List ℕ). length t) (text_left x change.finish (edited_by x.name change ls)) in
     omega (arith, same, length_edited_by x.name change ls kept w.order w.within, told_within _ p c.finish.mark told w.finish.mark)
-within_after x p kill (Undoes u) ls kept can told = cc
 within_after x p kill (Moves f) ls kept can told =
     let text = (marked_at x.name ls).buffer.text in
     let same = ap (λ (t : List ℕ). length t) (text_left x (finish_read text kill 0 f) ls) in
     omega (arith, same, told_within _ p f.mark told can.within.mark)
-within_after x p kill Clears ls kept can told = cc
+within_after x p kill _ ls kept can told = cc
 
 -- as the sessions will be
 pub held_then : (ks ls : List MarkedBuffer) (xs : List Session) (at mid : ℕ) (h : Session) (x : WindowMarks) (c : plans.Change) (f g : plans.Finish) → IsSound ks xs → HasBuffer x.name ks → IsReserved x.name x.mark mid ks ls → slice_get xs at ≡ Some h → window_marks_of h ≡ Some x → AreMarks ls x → IsSound (marks_gone x f (edited_by x.name c ls)) (slice_set xs at (session_marked mid (session_finished g h)))
@@ -242,17 +241,15 @@ marked_so directory ks ls xs next id at mid p h x c behind text f order room sou
 -- ANY ACTION
 
 acted_so : (directory : Directory) (ks ls : List MarkedBuffer) (xs : List Session) (next : Option ℕ) (id at p : ℕ) (x : WindowMarks) (h y : Session) (action : Action) → IsSound ks xs → at ≡ position_or_len (session_id id) xs → at < length xs → slice_get xs at ≡ Some h → window_marks_of h ≡ Some x → AreMarks ks x → state_of h.state ≡ idle (state_of h.state) → CanBeDone ks x h.kill action → mark_told action ≡ Some p → IsMarked x p action ks ls h y → world_of directory ls (followed x.name (edit_through x ks h.kill action) (slice_set xs at y)) next ≡ apply (world_of directory ks xs next) id (outcome_through (state_of h.state) x ks h.kill action)
-acted_so directory ks ls xs next id at p x h y (Fails message) sound place within is sel marks fresh can told m = cc
 acted_so directory ks ls xs next id at p x h y (Edits mask c) sound place within is sel marks fresh can told m =
     let text = (marked_at x.name ks).buffer.text in
     rw (m.buffers, m.session)
     (marked_so directory ks m.between xs next id at m.id p h x (change_read text h.kill c) (c.from + length (put_read text h.kill c.put)) text c.finish can.within.order can.within.within sound (mark_is_kept x.name x.point ks marks.point) m.reserved place within is sel marks fresh told can.small)
-acted_so directory ks ls xs next id at p x h y (Undoes u) sound place within is sel marks fresh can told m = cc
 acted_so directory ks ls xs next id at p x h y (Moves f) sound place within is sel marks fresh can told m =
     let text = (marked_at x.name ks).buffer.text in
     rw (m.buffers, m.session)
     (marked_so directory ks m.between xs next id at m.id p h x (record { a = 0; b = 0; put = []; finish = finish_read text h.kill 0 f }) 0 text f (omega arith) (omega arith) sound (mark_is_kept x.name x.point ks marks.point) m.reserved place within is sel marks fresh told can.small)
-acted_so directory ks ls xs next id at p x h y Clears sound place within is sel marks fresh can told m = cc
+acted_so directory ks ls xs next id at p x h y _ sound place within is sel marks fresh can told m = cc
 
 pub sound_marked : (ks ls : List MarkedBuffer) (xs : List Session) (at mid p : ℕ) (h : Session) (x : WindowMarks) (c : plans.Change) (g : plans.Finish) → IsSound ks xs → slice_get xs at ≡ Some h → window_marks_of h ≡ Some x → AreMarks ks x → IsReserved x.name x.mark mid ks ls → IsSound (change_first (marked_named x.name) (marked_placed mid p) (marks_gone x c.finish (edited_by x.name c ls))) (slice_set xs at (session_marked mid (session_finished g h)))
 sound_marked ks ls xs at mid p h x c g sound is sel marks r =
@@ -260,19 +257,20 @@ sound_marked ks ls xs at mid p h x c g sound is sel marks r =
     sound_placed x.name mid p _ _ (mark_there x mid c c.finish ls (mark_then x ks ls mid marks r) marks_l) (held_then ks ls xs at mid h x c c.finish g sound (mark_is_kept x.name x.point ks marks.point) r is sel marks_l)
 
 sound_then : (ks ls : List MarkedBuffer) (xs : List Session) (at p : ℕ) (x : WindowMarks) (h y : Session) (action : Action) → IsSound ks xs → slice_get xs at ≡ Some h → window_marks_of h ≡ Some x → AreMarks ks x → mark_told action ≡ Some p → IsMarked x p action ks ls h y → IsSound ls (slice_set xs at y)
-sound_then ks ls xs at p x h y (Fails message) sound is sel marks told m = cc
 sound_then ks ls xs at p x h y (Edits mask c) sound is sel marks told m =
     let change = change_read (marked_at x.name ks).buffer.text h.kill c in
     rw (m.buffers, m.session) (sound_marked ks m.between xs at m.id p h x change change.finish sound is sel marks m.reserved)
-sound_then ks ls xs at p x h y (Undoes u) sound is sel marks told m = cc
 sound_then ks ls xs at p x h y (Moves f) sound is sel marks told m =
     let left = finish_read (marked_at x.name ks).buffer.text h.kill 0 f in
     rw (m.buffers, m.session) (sound_marked ks m.between xs at m.id p h x (record { a = 0; b = 0; put = []; finish = left }) left sound is sel marks m.reserved)
-sound_then ks ls xs at p x h y Clears sound is sel marks told m = cc
+sound_then ks ls xs at p x h y _ sound is sel marks told m = cc
 
 -- the marks of the window that a session has selected
 pub selected_marks : (ks : List MarkedBuffer) (xs : List Session) (at : ℕ) (h : Session) (x : WindowMarks) → IsSound ks xs → slice_get xs at ≡ Some h → window_marks_of h ≡ Some x → AreMarks ks x
 selected_marks ks xs at h x sound is sel = acting_marks ks xs at x sound (ap (option_and_then window_marks_of) is ∙ sel)
+
+pub marks_at : {directory : Directory} {at : ℕ} {ks : List MarkedBuffer} {xs : List Session} {o : Outcome} (x : WindowMarks) → IsReady directory at ks xs o → (r : Session) → window_marks_of (get_or xs at r) ≡ Some x → AreMarks ks x
+marks_at {directory} {at} {ks} {xs} x ready r sel = selected_marks ks xs at (get_or xs at r) x ready.sound (slice_get-get_or xs at r ready.within) sel
 
 -- with a mark or without one
 pub plain_so : {T E : Type 0} (r : Result T E) (o : Option ℕ) (x : WindowMarks) (action : Action) (ks ls : List MarkedBuffer) (h y : Session) → o ≡ None → OnOk r (ls ≡ buffers_acted x h.kill action ks) → OnOk r (y ≡ acted_in x ks action h) → OnOk r (IsCarriedOutBy o x action ks ls h y)
@@ -318,16 +316,10 @@ finish_takes state f e p small told =
     ∙ or_true (effect_takes_memory e) true refl
 
 pub marking_takes : (state : model.State) (x : WindowMarks) (ks : List MarkedBuffer) (kill : List ℕ) (action : Action) (p : ℕ) → CanBeDone ks x kill action → mark_told action ≡ Some p → takes_memory (outcome_through state x ks kill action) ≡ true
-marking_takes state x ks kill (Fails message) p can told = cc
 marking_takes state x ks kill (Edits mask c) p can told =
     let change = change_read (marked_at x.name ks).buffer.text kill c in
     finish_takes state change.finish (edit_of x.name change.a change.b change.put) p can.small (ap mark_read told)
-marking_takes state x ks kill (Undoes u) p can told = cc
 marking_takes state x ks kill (Moves f) p can told =
     let text = (marked_at x.name ks).buffer.text in
     finish_takes state (finish_read text kill 0 f) No_effect p can.small (ap mark_read told)
-marking_takes state x ks kill Clears p can told = cc
-
-pub when_refused : {T E P : Type 0} (r : Result T E) → P → OnErr r P
-when_refused (Ok o) p = tt
-when_refused (Err e) p = p
+marking_takes state x ks kill _ p can told = cc

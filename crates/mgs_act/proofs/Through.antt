@@ -20,7 +20,7 @@ use Rattle.mgs_edit.specs.Reading.{change_read, finish_read, undone_read}
 use Rattle.mgs_plan.specs.Actions.{kill_at, kill_or_none, outcome_through, removed_by}
 use Rattle.mgs_plan.specs.Inserting.{insertion_of, put_outcome}
 use Rattle.mgs_plan.specs.declared.action.Action.{Action}
-use Rattle.mgs_plan.specs.declared.action.Action.TheVariants.{Fails, Edits, Undoes, Moves, Clears}
+use Rattle.mgs_plan.specs.declared.action.Action.TheVariants.{Edits, Undoes, Moves}
 use Rattle.mgs_plan.specs.declared.outcome.Outcome.TheVariants.{Acts, Copies}
 use Rattle.mgs_act.proofs.Done.{here_is, quietly}
 use Rattle.mgs_act.proofs.Marked.{finish_takes}
@@ -41,12 +41,11 @@ change_saves_none : (state : State) (name : List ℕ) (c : plans.Change) → sav
 change_saves_none state name c = finished_saves_none state c.finish (edit_of name c.a c.b c.put) (edit_saves_none name c)
 
 through_saves_none : (state : State) (x : WindowMarks) (ks : List MarkedBuffer) (kill : List ℕ) (action : Action) → saved_by (outcome_through state x ks kill action).effect ≡ []
-through_saves_none state x ks kill (Fails message) = refl
 through_saves_none state x ks kill (Edits mask c) = change_saves_none state x.name (change_read (marked_at x.name ks).buffer.text kill c)
 through_saves_none state x ks kill (Undoes u) =
     let b = (marked_at x.name ks).buffer in change_saves_none state x.name (undone_read b.text kill (removed_by u.serial b.items) u)
 through_saves_none state x ks kill (Moves f) = finished_saves_none state (finish_read (marked_at x.name ks).buffer.text kill 0 f) No_effect refl
-through_saves_none state x ks kill Clears = refl
+through_saves_none state x ks kill _ = refl
 
 -- AN ACTION
 

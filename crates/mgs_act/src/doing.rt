@@ -10,8 +10,8 @@ ghost use Rattle.mgs_act.specs.Doing.{IsDone, IsListSet, IsQuietlyDone, IsReady,
 ghost use Rattle.mgs_world.specs.Acted.{IsUnchanged};
 ghost use Rattle.mgs_world.specs.Sound.{IsSound};
 
-use crate::inserting::insert_copy;
-use crate::performing::perform;
+use crate::inserting::{Copying, insert_copy};
+use crate::performing::{Spot, perform};
 use crate::setting::set;
 use crate::switching::show_created;
 use mgs_arrange::{rearrange, show, show_entries};
@@ -181,8 +181,9 @@ pub fn do_decided<T: Marked + Drop, S: Store>(
             fail(&mut sessions[at], *message);
             Ok(Touched::Nowhere)
         }
-        Outcome::Acts(by, place, action) => {
-            perform(buffers, directory, sessions, at, by, *place, action)
+        Outcome::Acts(marks, place, action) => {
+            let spot = Spot { marks, at: *place };
+            perform(buffers, directory, sessions, at, spot, action)
         }
         Outcome::Kills(name) => Ok(kill(buffers, directory, sessions, at, name)),
         Outcome::SetsOwners(name, new) => Ok(assign(buffers, directory, sessions, at, name, *new)),
@@ -197,7 +198,12 @@ pub fn do_decided<T: Marked + Drop, S: Store>(
         }
         Outcome::Creates(name) => show_created(buffers, directory, sessions, at, *name),
         Outcome::Copies(marks, source, place) => {
-            insert_copy(buffers, directory, sessions, at, marks, source, *place)
+            let copying = Copying {
+                marks,
+                source,
+                place: *place,
+            };
+            insert_copy(buffers, directory, sessions, at, copying)
         }
         Outcome::Saves(name) => Ok(save(buffers, directory, sessions, at, name, store)),
         Outcome::Scrolls(rows) => {

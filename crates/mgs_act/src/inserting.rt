@@ -13,7 +13,7 @@ ghost use Rattle.mgs_world.specs.Acted.{IsUnchanged};
 ghost use Rattle.mgs_world.specs.Sound.{IsSound};
 ghost use Rattle.mgs_world.specs.WindowMarks.{WindowMarksDropped};
 
-use crate::performing::leave;
+use crate::performing::{Spot, leave};
 use mgs_buffers::{Buffers, Writer};
 use mgs_edit::{Finish, Goes};
 use mgs_marks::Marked;
@@ -24,6 +24,17 @@ use mgs_session::Session;
 use mgs_text::Text;
 use mgs_windows::WindowMarks;
 use mgs_world::{give_up_mark, reserve_mark, set_mark};
+
+/// What is copied, and where it comes in.
+#[derive(Clone, Copy)]
+pub struct Copying<'a> {
+    /// The marks of the window whose buffer it comes into.
+    pub marks: &'a WindowMarks,
+    /// The name of the buffer whose text is copied.
+    pub source: &'a Name,
+    /// The place in the window's text.
+    pub place: usize,
+}
 
 /// What the insertion of these characters touches.
 fn touched_by_insertion(name: &Name, put: &[char]) -> Touched
@@ -101,15 +112,11 @@ fn insert_marked<T: Marked + Drop>(
     match put_in(buffers, writer, place, put) {
         Ok(()) => {
             let behind = place + put.len();
-            leave(
-                buffers,
-                session,
-                window_marks,
+            let spot = Spot {
+                marks: window_marks,
                 at,
-                &leaving(place),
-                behind,
-                None,
-            );
+            };
+            leave(buffers, session, spot, &leaving(place), behind, None);
             set_mark(buffers, session, window_marks, at, mark, place);
             Ok(())
         }
@@ -135,24 +142,22 @@ pub fn insert_copy<T: Marked + Drop>(
     directory: &Directory,
     sessions: &mut [Session],
     at: usize,
-    window_marks: &WindowMarks,
-    source: &Name,
-    place: usize,
+    copying: Copying<'_>,
 ) -> Result<Touched, Short>
-    requires { IsReady directory.now at buffers.old sessions.old (Copies window_marks.now source.now place) }
+    requires { IsReady directory.now at buffers.old sessions.old (Copies copying.marks.now copying.source.now copying.place) }
     ensures sound { IsSound buffers.new sessions.new }
-    ensures done { IfOk result (IsQuietlyDone directory.now at (Copies window_marks.now source.now place) buffers.old sessions.old buffers.new sessions.new) }
+    ensures done { IfOk result (IsQuietlyDone directory.now at (Copies copying.entry.marks.now copying.entry.source.now copying.entry.place) buffers.old sessions.old buffers.new sessions.new) }
     ensures err { OnErr result (IsUnchanged buffers.old sessions.old buffers.new sessions.new) }
 {
-    let name = &window_marks.name;
-    let put = copied_text(buffers, source)?;
-    let edit = edit_of_insertion(buffers, name, place, &put);
+    let name = &copying.marks.name;
+    let put = copied_text(buffers, copying.source)?;
+    let edit = edit_of_insertion(buffers, name, copying.place, &put);
     insert_marked(
         buffers,
         directory,
         &mut sessions[at],
-        window_marks,
-        place,
+        copying.marks,
+        copying.place,
         &put,
     )?;
     follow(sessions, name, &edit);

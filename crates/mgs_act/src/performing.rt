@@ -29,27 +29,36 @@ use mgs_text::Text;
 use mgs_windows::WindowMarks;
 use mgs_world::{give_up_mark, reserve_mark, set_mark};
 
+/// The marks of a window, and where the buffer is in which they stand.
+#[derive(Clone, Copy)]
+pub struct Spot<'a> {
+    /// The window's marks.
+    pub marks: &'a WindowMarks,
+    /// The place of its buffer among all buffers, from 0.
+    pub at: usize,
+}
+
 /// A piece of a buffer's text is killed, if one is: where it joins behind, it is in the kill buffer then, and for any other the
 /// kill buffer that it makes is handed back, for later. `Short`: memory was refused, and the kill buffer is as it was.
 fn killed_if<T: Marked + Drop>(
     buffers: &Buffers<T>,
-    name: &Name,
-    at: usize,
+    spot: Spot<'_>,
     kill: &mut KillBuffer,
     piece: &Option<Piece>,
 ) -> Result<Option<Vec<char>>, Short>
-    requires kept { HasBuffer name.now buffers.now }
-    requires place { at ≡ position_or_len (marked_named name.now) buffers.now }
-    requires within { PieceWithin (length (marked_at name.now buffers.now).buffer.text) piece.now }
-    ensures ok { IfOk result (λ made. kill_set made kill.new ≡ killed_in name.now buffers.now kill.old piece.now) }
+    requires kept { HasBuffer spot.marks.now.name buffers.now }
+    requires place { spot.at ≡ position_or_len (marked_named spot.marks.now.name) buffers.now }
+    requires within { PieceWithin (length (marked_at spot.marks.now.name buffers.now).buffer.text) piece.now }
+    ensures ok { IfOk result (λ made. kill_set made kill.new ≡ killed_in spot.entry.marks.now.name buffers.now kill.old piece.now) }
     ensures held { OnOk result (take (length kill.old) kill.new ≡ kill.old) }
     ensures err { OnErr result (kill.new ≡ kill.old) }
-    ensures may { OnErr result (kill_takes_memory (kill_read (marked_at name.now buffers.now).buffer.text kill.old piece.now) ≡ true) }
+    ensures may { OnErr result (kill_takes_memory (kill_read (marked_at spot.entry.marks.now.name buffers.now).buffer.text kill.old piece.now) ≡ true) }
 {
     let Some(piece) = piece else {
         return Ok(None);
     };
-    let mut chars = buffers.text_at(name, at).copy(piece.from, piece.to)?;
+    let text = buffers.text_at(&spot.marks.name, spot.at);
+    let mut chars = text.copy(piece.from, piece.to)?;
     match piece.joins {
         Joins::New => Ok(Some(chars)),
         Joins::Behind => match kill.extend(&chars) {
@@ -180,23 +189,22 @@ fn top_target(window_marks: &WindowMarks, top: &Option<usize>) -> Option<(MarkId
 pub fn leave<T: Marked + Drop>(
     buffers: &mut Buffers<T>,
     session: &mut Session,
-    window_marks: &WindowMarks,
-    at: usize,
+    spot: Spot<'_>,
     left: &Finish,
     behind: usize,
     kill: Option<Vec<char>>,
 )
-    requires marks { AreMarks buffers.old window_marks.now }
-    requires place { at ≡ position_or_len (marked_named window_marks.now.name) buffers.old }
-    requires point { GoesWithin (length (marked_at window_marks.now.name buffers.old).buffer.text) left.now.point }
-    requires top { IsWithin (length (marked_at window_marks.now.name buffers.old).buffer.text) left.now.top }
-    requires behind { behind ≤ length (marked_at window_marks.now.name buffers.old).buffer.text }
-    ensures marks { buffers.new ≡ marks_left window_marks.now left.now behind buffers.old }
+    requires marks { AreMarks buffers.old spot.marks.now }
+    requires place { spot.at ≡ position_or_len (marked_named spot.marks.now.name) buffers.old }
+    requires point { GoesWithin (length (marked_at spot.marks.now.name buffers.old).buffer.text) left.now.point }
+    requires top { IsWithin (length (marked_at spot.marks.now.name buffers.old).buffer.text) left.now.top }
+    requires behind { behind ≤ length (marked_at spot.marks.now.name buffers.old).buffer.text }
+    ensures marks { buffers.new ≡ marks_left spot.entry.marks.now left.now behind buffers.old }
     ensures session { session.new ≡ told left.now.told (acted left.now.kind (record session.old { kill = kill_set kill session.old.kill })) }
 {
-    let point = point_target(window_marks, &left.point, behind);
-    let top = top_target(window_marks, &left.top);
-    buffers.place_both_at(&window_marks.name, at, point, top);
+    let point = point_target(spot.marks, &left.point, behind);
+    let top = top_target(spot.marks, &left.top);
+    buffers.place_both_at(&spot.marks.name, spot.at, point, top);
     finish(session, left.kind, left.told);
     match kill {
         None => {}
@@ -209,43 +217,33 @@ fn change_text<T: Marked + Drop>(
     buffers: &mut Buffers<T>,
     directory: &Directory,
     session: &mut Session,
-    window_marks: &WindowMarks,
-    at: usize,
+    spot: Spot<'_>,
     mask: Mask,
     change: &Change,
 ) -> Result<(), Short>
-    requires marks { AreMarks buffers.old window_marks.now }
-    requires place { at ≡ position_or_len (marked_named window_marks.now.name) buffers.old }
-    requires can { CanBeDone buffers.old window_marks.now session.old.kill (Edits mask change.now) }
-    requires granted { IsActionGranted directory.now buffers.old session.old.user window_marks.now.name (Edits mask change.now) }
-    ensures ok { OnOk result (buffers.new ≡ buffers_acted window_marks.now session.old.kill (Edits mask change.now) buffers.old) }
-    ensures acted { OnOk result (session.new ≡ acted_in window_marks.now buffers.old (Edits mask change.now) session.old) }
+    requires marks { AreMarks buffers.old spot.marks.now }
+    requires place { spot.at ≡ position_or_len (marked_named spot.marks.now.name) buffers.old }
+    requires can { CanBeDone buffers.old spot.marks.now session.old.kill (Edits mask change.now) }
+    requires granted { IsActionGranted directory.now buffers.old session.old.user spot.marks.now.name (Edits mask change.now) }
+    ensures ok { OnOk result (buffers.new ≡ buffers_acted spot.entry.marks.now session.old.kill (Edits mask change.now) buffers.old) }
+    ensures acted { OnOk result (session.new ≡ acted_in spot.entry.marks.now buffers.old (Edits mask change.now) session.old) }
     ensures err { OnErr result (buffers.new ≡ buffers.old) }
     ensures same { OnErr result (session.new ≡ session.old) }
-    ensures may { OnErr result (MayBeShort window_marks.now buffers.old session.old.kill (Edits mask change.now)) }
+    ensures may { OnErr result (MayBeShort spot.entry.marks.now buffers.old session.old.kill (Edits mask change.now)) }
 {
-    let name = &window_marks.name;
     let held = session.kill.as_slice().len();
-    let made = killed_if(buffers, name, at, &mut session.kill, &change.finish.kill)?;
+    let made = killed_if(buffers, spot, &mut session.kill, &change.finish.kill)?;
     // What the edit puts in is of the kill buffer as it was.
     let kill = &session.kill.as_slice()[..held];
     let writer = Writer {
         directory,
         user: &session.user,
-        name,
-        at,
+        name: &spot.marks.name,
+        at: spot.at,
     };
     match edit(buffers, writer, kill, mask, change) {
         Ok(behind) => {
-            leave(
-                buffers,
-                session,
-                window_marks,
-                at,
-                &change.finish,
-                behind,
-                made,
-            );
+            leave(buffers, session, spot, &change.finish, behind, made);
             Ok(())
         }
         Err(short) => {
@@ -260,36 +258,27 @@ fn take_back<T: Marked + Drop>(
     buffers: &mut Buffers<T>,
     directory: &Directory,
     session: &mut Session,
-    window_marks: &WindowMarks,
-    at: usize,
+    spot: Spot<'_>,
     undone: &Undone,
 ) -> Result<(), Short>
-    requires marks { AreMarks buffers.old window_marks.now }
-    requires place { at ≡ position_or_len (marked_named window_marks.now.name) buffers.old }
-    requires can { CanBeDone buffers.old window_marks.now session.old.kill (Undoes undone.now) }
-    requires granted { IsActionGranted directory.now buffers.old session.old.user window_marks.now.name (Undoes undone.now) }
-    ensures ok { OnOk result (buffers.new ≡ buffers_acted window_marks.now session.old.kill (Undoes undone.now) buffers.old) }
-    ensures acted { OnOk result (session.new ≡ acted_in window_marks.now buffers.old (Undoes undone.now) session.old) }
+    requires marks { AreMarks buffers.old spot.marks.now }
+    requires place { spot.at ≡ position_or_len (marked_named spot.marks.now.name) buffers.old }
+    requires can { CanBeDone buffers.old spot.marks.now session.old.kill (Undoes undone.now) }
+    requires granted { IsActionGranted directory.now buffers.old session.old.user spot.marks.now.name (Undoes undone.now) }
+    ensures ok { OnOk result (buffers.new ≡ buffers_acted spot.entry.marks.now session.old.kill (Undoes undone.now) buffers.old) }
+    ensures acted { OnOk result (session.new ≡ acted_in spot.entry.marks.now buffers.old (Undoes undone.now) session.old) }
     ensures err { OnErr result (buffers.new ≡ buffers.old) }
     ensures same { OnErr result (session.new ≡ session.old) }
-    ensures may { OnErr result (MayBeShort window_marks.now buffers.old session.old.kill (Undoes undone.now)) }
+    ensures may { OnErr result (MayBeShort spot.entry.marks.now buffers.old session.old.kill (Undoes undone.now)) }
 {
     let writer = Writer {
         directory,
         user: &session.user,
-        name: &window_marks.name,
-        at,
+        name: &spot.marks.name,
+        at: spot.at,
     };
     let behind = restore(buffers, writer, undone)?;
-    leave(
-        buffers,
-        session,
-        window_marks,
-        at,
-        &undone.finish,
-        behind,
-        None,
-    );
+    leave(buffers, session, spot, &undone.finish, behind, None);
     Ok(())
 }
 
@@ -298,19 +287,18 @@ fn carry_out<T: Marked + Drop>(
     buffers: &mut Buffers<T>,
     directory: &Directory,
     session: &mut Session,
-    window_marks: &WindowMarks,
-    at: usize,
+    spot: Spot<'_>,
     action: &Action,
 ) -> Result<(), Short>
-    requires marks { AreMarks buffers.old window_marks.now }
-    requires place { at ≡ position_or_len (marked_named window_marks.now.name) buffers.old }
-    requires can { CanBeDone buffers.old window_marks.now session.old.kill action.now }
-    requires granted { IsActionGranted directory.now buffers.old session.old.user window_marks.now.name action.now }
-    ensures ok { OnOk result (buffers.new ≡ buffers_acted window_marks.now session.old.kill action.now buffers.old) }
-    ensures acted { OnOk result (session.new ≡ acted_in window_marks.now buffers.old action.now session.old) }
+    requires marks { AreMarks buffers.old spot.marks.now }
+    requires place { spot.at ≡ position_or_len (marked_named spot.marks.now.name) buffers.old }
+    requires can { CanBeDone buffers.old spot.marks.now session.old.kill action.now }
+    requires granted { IsActionGranted directory.now buffers.old session.old.user spot.marks.now.name action.now }
+    ensures ok { OnOk result (buffers.new ≡ buffers_acted spot.entry.marks.now session.old.kill action.now buffers.old) }
+    ensures acted { OnOk result (session.new ≡ acted_in spot.entry.marks.now buffers.old action.now session.old) }
     ensures err { OnErr result (buffers.new ≡ buffers.old) }
     ensures same { OnErr result (session.new ≡ session.old) }
-    ensures may { OnErr result (MayBeShort window_marks.now buffers.old session.old.kill action.now) }
+    ensures may { OnErr result (MayBeShort spot.entry.marks.now buffers.old session.old.kill action.now) }
 {
     match action {
         Action::Fails(message) => {
@@ -318,19 +306,16 @@ fn carry_out<T: Marked + Drop>(
             Ok(())
         }
         Action::Edits(mask, change) => {
-            change_text(buffers, directory, session, window_marks, at, *mask, change)
+            change_text(buffers, directory, session, spot, *mask, change)
         }
-        Action::Undoes(undone) => {
-            take_back(buffers, directory, session, window_marks, at, undone)
-        }
+        Action::Undoes(undone) => take_back(buffers, directory, session, spot, undone),
         Action::Moves(left) => {
-            let name = &window_marks.name;
-            let made = killed_if(buffers, name, at, &mut session.kill, &left.kill)?;
-            leave(buffers, session, window_marks, at, left, 0, made);
+            let made = killed_if(buffers, spot, &mut session.kill, &left.kill)?;
+            leave(buffers, session, spot, left, 0, made);
             Ok(())
         }
         Action::Clears => {
-            buffers.unmodify_at(directory, &session.user, &window_marks.name, at);
+            buffers.unmodify_at(directory, &session.user, &spot.marks.name, spot.at);
             finish(session, Kind::Other, Message::Silent);
             Ok(())
         }
@@ -353,31 +338,30 @@ fn carry_out_marked<T: Marked + Drop>(
     buffers: &mut Buffers<T>,
     directory: &Directory,
     session: &mut Session,
-    window_marks: &WindowMarks,
-    at: usize,
+    spot: Spot<'_>,
     action: &Action,
 ) -> Result<(), Short>
-    requires marks { AreMarks buffers.old window_marks.now }
-    requires place { at ≡ position_or_len (marked_named window_marks.now.name) buffers.old }
-    requires can { CanBeDone buffers.old window_marks.now session.old.kill action.now }
-    requires granted { IsActionGranted directory.now buffers.old session.old.user window_marks.now.name action.now }
-    ensures ok { OnOk result (IsCarriedOut window_marks.now action.now buffers.old buffers.new session.old session.new) }
+    requires marks { AreMarks buffers.old spot.marks.now }
+    requires place { spot.at ≡ position_or_len (marked_named spot.marks.now.name) buffers.old }
+    requires can { CanBeDone buffers.old spot.marks.now session.old.kill action.now }
+    requires granted { IsActionGranted directory.now buffers.old session.old.user spot.marks.now.name action.now }
+    ensures ok { OnOk result (IsCarriedOut spot.entry.marks.now action.now buffers.old buffers.new session.old session.new) }
     ensures err { OnErr result (WindowMarksDropped None buffers.old buffers.new) }
     ensures same { OnErr result (session.new ≡ session.old) }
-    ensures may { OnErr result (MayBeShort window_marks.now buffers.old session.old.kill action.now) }
+    ensures may { OnErr result (MayBeShort spot.entry.marks.now buffers.old session.old.kill action.now) }
 {
     let position = match mark_of(action) {
-        None => return carry_out(buffers, directory, session, window_marks, at, action),
+        None => return carry_out(buffers, directory, session, spot, action),
         Some(position) => position,
     };
-    let mark = reserve_mark(buffers, window_marks)?;
-    match carry_out(buffers, directory, session, window_marks, at, action) {
+    let mark = reserve_mark(buffers, spot.marks)?;
+    match carry_out(buffers, directory, session, spot, action) {
         Ok(()) => {
-            set_mark(buffers, session, window_marks, at, mark, position);
+            set_mark(buffers, session, spot.marks, spot.at, mark, position);
             Ok(())
         }
         Err(short) => {
-            give_up_mark(buffers, window_marks, mark);
+            give_up_mark(buffers, spot.marks, mark);
             Err(short)
         }
     }
@@ -414,28 +398,20 @@ pub fn perform<T: Marked + Drop>(
     directory: &Directory,
     sessions: &mut [Session],
     at: usize,
-    window_marks: &WindowMarks,
-    place: usize,
+    spot: Spot<'_>,
     action: &Action,
 ) -> Result<Touched, Short>
-    requires { IsReady directory.now at buffers.old sessions.old (Acts window_marks.now place action.now) }
+    requires { IsReady directory.now at buffers.old sessions.old (Acts spot.marks.now spot.at action.now) }
     ensures sound { IsSound buffers.new sessions.new }
-    ensures done { IfOk result (IsQuietlyDone directory.now at (Acts window_marks.now place action.now) buffers.old sessions.old buffers.new sessions.new) }
+    ensures done { IfOk result (IsQuietlyDone directory.now at (Acts spot.entry.marks.now spot.entry.at action.now) buffers.old sessions.old buffers.new sessions.new) }
     ensures err { OnErr result (IsUnchanged buffers.old sessions.old buffers.new sessions.new) }
-    ensures may { OnErr result (TakesMemory at (Acts window_marks.now place action.now) buffers.old sessions.old) }
+    ensures may { OnErr result (TakesMemory at (Acts spot.entry.marks.now spot.entry.at action.now) buffers.old sessions.old) }
 {
-    let name = &window_marks.name;
+    let name = &spot.marks.name;
     let kill = sessions[at].kill.as_slice();
-    let touched = touched_by(window_marks, action, kill.len());
-    let edit = edit_of(buffers, name, place, kill, action);
-    carry_out_marked(
-        buffers,
-        directory,
-        &mut sessions[at],
-        window_marks,
-        place,
-        action,
-    )?;
+    let touched = touched_by(spot.marks, action, kill.len());
+    let edit = edit_of(buffers, name, spot.at, kill, action);
+    carry_out_marked(buffers, directory, &mut sessions[at], spot, action)?;
     follow(sessions, name, &edit);
     Ok(touched)
 }

@@ -66,6 +66,15 @@ pub enum ByteAct {
     Skip,
 }
 
+/// What is due for a byte, and where what was there before stands.
+#[derive(Clone, Copy)]
+pub struct Due<'a> {
+    /// What is to be done.
+    pub act: ByteAct,
+    /// The mode of the session before.
+    pub before: &'a ModeBefore,
+}
+
 /// The prompt that was answered.
 fn asked(before: &ModeBefore) -> &Prompt
     requires { is_asked before.now ≡ true }
@@ -130,33 +139,32 @@ fn do_key_act<T: Marked + Drop, S: Store>(
     }
 }
 
-/// Does what is to be done, to the parts of the world.
+/// Does what is due, to the parts of the world.
 fn do_in_parts<T: Marked + Drop, S: Store>(
     buffers: &mut Buffers<T>,
     directory: &Directory,
     sessions: &mut [Session],
     at: usize,
     store: &mut S,
-    act: ByteAct,
-    before: &ModeBefore,
+    due: Due<'_>,
 ) -> Result<Touched, Short>
     requires sound { IsSound buffers.old sessions.old }
     requires within { at < length sessions.old }
-    requires ready { IsReady act (search_held at sessions.old) (state_at at sessions.old) }
-    requires here { CanDo before.now act }
+    requires ready { IsReady due.act (search_held at sessions.old) (state_at at sessions.old) }
+    requires here { CanDo due.before.now due.act }
     ensures sound { IsSound buffers.new sessions.new }
-    ensures ok { IsDoneIn (store_told S.failed S.accepted) at act before.now sessions.old
+    ensures ok { IsDoneIn (store_told S.failed S.accepted) at due.entry.act due.entry.before.now sessions.old
         (world_of directory.now buffers.old sessions.old) store.old (world_of directory.now buffers.new sessions.new) store.new result }
-    ensures wants { OnErr result (may_want_memory act ≡ true) }
+    ensures wants { OnErr result (may_want_memory due.entry.act ≡ true) }
     ensures err { OnErr result (IsSameWorld directory.now buffers.old buffers.new sessions.old sessions.new) }
     ensures unasked { OnErr result (store.new ≡ store.old) }
-    ensures may { OnErr result (IsRefusable directory.now at (model_act (state_at at sessions.old) before.now act) buffers.old sessions.old) }
-    ensures further { OnOk result (LeavesFewer act at buffers.old buffers.new sessions.old sessions.new) }
+    ensures may { OnErr result (IsRefusable directory.now at (model_act (state_at at sessions.old) due.entry.before.now due.entry.act) buffers.old sessions.old) }
+    ensures further { OnOk result (LeavesFewer due.entry.act at buffers.old buffers.new sessions.old sessions.new) }
 {
-    match act {
+    match due.act {
         ByteAct::Act(done) => do_key_act(buffers, directory, sessions, at, store, done),
         ByteAct::Answer(argument) => {
-            let prompt = asked(before);
+            let prompt = asked(due.before);
             let question = prompt.question();
             let input = prompt.input();
             let count = counted(argument);
@@ -176,7 +184,7 @@ fn do_in_parts<T: Marked + Drop, S: Store>(
             Ok(Touched::Nowhere)
         }
         ByteAct::StartReplacing => {
-            let prompt = asked(before);
+            let prompt = asked(due.before);
             let pattern = SearchString::of(prompt.first());
             let put = SearchString::of(prompt.input());
             start_replacing(buffers, directory, sessions, at, pattern, put);
@@ -193,27 +201,26 @@ fn do_in_parts<T: Marked + Drop, S: Store>(
     }
 }
 
-/// Does what is to be done, by the session at `at`, where this was there before. The error: memory was refused, and nothing of it was done.
+/// Does what is due, by the session at `at`. The error: memory was refused, and nothing of it was done.
 pub fn do_byte_act<T: Marked + Drop, S: Store>(
     world: &mut World<T>,
     at: usize,
     store: &mut S,
-    act: ByteAct,
-    before: &ModeBefore,
+    due: Due<'_>,
 ) -> Result<Touched, Short>
     requires sound { IsSound world.old.buffers world.old.sessions.items }
     requires within { at < length world.old.sessions.items }
-    requires ready { IsReady act (search_held at world.old.sessions.items) (state_at at world.old.sessions.items) }
-    requires here { CanDo before.now act }
+    requires ready { IsReady due.act (search_held at world.old.sessions.items) (state_at at world.old.sessions.items) }
+    requires here { CanDo due.before.now due.act }
     ensures directory { world.new.directory ≡ world.old.directory }
     ensures count { length world.new.sessions.items ≡ length world.old.sessions.items }
     ensures sound { IsSound world.new.buffers world.new.sessions.items }
-    ensures ok { IsActDone (store_told S.failed S.accepted) at act before.now world.old store.old world.new store.new result }
-    ensures wants { OnErr result (may_want_memory act ≡ true) }
+    ensures ok { IsActDone (store_told S.failed S.accepted) at due.entry.act due.entry.before.now world.old store.old world.new store.new result }
+    ensures wants { OnErr result (may_want_memory due.entry.act ≡ true) }
     ensures err { OnErr result (IsAsItWas world.old world.new) }
     ensures unasked { OnErr result (store.new ≡ store.old) }
-    ensures may { OnErr result (IsActRefusable at act before.now world.old) }
-    ensures further { OnOk result (LeavesFewer act at world.old.buffers world.new.buffers world.old.sessions.items world.new.sessions.items) }
+    ensures may { OnErr result (IsActRefusable at due.entry.act due.entry.before.now world.old) }
+    ensures further { OnOk result (LeavesFewer due.entry.act at world.old.buffers world.new.buffers world.old.sessions.items world.new.sessions.items) }
 {
     do_in_parts(
         &mut world.buffers,
@@ -221,7 +228,6 @@ pub fn do_byte_act<T: Marked + Drop, S: Store>(
         &mut world.sessions,
         at,
         store,
-        act,
-        before,
+        due,
     )
 }

@@ -19,7 +19,7 @@ ghost use Rattle.mgs_core.specs.ByteActs.{CanDo, IsReady, refused, state_before}
 ghost use Rattle.mgs_core.specs.ByteSteps.{IsFirstStep, IsTurnStep, keyed_without_act, touched_without_act};
 ghost use Rattle.mgs_core.specs.Turns.{IsFit, goes_on, has_all, touched_both, weight};
 
-use crate::byte_acts::{Before, ByteAct, ModeBefore, do_byte_act};
+use crate::byte_acts::{Before, ByteAct, Due, ModeBefore, do_byte_act};
 use crate::keying::ByteStep;
 use crate::typing::step_byte;
 use crate::world::World;
@@ -189,7 +189,11 @@ fn act_turn<T: Marked + Drop, S: Store>(
     ensures further { OnOk result (LeavesFewer act at world.old.buffers world.new.buffers world.old.sessions.items world.new.sessions.items) }
     ensures touched { IfOk result (λ touched. AreApartAt touched at world.old world.new) }
 {
-    match do_byte_act(world, at, store, act, &was.mode) {
+    let due = Due {
+        act,
+        before: &was.mode,
+    };
+    match do_byte_act(world, at, store, due) {
         Ok(touched) => {
             forget_touched(judge, &touched);
             Ok(touched)

@@ -1,5 +1,4 @@
 use Rattle.std.proofs.Common.{get_or, refl, ap, ◌∙◌}
-use Rattle.std.proofs.lemmas.Option.{slice_get-get_or}
 use Rattle.mgs_model.specs.declared.session.Kind.TheVariants.{Other}
 use Rattle.mgs_model.specs.declared.touched.Touched.TheVariants.{Anywhere}
 use Rattle.mgs_session.specs.Sessions.{acted}
@@ -9,21 +8,12 @@ use Rattle.mgs_model.specs.World.{Buffer}
 use Rattle.mgs_world.proofs.Attributes.{sound_by}
 use Rattle.mgs_world.proofs.Soundness.{sound_set}
 use Rattle.mgs_plan.proofs.Deeds.{fresh_state}
-use Rattle.mgs_act.proofs.Done.{here_is, quietly}
+use Rattle.mgs_act.proofs.Done.{can_at, here_is, quietly}
 use Rattle.mgs_act.proofs.Rulings.{owners_set_so}
 use Rattle.mgs_act.proofs.doing.assign.Goals as goal
 
-pub set_owner-requires-clause-kept : goal.set_owner-requires-clause-kept
-set_owner-requires-clause-kept g c =
-    let xs = c.args.sessions.now in
-    let r = c.index-sessions-at.result in
-    (c.requires.can (get_or xs c.args.at r) (slice_get-get_or xs c.args.at r c.requires.within)).kept
-
-pub set_owner-requires-clause-granted : goal.set_owner-requires-clause-granted
-set_owner-requires-clause-granted g c =
-    let xs = c.args.sessions.now in
-    let r = c.index-sessions-at.result in
-    (c.requires.can (get_or xs c.args.at r) (slice_get-get_or xs c.args.at r c.requires.within)).granted
+pub set_owner-requires : goal.set_owner-requires
+set_owner-requires g c = let can = can_at c.requires c.index-sessions-at.result in record { kept = can.kept; granted = can.granted }
 
 pub returns-clause-sound : goal.returns-clause-sound
 returns-clause-sound g c =

@@ -19,7 +19,7 @@ use Rattle.mgs_act.proofs.Done.{quiet_done, written_done}
 use Rattle.mgs_act.proofs.Scrolls.{rows_quiet, rows_uses, scrolled_so}
 use Rattle.mgs_act.proofs.Settings.{set_uses}
 use Rattle.mgs_act.proofs.Switches.{listed_done, may_show, shown_done}
-use Rattle.mgs_act.proofs.Marked.{when_refused}
+use Rattle.mgs_world.proofs.WindowMarks.{when_err}
 use Rattle.mgs_buffers.proofs.MarkedLemmas.{OnErr-map}
 use Rattle.mgs_act.proofs.doing.do_decided.Goals as goal
 
@@ -65,7 +65,7 @@ returns-in_ok-show-in-Shows-clause-done g c =
 
 pub returns-in_err-show-in-Shows-clause-may : goal.returns-in_err-show-in-Shows-clause-may
 returns-in_err-show-in-Shows-clause-may g c =
-    when_refused _ (subst (λ o. TakesMemory c.args.at o c.args.buffers.now c.args.sessions.now) (sym c.in-Shows.is)
+    when_err _ (subst (λ o. TakesMemory c.args.at o c.args.buffers.now c.args.sessions.now) (sym c.in-Shows.is)
     (λ d id next h place found. may_show d c.args.buffers.now c.args.sessions.now next id c.args.at h found c.in-Shows.name c.show.ensures.selected))
 
 pub returns-in-Scrolls-clause-sound : goal.returns-in-Scrolls-clause-sound
@@ -134,5 +134,5 @@ returns-in_err-rearrange-in-Arranges-clause-may g c =
     let ks = c.args.buffers.now in
     let xs = c.args.sessions.now in
     let run = Run (Rearrange c.in-Arranges.arrangement) c.in-Arranges.argument [] in
-    when_refused _ (subst (λ o. TakesMemory c.args.at o ks xs) (sym c.in-Arranges.is)
+    when_err _ (subst (λ o. TakesMemory c.args.at o ks xs) (sym c.in-Arranges.is)
     (λ d id next h place found. sym (ap may_be_refused (outcome_answered d ks xs next id c.args.at h run true place c.requires.within found)) ∙ c.in_err-rearrange-in-Arranges.ensures.may d id next place))

@@ -1,6 +1,5 @@
 use Rattle.std.proofs.Common.{get_or, refl, ap, true, false, ◌∙◌}
 use Rattle.std.specs.Prelude.{Err}
-use Rattle.std.proofs.lemmas.Option.{slice_get-get_or}
 use Rattle.mgs_model.specs.declared.session.Kind.TheVariants.{Other}
 use Rattle.mgs_model.specs.declared.message.Message.TheVariants.{SaveFailed, Wrote}
 use Rattle.mgs_buffers.specs.MarkedBuffer.{marked_at}
@@ -8,15 +7,12 @@ use Rattle.mgs_session.specs.Sessions.{acted, failed, told}
 use Rattle.mgs_world.proofs.Soundness.{sound_set}
 use Rattle.mgs_world.proofs.Unmodified.{sound_unmodified}
 use Rattle.mgs_plan.proofs.Deeds.{failed_so, fresh_state}
-use Rattle.mgs_act.proofs.Done.{here_is}
+use Rattle.mgs_act.proofs.Done.{can_at, here_is}
 use Rattle.mgs_act.proofs.Saves.{stored_as, wrote_so}
 use Rattle.mgs_act.proofs.doing.save.Goals as goal
 
 pub save_as-requires : goal.save_as-requires
-save_as-requires g c =
-    let xs = c.args.sessions.now in
-    let r = c.index-sessions-at.result in
-    (c.requires.can (get_or xs c.args.at r) (slice_get-get_or xs c.args.at r c.requires.within)).kept
+save_as-requires g c = (can_at c.requires c.index-sessions-at.result).kept
 
 pub returns-in-Ok-clause-sound : goal.returns-in-Ok-clause-sound
 returns-in-Ok-clause-sound g c =

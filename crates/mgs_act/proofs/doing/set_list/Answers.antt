@@ -1,5 +1,4 @@
 use Rattle.std.proofs.Common.{get_or, refl, sym, ap, ◌∙◌}
-use Rattle.std.proofs.lemmas.Option.{slice_get-get_or}
 use Rattle.mgs_model.specs.Acts.{effects, list_set}
 use Rattle.mgs_laws.specs.Apart.{touched_by}
 use Rattle.mgs_model.specs.Apply.{apply}
@@ -13,22 +12,18 @@ use Rattle.mgs_model.specs.World.{Buffer}
 use Rattle.mgs_world.proofs.Attributes.{sound_by}
 use Rattle.mgs_world.proofs.Soundness.{sound_set}
 use Rattle.mgs_plan.proofs.Deeds.{fresh_state}
-use Rattle.mgs_act.proofs.Done.{here_is, quietly}
+use Rattle.mgs_act.proofs.Done.{can_at, here_is, quietly}
 use Rattle.mgs_act.proofs.Rulings.{list_set_so}
 use Rattle.mgs_act.proofs.doing.set_list.Goals as goal
 
 pub put_list-requires : goal.put_list-requires
-put_list-requires g c =
-    let xs = c.args.sessions.now in
-    let r = c.index-sessions-at.result in
-    c.requires.can (get_or xs c.args.at r) (slice_get-get_or xs c.args.at r c.requires.within)
+put_list-requires g c = can_at c.requires c.index-sessions-at.result
 
 pub returns-clause-sound : goal.returns-clause-sound
 returns-clause-sound g c =
     let ks = c.args.buffers.now in
     let xs = c.args.sessions.now in
-    let r = c.index-sessions-at.result in
-    let can = (c.requires.can (get_or xs c.args.at r) (slice_get-get_or xs c.args.at r c.requires.within)).can in
+    let can = (can_at c.requires c.index-sessions-at.result).can in
     rw (c.put_list.ensures can.entries can.planned, c.set_kind.ensures) (sound_by (λ (b : Buffer). record b { entries = can.entries }) (λ b. refl) c.args.name.now ks _ (sound_set ks xs c.args.at (get_or xs c.args.at c.index-sessions-at-2.result) _ (ap (get_or xs c.args.at) c.index-sessions-at-2.is) (λ n i. refl) c.requires.sound))
 
 pub returns-clause-done : goal.returns-clause-done

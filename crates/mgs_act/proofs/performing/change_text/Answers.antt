@@ -7,51 +7,27 @@ use Rattle.mgs_plan.proofs.Leaving.{length_edited_by, marks_edited_by, place_edi
 use Rattle.mgs_world.proofs.Soundness.{mark_is_kept}
 use Rattle.mgs_act.proofs.performing.change_text.Goals as goal
 
-pub leave-requires-clause-marks : goal.leave-requires-clause-marks
-leave-requires-clause-marks g c =
+pub leave-requires : goal.leave-requires
+leave-requires g c =
     let held = (λ i. take (length (c.as_slice-held.ensures i)) (c.as_slice.ensures i)) ∙ c.in_ok-made.ensures.held in
-    let x = c.args.window_marks.now in
-    let change = change_read (marked_at x.name c.args.buffers.now).buffer.text c.args.session.now.kill c.args.change.now in
-    rw (c.in-Ok.ensures.ok, held) (marks_edited_by change c.args.buffers.now x c.requires.marks)
-
-pub leave-requires-clause-place : goal.leave-requires-clause-place
-leave-requires-clause-place g c =
-    let held = (λ i. take (length (c.as_slice-held.ensures i)) (c.as_slice.ensures i)) ∙ c.in_ok-made.ensures.held in
-    let x = c.args.window_marks.now in
-    let change = change_read (marked_at x.name c.args.buffers.now).buffer.text c.args.session.now.kill c.args.change.now in
-    rw (c.in-Ok.ensures.ok, held) (place_edited_by x.name change c.args.buffers.now c.args.at c.requires.place)
-
-pub leave-requires-clause-point : goal.leave-requires-clause-point
-leave-requires-clause-point g c =
-    let held = (λ i. take (length (c.as_slice-held.ensures i)) (c.as_slice.ensures i)) ∙ c.in_ok-made.ensures.held in
-    let x = c.args.window_marks.now in
+    let x = c.args.spot.marks.now in
     let ks = c.args.buffers.now in
-    let change = change_read (marked_at x.name ks).buffer.text c.args.session.now.kill c.args.change.now in
+    let b = (marked_at x.name ks).buffer in
+    let change = change_read b.text c.args.session.now.kill c.args.change.now in
     let within = c.requires.can.within in
-    rw (c.in-Ok.ensures.ok, held) (subst (λ n. GoesWithin n c.args.change.now.finish.point) (sym (length_edited_by x.name change ks (mark_is_kept x.name x.point ks c.requires.marks.point) within.order within.within)) within.finish.point)
-
-pub leave-requires-clause-top : goal.leave-requires-clause-top
-leave-requires-clause-top g c =
-    let held = (λ i. take (length (c.as_slice-held.ensures i)) (c.as_slice.ensures i)) ∙ c.in_ok-made.ensures.held in
-    let x = c.args.window_marks.now in
-    let ks = c.args.buffers.now in
-    let change = change_read (marked_at x.name ks).buffer.text c.args.session.now.kill c.args.change.now in
-    let within = c.requires.can.within in
-    rw (c.in-Ok.ensures.ok, held) (subst (λ n. IsWithin n c.args.change.now.finish.top) (sym (length_edited_by x.name change ks (mark_is_kept x.name x.point ks c.requires.marks.point) within.order within.within)) within.finish.top)
-
-pub leave-requires-clause-behind : goal.leave-requires-clause-behind
-leave-requires-clause-behind g c =
-    let held = (λ i. take (length (c.as_slice-held.ensures i)) (c.as_slice.ensures i)) ∙ c.in_ok-made.ensures.held in
-    let x = c.args.window_marks.now in
-    let ks = c.args.buffers.now in
-    let change = change_read (marked_at x.name ks).buffer.text c.args.session.now.kill c.args.change.now in
-    let within = c.requires.can.within in
-    rw (c.in-Ok.ensures.ok, held) (omega (arith, c.in-Ok.ensures.end, ap (λ (kill : List ℕ). length (put_read (marked_at x.name ks).buffer.text kill c.args.change.now.put)) held, length_edited_by x.name change ks (mark_is_kept x.name x.point ks c.requires.marks.point) within.order within.within, within.order, within.within))
+    let len = length_edited_by x.name change ks (mark_is_kept x.name x.point ks c.requires.marks.point) within.order within.within in
+    record {
+      marks = rw (c.in-Ok.ensures.ok, held) (marks_edited_by change ks x c.requires.marks);
+      place = rw (c.in-Ok.ensures.ok, held) (place_edited_by x.name change ks c.args.spot.at c.requires.place);
+      point = rw (c.in-Ok.ensures.ok, held) (subst (λ n. GoesWithin n c.args.change.now.finish.point) (sym len) within.finish.point);
+      top = rw (c.in-Ok.ensures.ok, held) (subst (λ n. IsWithin n c.args.change.now.finish.top) (sym len) within.finish.top);
+      behind = rw (c.in-Ok.ensures.ok, held) (omega (arith, c.in-Ok.ensures.end, ap (λ (kill : List ℕ). length (put_read b.text kill c.args.change.now.put)) held, len, within.order, within.within));
+    }
 
 pub returns-in-Ok-clause-ok : goal.returns-in-Ok-clause-ok
 returns-in-Ok-clause-ok g c =
     let held = (λ i. take (length (c.as_slice-held.ensures i)) (c.as_slice.ensures i)) ∙ c.in_ok-made.ensures.held in
-    let x = c.args.window_marks.now in
+    let x = c.args.spot.marks.now in
     let left = c.args.change.now.finish in
     let text = (marked_at x.name c.args.buffers.now).buffer.text in
     c.leave.ensures.marks

@@ -5,92 +5,68 @@ use Rattle.mgs_session.specs.declared.Session.{Session}
 use Rattle.mgs_session.specs.declared.search.Edited.{Edited}
 use Rattle.mgs_world.specs.Worlds.{state_of, world_of}
 use Rattle.mgs_world.proofs.Soundness.{mark_is_kept}
+use Rattle.mgs_world.proofs.WindowMarks.{when_err}
 use Rattle.mgs_plan.specs.Following.{edit_through, followed}
 use Rattle.mgs_plan.specs.Actions.{kill_or_none}
 use Rattle.mgs_plan.proofs.Followed.{sound_kept}
-use Rattle.mgs_act.proofs.Done.{here_is}
-use Rattle.mgs_act.proofs.Marked.{carried_so, carried_sound, dropped_so, selected_marks, when_refused}
+use Rattle.mgs_act.proofs.Done.{can_at, here_is}
+use Rattle.mgs_act.proofs.Marked.{carried_so, carried_sound, dropped_so, marks_at}
 use Rattle.mgs_act.proofs.Through.{through_done, through_takes}
 use Rattle.mgs_act.proofs.performing.perform.Goals as goal
 
-pub edit_of-edit-requires-clause-kept : goal.edit_of-edit-requires-clause-kept
-edit_of-edit-requires-clause-kept g c =
-    let ks = c.args.buffers.now in
-    let xs = c.args.sessions.now in
-    let x = c.args.window_marks.now in
+pub edit_of-edit-requires : goal.edit_of-edit-requires
+edit_of-edit-requires g c =
+    let x = c.args.spot.marks.now in
     let r = c.index-sessions-at.result in
-    let found = slice_get-get_or xs c.args.at r c.requires.within in
-    mark_is_kept x.name x.point ks (selected_marks ks xs c.args.at (get_or xs c.args.at r) x c.requires.sound found (c.requires.can (get_or xs c.args.at r) found).selected).point
+    let can = can_at c.requires r in
+    record {
+      kept = mark_is_kept x.name x.point c.args.buffers.now (marks_at x c.requires r can.selected).point;
+      place = can.stands;
+      can = rw c.as_slice-kill.ensures can.can;
+    }
 
-pub edit_of-edit-requires-clause-place : goal.edit_of-edit-requires-clause-place
-edit_of-edit-requires-clause-place g c =
-    let xs = c.args.sessions.now in
-    let r = c.index-sessions-at.result in
-    (c.requires.can (get_or xs c.args.at r) (slice_get-get_or xs c.args.at r c.requires.within)).stands
-
-pub edit_of-edit-requires-clause-can : goal.edit_of-edit-requires-clause-can
-edit_of-edit-requires-clause-can g c =
-    let xs = c.args.sessions.now in
-    let r = c.index-sessions-at.result in
-    rw c.as_slice-kill.ensures (c.requires.can (get_or xs c.args.at r) (slice_get-get_or xs c.args.at r c.requires.within)).can
-
-pub carry_out_marked-requires-clause-marks : goal.carry_out_marked-requires-clause-marks
-carry_out_marked-requires-clause-marks g c =
-    let xs = c.args.sessions.now in
+pub carry_out_marked-requires : goal.carry_out_marked-requires
+carry_out_marked-requires g c =
     let r = c.index-sessions-at-2.result in
-    let found = slice_get-get_or xs c.args.at r c.requires.within in
-    selected_marks c.args.buffers.now xs c.args.at (get_or xs c.args.at r) c.args.window_marks.now c.requires.sound found (c.requires.can (get_or xs c.args.at r) found).selected
-
-pub carry_out_marked-requires-clause-place : goal.carry_out_marked-requires-clause-place
-carry_out_marked-requires-clause-place g c =
-    let xs = c.args.sessions.now in
-    let r = c.index-sessions-at-2.result in
-    (c.requires.can (get_or xs c.args.at r) (slice_get-get_or xs c.args.at r c.requires.within)).stands
-
-pub carry_out_marked-requires-clause-can : goal.carry_out_marked-requires-clause-can
-carry_out_marked-requires-clause-can g c =
-    let xs = c.args.sessions.now in
-    let r = c.index-sessions-at-2.result in
-    (c.requires.can (get_or xs c.args.at r) (slice_get-get_or xs c.args.at r c.requires.within)).can
-
-pub carry_out_marked-requires-clause-granted : goal.carry_out_marked-requires-clause-granted
-carry_out_marked-requires-clause-granted g c =
-    let xs = c.args.sessions.now in
-    let r = c.index-sessions-at-2.result in
-    (c.requires.can (get_or xs c.args.at r) (slice_get-get_or xs c.args.at r c.requires.within)).granted
+    let can = can_at c.requires r in
+    record {
+      marks = marks_at c.args.spot.marks.now c.requires r can.selected;
+      place = can.stands;
+      can = can.can;
+      granted = can.granted;
+    }
 
 pub returns-in_err-carry_out_marked-clause-err : goal.returns-in_err-carry_out_marked-clause-err
 returns-in_err-carry_out_marked-clause-err g c =
     let xs = c.args.sessions.now in
     let r = c.index-sessions-at-2.result in
-    when_refused c.from_residual.result (dropped_so c.args.buffers.now c.carry_out_marked.new.buffers xs c.args.at (get_or xs c.args.at r) c.carry_out_marked.new.session (slice_get-get_or xs c.args.at r c.requires.within) c.in_err-carry_out_marked.ensures.err c.in_err-carry_out_marked.ensures.same c.requires.sound)
+    when_err c.from_residual.result (dropped_so c.args.buffers.now c.carry_out_marked.new.buffers xs c.args.at (get_or xs c.args.at r) c.carry_out_marked.new.session (slice_get-get_or xs c.args.at r c.requires.within) c.in_err-carry_out_marked.ensures.err c.in_err-carry_out_marked.ensures.same c.requires.sound)
 
 pub returns-in_err-carry_out_marked-clause-may : goal.returns-in_err-carry_out_marked-clause-may
 returns-in_err-carry_out_marked-clause-may g c =
-    when_refused c.from_residual.result (through_takes c.args.at c.args.buffers.now c.args.sessions.now c.index-sessions-at-2.result c.args.window_marks.now c.args.place c.args.action.now c.requires.within c.in_err-carry_out_marked.ensures.may)
+    when_err c.from_residual.result (through_takes c.args.at c.args.buffers.now c.args.sessions.now c.index-sessions-at-2.result c.args.spot.marks.now c.args.spot.at c.args.action.now c.requires.within c.in_err-carry_out_marked.ensures.may)
 
 pub returns-clause-sound : goal.returns-clause-sound
 returns-clause-sound g c =
     let ks = c.args.buffers.now in
     let xs = c.args.sessions.now in
-    let x = c.args.window_marks.now in
+    let x = c.args.spot.marks.now in
     let r = c.index-sessions-at-2.result in
-    let found = slice_get-get_or xs c.args.at r c.requires.within in
-    let sel = (c.requires.can (get_or xs c.args.at r) found).selected in
+    let sel = (can_at c.requires r).selected in
     rw c.follow.ensures (sound_kept x.name c.edit_of-edit.result c.carry_out_marked.new.buffers _
-    (carried_sound ks c.carry_out_marked.new.buffers xs c.args.at x (get_or xs c.args.at r) c.carry_out_marked.new.session c.args.action.now c.requires.sound found sel (selected_marks ks xs c.args.at (get_or xs c.args.at r) x c.requires.sound found sel) c.in_ok-carry_out_marked.ensures.ok))
+    (carried_sound ks c.carry_out_marked.new.buffers xs c.args.at x (get_or xs c.args.at r) c.carry_out_marked.new.session c.args.action.now c.requires.sound (slice_get-get_or xs c.args.at r c.requires.within) sel (marks_at x c.requires r sel) c.in_ok-carry_out_marked.ensures.ok))
 
 pub returns-clause-done : goal.returns-clause-done
 returns-clause-done g c =
     let d = c.args.directory.now in
     let ks = c.args.buffers.now in
     let xs = c.args.sessions.now in
-    let x = c.args.window_marks.now in
+    let x = c.args.spot.marks.now in
     let r = c.index-sessions-at.result in
     let h : Session = get_or xs c.args.at c.index-sessions-at-2.result in
     let found = slice_get-get_or xs c.args.at c.index-sessions-at-2.result c.requires.within in
     let can = c.requires.can h found in
-    through_done d c.args.at ks _ xs _ x c.args.place c.args.action.now c.touched_by-touched.result
+    through_done d c.args.at ks _ xs _ x c.args.spot.at c.args.action.now c.touched_by-touched.result
     (λ id next place.
     ap (λ (ys : List Session). world_of d c.carry_out_marked.new.buffers ys next)
     (c.follow.ensures

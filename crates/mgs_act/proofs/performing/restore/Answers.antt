@@ -5,7 +5,7 @@ use Rattle.mgs_model.specs.Apply.{change_first}
 use Rattle.mgs_buffers.specs.MarkedBuffer.{marked_at, marked_edited, marked_named}
 use Rattle.mgs_plan.specs.Actions.{removed_by}
 use Rattle.mgs_plan.proofs.Leaving.{no_edit}
-use Rattle.mgs_act.proofs.Marked.{when_refused}
+use Rattle.mgs_world.proofs.WindowMarks.{when_err}
 use Rattle.mgs_act.proofs.performing.restore.Goals as goal
 
 not_long : (edits long last : Bool) → edits ≡ true → (edits && (long || last)) ≡ false → long ≡ false
@@ -35,7 +35,7 @@ returns-then-not-is_undo_an_edit-clause-end g c =
 pub returns-in_err-back-clause-may : goal.returns-in_err-back-clause-may
 returns-in_err-back-clause-may g c =
     let removed = removed_by c.args.undone.now.serial (marked_at c.args.writer.name.now c.args.buffers.now).buffer.items in
-    when_refused _ (sym (c.is_undo_an_edit.ensures removed (c.requires.can []).len) ∙ c.if-not-is_undo_an_edit.false)
+    when_err _ (sym (c.is_undo_an_edit.ensures removed (c.requires.can []).len) ∙ c.if-not-is_undo_an_edit.false)
 
 pub overflow_add-to : goal.overflow_add-to
 overflow_add-to g c = omega (arith, (c.requires.can []).within)
@@ -58,7 +58,7 @@ edit_at-requires-clause-room g c =
 pub returns-in_err-edit_at-clause-may : goal.returns-in_err-edit_at-clause-may
 returns-in_err-edit_at-clause-may g c =
     let removed = removed_by c.args.undone.now.serial (marked_at c.args.writer.name.now c.args.buffers.now).buffer.items in
-    when_refused _ (sym (c.is_undo_an_edit.ensures removed (c.requires.can []).len) ∙ c.if-not-is_undo_an_edit.false)
+    when_err _ (sym (c.is_undo_an_edit.ensures removed (c.requires.can []).len) ∙ c.if-not-is_undo_an_edit.false)
 
 pub overflow_add-result : goal.overflow_add-result
 overflow_add-result g c =

@@ -8,21 +8,21 @@ use Rattle.mgs_act.proofs.performing.take_back.Goals as goal
 
 pub leave-requires-clause-marks : goal.leave-requires-clause-marks
 leave-requires-clause-marks g c =
-    let x = c.args.window_marks.now in
+    let x = c.args.spot.marks.now in
     let b = (marked_at x.name c.args.buffers.now).buffer in
     let kill = c.args.session.now.kill in
     rw (c.in_ok-behind.ensures.ok kill) (marks_edited_by (undone_read b.text kill (removed_by c.args.undone.now.serial b.items) c.args.undone.now) c.args.buffers.now x c.requires.marks)
 
 pub leave-requires-clause-place : goal.leave-requires-clause-place
 leave-requires-clause-place g c =
-    let x = c.args.window_marks.now in
+    let x = c.args.spot.marks.now in
     let b = (marked_at x.name c.args.buffers.now).buffer in
     let kill = c.args.session.now.kill in
-    rw (c.in_ok-behind.ensures.ok kill) (place_edited_by x.name (undone_read b.text kill (removed_by c.args.undone.now.serial b.items) c.args.undone.now) c.args.buffers.now c.args.at c.requires.place)
+    rw (c.in_ok-behind.ensures.ok kill) (place_edited_by x.name (undone_read b.text kill (removed_by c.args.undone.now.serial b.items) c.args.undone.now) c.args.buffers.now c.args.spot.at c.requires.place)
 
 pub leave-requires-clause-behind : goal.leave-requires-clause-behind
 leave-requires-clause-behind g c =
-    let x = c.args.window_marks.now in
+    let x = c.args.spot.marks.now in
     let ks = c.args.buffers.now in
     let b = (marked_at x.name ks).buffer in
     let kill = c.args.session.now.kill in
@@ -33,7 +33,7 @@ leave-requires-clause-behind g c =
 
 pub returns-clause-ok : goal.returns-clause-ok
 returns-clause-ok g c =
-    let x = c.args.window_marks.now in
+    let x = c.args.spot.marks.now in
     let b = (marked_at x.name c.args.buffers.now).buffer in
     let u = c.args.undone.now in
     let left = u.finish in

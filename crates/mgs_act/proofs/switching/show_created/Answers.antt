@@ -1,29 +1,29 @@
 use Rattle.std.proofs.Common.{get_or, refl, sym, subst, ap}
-use Rattle.std.proofs.lemmas.Option.{slice_get-get_or}
 use Rattle.mgs_model.specs.declared.touched.Touched.TheVariants.{Anywhere}
 use Rattle.mgs_buffers.specs.MarkedBuffer.{HasBuffer}
 use Rattle.mgs_session.specs.declared.Session.{Session}
 use Rattle.mgs_plan.specs.declared.outcome.Outcome.TheVariants.{Creates}
 use Rattle.mgs_world.specs.Sound.{IsSound}
 use Rattle.mgs_act.proofs.Created.{created_kept, created_sound, made_granted, made_kept, made_world, unmade_sound, unmade_world}
-use Rattle.mgs_act.proofs.Done.{granted_done, quietly}
+use Rattle.mgs_act.proofs.Done.{can_at, granted_done, quietly}
 use Rattle.mgs_act.proofs.Switches.{created_done}
 use Rattle.mgs_act.proofs.switching.show_created.Goals as goal
 
-pub show-requires-clause-sound : goal.show-requires-clause-sound
-show-requires-clause-sound g c =
-    let h : Session = get_or c.args.sessions.now c.args.at c.index-sessions-at.result in
-    subst (λ ks. IsSound ks c.args.sessions.now) (sym c.in_ok-create.ensures.ok) (created_sound c.args.buffers.now c.args.sessions.now c.args.name h.user c.requires.sound)
-
-pub show-requires-clause-kept : goal.show-requires-clause-kept
-show-requires-clause-kept g c =
-    let h : Session = get_or c.args.sessions.now c.args.at c.index-sessions-at.result in
-    subst (HasBuffer c.args.name) (sym c.in_ok-create.ensures.ok) (created_kept c.args.buffers.now c.args.name h.user)
+pub show-requires : goal.show-requires
+show-requires g c =
+    let ks = c.args.buffers.now in
+    let xs = c.args.sessions.now in
+    let h : Session = get_or xs c.args.at c.index-sessions-at.result in
+    record {
+      sound = subst (λ ks. IsSound ks xs) (sym c.in_ok-create.ensures.ok) (created_sound ks xs c.args.name h.user c.requires.sound);
+      within = c.requires.within;
+      kept = subst (HasBuffer c.args.name) (sym c.in_ok-create.ensures.ok) (created_kept ks c.args.name h.user);
+    }
 
 pub kill_as-done-requires : goal.kill_as-done-requires
 kill_as-done-requires g c =
     let h : Session = get_or c.args.sessions.now c.args.at c.index-sessions-at.result in
-    let free = c.requires.can h (slice_get-get_or c.args.sessions.now c.args.at c.index-sessions-at.result c.requires.within) in
+    let free = can_at c.requires c.index-sessions-at.result in
     (made_kept c.args.name h.user c.args.buffers.now c.create.new.self c.show.new.buffers free c.in_ok-create.ensures.ok c.in-Err.ensures.unmarked).0
 
 pub returns-in_default-clause-done : goal.returns-in_default-clause-done
@@ -40,22 +40,21 @@ returns-in_default-clause-done g c =
       refl,
     ))
 
-pub returns-clause-sound : goal.returns-clause-sound
-returns-clause-sound g c =
-    let d = c.args.directory.now in
-    let h : Session = get_or c.args.sessions.now c.args.at c.index-sessions-at.result in
-    let free = c.requires.can h (slice_get-get_or c.args.sessions.now c.args.at c.index-sessions-at.result c.requires.within) in
-    let granted = made_granted d c.args.name h.user c.args.buffers.now c.create.new.self c.show.new.buffers free c.in_ok-create.ensures.ok c.in-Err.ensures.unmarked in
-    let without = granted_done c.kill_as-done.result _ c.kill_as-done.ensures.answer granted c.kill_as-done.ensures.ok in
-    let gone = granted_done c.kill_as-done.result _ c.kill_as-done.ensures.answer granted c.kill_as-done.ensures.gone in
-    unmade_sound c.args.name h.user c.args.buffers.now c.create.new.self c.show.new.buffers c.kill_as-done.new.self c.show.new.sessions free c.in_ok-create.ensures.ok c.in-Err.ensures.unmarked without gone c.show.ensures.sound
-
-pub returns-clause-err : goal.returns-clause-err
-returns-clause-err g c = λ directory next.
-    let d = c.args.directory.now in
-    let h : Session = get_or c.args.sessions.now c.args.at c.index-sessions-at.result in
-    let free = c.requires.can h (slice_get-get_or c.args.sessions.now c.args.at c.index-sessions-at.result c.requires.within) in
-    let granted = made_granted d c.args.name h.user c.args.buffers.now c.create.new.self c.show.new.buffers free c.in_ok-create.ensures.ok c.in-Err.ensures.unmarked in
-    let without = granted_done c.kill_as-done.result _ c.kill_as-done.ensures.answer granted c.kill_as-done.ensures.ok in
-    let gone = granted_done c.kill_as-done.result _ c.kill_as-done.ensures.answer granted c.kill_as-done.ensures.gone in
-    unmade_world c.args.name h.user c.args.buffers.now c.create.new.self c.show.new.buffers c.kill_as-done.new.self c.show.new.sessions free c.in_ok-create.ensures.ok c.in-Err.ensures.unmarked without gone c.show.ensures.sound c.args.sessions.now directory next (c.in-Err.ensures.err directory next)
+pub returns : goal.returns
+returns g c =
+    let ks = c.args.buffers.now in
+    let xs = c.args.sessions.now in
+    let name = c.args.name in
+    let h : Session = get_or xs c.args.at c.index-sessions-at.result in
+    let free = can_at c.requires c.index-sessions-at.result in
+    let cs = c.create.new.self in
+    let ls = c.show.new.buffers in
+    let kill = c.kill_as-done in
+    let granted = made_granted c.args.directory.now name h.user ks cs ls free c.in_ok-create.ensures.ok c.in-Err.ensures.unmarked in
+    let without = granted_done kill.result _ kill.ensures.answer granted kill.ensures.ok in
+    let gone = granted_done kill.result _ kill.ensures.answer granted kill.ensures.gone in
+    record {
+      sound = unmade_sound name h.user ks cs ls kill.new.self c.show.new.sessions free c.in_ok-create.ensures.ok c.in-Err.ensures.unmarked without gone c.show.ensures.sound;
+      done = tt;
+      err = λ directory next. unmade_world name h.user ks cs ls kill.new.self c.show.new.sessions free c.in_ok-create.ensures.ok c.in-Err.ensures.unmarked without gone c.show.ensures.sound xs directory next (c.in-Err.ensures.err directory next);
+    }
