@@ -29,7 +29,7 @@ use mgs_cache::Judge;
 use mgs_maps::{command_named, name_completion};
 use mgs_marks::Marked;
 use mgs_mini::{Prompt, Step};
-use mgs_model::{Message, Name, Question, SearchStep, Sequence};
+use mgs_model::{Message, Name, Question, SearchStep, Sequence, TYPED_LIMIT};
 use mgs_policy::Directory;
 use mgs_search::IncrementalSearch;
 use mgs_session::{
@@ -115,8 +115,7 @@ fn step_answer(session: &mut Session, prompt: Prompt, before: &mut ModeBefore) -
     ensures first { IsFirst prompt.question prompt.first }
     ensures step { IsAnswerStep session.old session.new prompt before.new result }
 {
-    // Tells the prover that there is a first answer beside the second question alone.
-    let _first = prompt.first();
+    prove!(prompt.first().len() <= TYPED_LIMIT);
     match prompt.question() {
         Question::RunWhich => step_name(session, prompt, before),
         Question::ReplaceWhat => {
@@ -398,8 +397,7 @@ fn step_replace(
     requires alone { IsAlone session.old.state.player }
     ensures { IsSearchStep (search_for place (Replace replacing)) session.old session.new byte before.new result }
 {
-    // Tells the prover that something is replaced.
-    let _pattern = replacing.pattern();
+    prove!(!replacing.pattern().is_empty());
     match replace_key(byte) {
         ReplaceKey::Replaces(last) => {
             hold_on(session, place, Aim::Replace(replacing));
