@@ -20,7 +20,11 @@ use Rattle.mgs_plan.specs.Tells.{touched_in}
 use Rattle.mgs_plan.specs.Listed.{entries_planned}
 use Rattle.mgs_plan.specs.declared.outcome.EntryPlan.{EntryPlan}
 use Rattle.mgs_plan.specs.declared.outcome.Outcome.{Outcome}
+use Rattle.mgs_plan.specs.declared.action.Action.{Action}
+use Rattle.mgs_plan.specs.declared.outcome.Outcome.TheVariants.{Acts, Copies}
 use Rattle.mgs_act.specs.declared.acts.Reply.{Reply}
+use Rattle.mgs_act.specs.declared.inserting.Copying.{Copying}
+use Rattle.mgs_act.specs.declared.performing.Spot.{Spot}
 pub use Rattle.mgs_world.specs.Acted.{IsRefusable}
 use Rattle.mgs_world.specs.Sound.{IsSound}
 use Rattle.mgs_world.specs.Worlds.{idle, state_at, session_id, world_of}
@@ -82,3 +86,10 @@ IsActed directory at c ks xs before ls ys after touched =
 -- the act that an answer comes to, by a session that holds this
 abbrev pub answered : Reply → State → Act
 answered a state = answer_act a.question a.argument a.typed.now state
+
+-- an action through a window's marks, and a copy of a text, as outcomes
+abbrev pub acts_at : Spot → Action → Outcome
+acts_at spot action = Acts spot.marks.now spot.at action
+
+abbrev pub copies_of : Copying → Outcome
+copies_of copying = Copies copying.marks.now copying.source.now copying.place

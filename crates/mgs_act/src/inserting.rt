@@ -8,7 +8,7 @@ ghost use Rattle.mgs_buffers.specs.MarkedBuffer.{HasBuffer, marked_at, marked_na
 ghost use Rattle.mgs_plan.specs.Actions.{AreMarks, edited_by};
 ghost use Rattle.mgs_plan.specs.declared.outcome.Outcome.TheVariants.{Copies};
 ghost use Rattle.mgs_plan.specs.Inserting.{CanPut, IsInserted, insertion_of, leaving, put_outcome, target_decision};
-ghost use Rattle.mgs_act.specs.Doing.{IsQuietlyDone, IsReady};
+ghost use Rattle.mgs_act.specs.Doing.{IsQuietlyDone, IsReady, copies_of};
 ghost use Rattle.mgs_world.specs.Acted.{IsUnchanged};
 ghost use Rattle.mgs_world.specs.Sound.{IsSound};
 ghost use Rattle.mgs_world.specs.WindowMarks.{WindowMarksDropped};
@@ -146,7 +146,7 @@ pub fn insert_copy<T: Marked + Drop>(
 ) -> Result<Touched, Short>
     requires { IsReady directory.now at buffers.old sessions.old (Copies copying.marks.now copying.source.now copying.place) }
     ensures sound { IsSound buffers.new sessions.new }
-    ensures done { IfOk result (IsQuietlyDone directory.now at (Copies copying.entry.marks.now copying.entry.source.now copying.entry.place) buffers.old sessions.old buffers.new sessions.new) }
+    ensures done { IfOk result (IsQuietlyDone directory.now at (copies_of copying.entry) buffers.old sessions.old buffers.new sessions.new) }
     ensures err { OnErr result (IsUnchanged buffers.old sessions.old buffers.new sessions.new) }
 {
     let name = &copying.marks.name;

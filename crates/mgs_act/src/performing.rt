@@ -10,7 +10,7 @@ ghost use Rattle.mgs_plan.specs.declared.action.Action.TheVariants.{Edits, Moves
 ghost use Rattle.mgs_plan.specs.declared.outcome.Outcome.TheVariants.{Acts};
 ghost use Rattle.mgs_plan.specs.Actions.{AreMarks, CanBeDone, edited_by, kill_set, mark_told, removed_by};
 ghost use Rattle.mgs_plan.specs.Deciding.{IsActionGranted, IsGranted};
-ghost use Rattle.mgs_act.specs.Doing.{IsQuietlyDone, IsReady, TakesMemory};
+ghost use Rattle.mgs_act.specs.Doing.{IsQuietlyDone, IsReady, TakesMemory, acts_at};
 ghost use Rattle.mgs_act.specs.Performing.{CanComeBack, HasRoom, IsCarriedOut, IsEdit, IsTarget, IsTouched, MayBeShort, PointCanStand, TopCanStand, acted_in, back_in, buffers_acted, buffers_undone, change_in, end_in, killed_in, marks_left, undone_in};
 ghost use Rattle.mgs_world.specs.Acted.{IsUnchanged};
 ghost use Rattle.mgs_world.specs.Sound.{IsSound};
@@ -403,9 +403,9 @@ pub fn perform<T: Marked + Drop>(
 ) -> Result<Touched, Short>
     requires { IsReady directory.now at buffers.old sessions.old (Acts spot.marks.now spot.at action.now) }
     ensures sound { IsSound buffers.new sessions.new }
-    ensures done { IfOk result (IsQuietlyDone directory.now at (Acts spot.entry.marks.now spot.entry.at action.now) buffers.old sessions.old buffers.new sessions.new) }
+    ensures done { IfOk result (IsQuietlyDone directory.now at (acts_at spot.entry action.now) buffers.old sessions.old buffers.new sessions.new) }
     ensures err { OnErr result (IsUnchanged buffers.old sessions.old buffers.new sessions.new) }
-    ensures may { OnErr result (TakesMemory at (Acts spot.entry.marks.now spot.entry.at action.now) buffers.old sessions.old) }
+    ensures may { OnErr result (TakesMemory at (acts_at spot.entry action.now) buffers.old sessions.old) }
 {
     let name = &spot.marks.name;
     let kill = sessions[at].kill.as_slice();
