@@ -32,6 +32,7 @@ use Rattle.mgs_core.specs.declared.byte_acts.Before.{Before}
 use Rattle.mgs_core.specs.declared.byte_acts.ModeBefore.{ModeBefore}
 use Rattle.mgs_core.specs.declared.byte_acts.ModeBefore.TheVariants as befores
 use Rattle.mgs_core.specs.KeyActs.{is_acted, started_by, started_state, started_world}
+use Rattle.mgs_core.specs.declared.byte_acts.Due.{Due}
 
 -- WHAT WAS THERE BEFORE AN ACT OF A BYTE
 
@@ -168,3 +169,7 @@ abbrev pub refused : Before → Session → Session
 refused b x =
     let again : Session = record x { state = state_before b.mode x.state } in
     playing_as (record { playing = b.is_playing; todo = [] }) (told NoMemory (acted b.kind again))
+
+-- the act that is due
+abbrev pub act_due : model.State → Due → Act
+act_due state due = model_act state due.before.now due.act

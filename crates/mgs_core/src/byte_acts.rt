@@ -8,7 +8,7 @@ ghost use Rattle.mgs_world.specs.Worlds.{idle, state_at, world_of};
 ghost use Rattle.mgs_store.specs.Stores.{store_told};
 ghost use Rattle.mgs_core.specs.AtPlace.{IsActDone, IsActRefusable, IsAsItWas, IsDoneIn, IsKeyActDone, LeavesFewer};
 ghost use Rattle.mgs_core.specs.KeyActs.{is_acted, started_by, started_in};
-ghost use Rattle.mgs_core.specs.ByteActs.{CanDo, IsReady, asked_of, model_act, is_asked, may_want_memory};
+ghost use Rattle.mgs_core.specs.ByteActs.{CanDo, IsReady, act_due, asked_of, is_asked, may_want_memory};
 
 use crate::world::World;
 use mgs_act::{Reply, act, answer};
@@ -158,7 +158,7 @@ fn do_in_parts<T: Marked + Drop, S: Store>(
     ensures wants { OnErr result (may_want_memory due.entry.act ≡ true) }
     ensures err { OnErr result (IsSameWorld directory.now buffers.old buffers.new sessions.old sessions.new) }
     ensures unasked { OnErr result (store.new ≡ store.old) }
-    ensures may { OnErr result (IsRefusable directory.now at (model_act (state_at at sessions.old) due.entry.before.now due.entry.act) buffers.old sessions.old) }
+    ensures may { OnErr result (IsRefusable directory.now at (act_due (state_at at sessions.old) due.entry) buffers.old sessions.old) }
     ensures further { OnOk result (LeavesFewer due.entry.act at buffers.old buffers.new sessions.old sessions.new) }
 {
     match due.act {
