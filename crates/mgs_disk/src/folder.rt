@@ -1,5 +1,5 @@
 // The folder of a file that is replaced.
-use crate::kept::PRIVATE;
+use crate::attributes::PRIVATE;
 use std::fs::{self, File, OpenFile, OpenOptions};
 use std::io::{self, ErrorKind};
 use std::os::unix::fs::OpenOptionsExt;

@@ -2,19 +2,19 @@
 //! own file.
 #![tactic(auto)]
 
+mod attributes;
 mod disk;
 mod files;
 mod folder;
-mod kept;
 mod load;
 mod opening;
 mod places;
 mod replacing;
 mod store;
 
+pub use attributes::Gives;
 pub use disk::Disk;
 pub use files::FileStore;
-pub use kept::Gives;
 pub use load::{load_config, load_config_from};
 pub use opening::RegularFiles;
 pub use places::Finds;

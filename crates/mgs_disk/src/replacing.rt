@@ -1,8 +1,8 @@
 // How the disk finds files, and puts new ones in their places.
 ghost use Rattle.std.specs.Prelude.{◌<◌, ◌↔◌, IsTrue};
 
+use crate::attributes::{Gives, give_group, give_mode, give_owner, may_be_replaced};
 use crate::folder::{create_beside, sync_names};
-use crate::kept::{Gives, give_group, give_mode, give_owner, may_be_replaced};
 use crate::places::Finds;
 use libc::types::rlimit;
 use mgs_written::{Replaces, write_text};

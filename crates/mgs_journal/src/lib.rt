@@ -73,8 +73,8 @@ pub trait Journal {
     fn text(&self, i: usize) -> Option<Snapshot<'_>>
         ensures { result ≡ get_or (texts self.now) i None };
 
-    /// Whether texts are to be kept again: some time is over since they were.
-    fn is_text_due(&self) -> bool;
+    /// Whether `interval` seconds are over since a text was kept last, or the clock was set back by so many.
+    fn is_text_due(&self, interval: u64) -> bool;
 
     /// Whether a user made or killed the last buffer of this name before the journal was opened. What a configuration has under such a name
     /// is another buffer.

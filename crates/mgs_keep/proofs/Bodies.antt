@@ -1,6 +1,5 @@
 -- Texts as UTF-8, piece by piece, and the buffers whose they are.
-use Rattle.std.proofs.Common.{◌≡◌, ℕ, zero, suc, ◌+◌, ◌<◌, ◌≤◌, Bool, true, false, List, [], ◌∷◌, ◌++◌, map, drop, length, Option, Some, refl, sym, ap, ◌∙◌, subst, append_assoc, append-nil}
-use Rattle.std.proofs.Math.ListN.{drop_of_length-le}
+use Rattle.std.proofs.Common.{◌≡◌, ℕ, zero, suc, ◌+◌, ◌<◌, Bool, true, false, List, [], ◌∷◌, ◌++◌, map, drop, length, Option, Some, refl, sym, ap, ◌∙◌, subst, append_assoc}
 use Rattle.std.proofs.lemmas.List.{drop_more}
 use Rattle.std.proofs.lemmas.Slice.Eq.{bytes_eq-Decides}
 use Rattle.std.specs.Prelude.{find, get_or, slice_get, IsSome, if◌then◌else◌}
@@ -39,10 +38,6 @@ piece_more body put text piece at split made so =
     ∙ ap (λ (bs : List ℕ). body ++ bs) (sym (encodes_then piece (drop (at + length piece) text)))
     ∙ ap (λ (cs : List ℕ). body ++ encode_utf8_all cs) (sym split)
     ∙ so
-
--- nothing is left
-pub all_pushed : (body text all : List ℕ) (i : ℕ) → length text ≤ i → body ++ encode_utf8_all (drop i text) ≡ all → body ≡ all
-all_pushed body text all i past so = sym (append-nil body) ∙ ap (λ (cs : List ℕ). body ++ encode_utf8_all cs) (sym (drop_of_length-le text {i = i} past)) ∙ so
 
 -- THE BUFFER of a name that stands at a place
 

@@ -14,10 +14,6 @@ pub said_is : (o : Option Session) (user : List ℕ) → Some user ≡ user_in o
 said_is None user is = cc
 said_is (Some x) user is = ap (λ (u : List ℕ). said u x.state.echo) (some_is user x.user is)
 
-pub nobody_said : (o : Option Session) → None ≡ user_in o → None ≡ said_to o
-nobody_said None none = refl
-nobody_said (Some x) none = cc
-
 read_by : (b : Bool) (text : List ℕ) (o : Option (List ℕ)) → (IsSome o ↔ IsTrue b) → IfSome o (λ n. n ≡ text) → o ≡ cond b (Some text) None
 read_by true text (Some n) is value = ap (λ (x : List ℕ). Some x) value
 read_by true text None is value = let e = is.1 refl in cc
@@ -31,7 +27,3 @@ read_is text o is value = read_by (is_name text) text o is value
 pub text_in : (o : Option (List ℕ)) (text : List ℕ) → Some text ≡ o → name_in_text text ≡ o >>= name_in_text
 text_in None text is = cc
 text_in (Some t) text is = ap name_in_text (some_is text t is)
-
-pub no_text_in : (o : Option (List ℕ)) → None ≡ o → None ≡ o >>= name_in_text
-no_text_in None is = refl
-no_text_in (Some t) is = cc

@@ -10,6 +10,9 @@ pub(crate) struct Standing {
     pub(crate) modified: bool,
 }
 
+/// The seconds of the journal's clock from the last text that was kept to the next round.
+pub(crate) const TEXT_SECONDS: u64 = 1;
+
 // How no buffer stands: nothing is known of how one did. No edit has this serial before its buffer is full.
 const NOWHERE: Standing = Standing {
     serial: u64::MAX,

@@ -3,7 +3,7 @@ ghost use Rattle.std.specs.Prelude.{◌≡◌, ◌++◌, false, IfOk, OnOk, stri
 ghost use Rattle.std.specs.Str.{encode_utf8_all};
 ghost use Rattle.mgs_keep.specs.Keeping.{AreKept, HasPut, OrFails};
 
-use crate::round::{Round, Standing};
+use crate::round::{Round, Standing, TEXT_SECONDS};
 use mgs_engine::Engine;
 use mgs_journal::{Journal, JournalFault, Room, Snapshot};
 use mgs_marks::Marked;
@@ -195,7 +195,7 @@ pub(crate) fn keep_next<T: Marked + Drop, S: Store + Drop, J: Journal>(
     ensures kept { failed.new ≡ false → J.kept journal.new ≡ J.kept journal.old }
     ensures journal { OrFails J.fails (HasPut J.does engine.now) failed.old journal.old failed.new journal.new }
 {
-    let Some(from) = round.next(journal.is_text_due()) else {
+    let Some(from) = round.next(journal.is_text_due(TEXT_SECONDS)) else {
         return;
     };
     for place in from..engine.buffers().len() {

@@ -71,6 +71,7 @@ pub(crate) struct Book {
     texts: Vec<Option<Page>>,
     words: String,
     left: usize,
+    is_due: bool,
 }
 
 impl Book {
@@ -82,6 +83,15 @@ impl Book {
             texts: Vec::new(alloc),
             words: String::new(alloc),
             left,
+            is_due: true,
+        }
+    }
+
+    /// One for which no text is ever due.
+    pub(crate) fn without_texts(alloc: Global) -> Book {
+        Book {
+            is_due: false,
+            ..Book::new(alloc, 100)
         }
     }
 
@@ -193,8 +203,8 @@ impl Journal for Book {
         }
     }
 
-    fn is_text_due(&self) -> bool {
-        true
+    fn is_text_due(&self, _interval: u64) -> bool {
+        self.is_due
     }
 
     fn is_taken(&self, _name: &Name) -> bool {

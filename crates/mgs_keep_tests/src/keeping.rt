@@ -12,6 +12,11 @@ use std::process::Abort;
 
 // The buffer `notes` of ann, which bob may read, with a journal that takes so many calls.
 fn serve(alloc: Global, calls: usize, rt: &impl Abort) -> Server {
+    serve_with(alloc, Book::new(alloc, calls), rt)
+}
+
+// The same with this journal.
+fn serve_with(alloc: Global, book: Book, rt: &impl Abort) -> Server {
     let list = list_of(&["ALLOW OWNER@ rwatdcCo", "ALLOW bob rt"], rt);
     let mut buffers = Buffers::new(alloc);
     assert!(rt;
@@ -25,7 +30,7 @@ fn serve(alloc: Global, calls: usize, rt: &impl Abort) -> Server {
     let Ok(engine) = Engine::new(alloc, core) else {
         panic!(rt; "no memory");
     };
-    match Kept::new(alloc, engine, Book::new(alloc, calls)) {
+    match Kept::new(alloc, engine, book) {
         Ok(kept) => kept,
         Err(_) => panic!(rt; "not kept"),
     }
@@ -112,6 +117,18 @@ fn texts_are_kept_as_they_stand(rt: HostRuntime) {
         server.journal().words().get(before..)
             == Some("notes is as its file n\nnotes is edited abn\n")
     );
+}
+
+// Where no text is due, none is kept.
+#[test]
+fn a_text_that_is_not_due_is_not_kept(rt: HostRuntime) {
+    let mut server = serve_with(rt.alloc(), Book::without_texts(rt.alloc()), &rt);
+    let ann = sit(&mut server, "ann", &rt);
+    let before = server.journal().words().len();
+    press(&mut server, ann, b"ab");
+    server.tell_ended();
+    server.tell_ended();
+    assert!(rt; server.journal().words().get(before..) == Some(""));
 }
 
 // What ann types, and the text that is kept in each of the turns that follow, until none is left.

@@ -265,9 +265,8 @@ impl<S: Alter + Drop, C: Clock + Drop, W: Write + Drop> Journal for Ledger<S, C,
         snapshot_at(self.texts.as_slice(), i)
     }
 
-    // A second is over since one was kept.
-    fn is_text_due(&self) -> bool {
-        self.log.is_text_due()
+    fn is_text_due(&self, interval: u64) -> bool {
+        self.log.is_text_due(interval)
     }
 
     // The tables have the text, and with it what was gathered, once the call returns.

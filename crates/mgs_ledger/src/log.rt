@@ -26,9 +26,6 @@ use std::time::Clock;
 /// How many events are gathered at most before they are committed.
 pub const GATHER_LIMIT: usize = 256;
 
-/// The seconds of the clock from one text that is kept to the next.
-const TEXT_SECONDS: u64 = 1;
-
 // The memory that is set aside for a commit, in bytes: a text has 4 MB at most, of which SQLite makes a copy and a row, beside its pages.
 const ROOM: usize = 16_777_216;
 
@@ -263,10 +260,10 @@ impl<S: Alter + Drop, C: Clock + Drop, W: Write + Drop> Log<S, C, W> {
         Ok(())
     }
 
-    /// Whether `TEXT_SECONDS` are over since a text was kept last, or the clock was set back by so many.
-    pub(crate) fn is_text_due(&self) -> bool {
+    /// Whether `interval` seconds are over since a text was kept last, or the clock was set back by so many. Where it cannot be read, they are.
+    pub(crate) fn is_text_due(&self, interval: u64) -> bool {
         match seconds(&self.clock) {
-            Ok(now) => now.abs_diff(self.text_second) >= TEXT_SECONDS,
+            Ok(now) => now.abs_diff(self.text_second) >= interval,
             Err(_) => true,
         }
     }

@@ -1,5 +1,5 @@
 // Calls that say nothing, so that the proof of a test does not carry the state of each.
-use crate::desk::Desk;
+use crate::desk::{Desk, Dial};
 use mgs_acl::{List, print_entry, read_entry};
 use mgs_buffers::Rights;
 use mgs_journal::{Journal, Told};
@@ -100,6 +100,21 @@ pub(crate) fn set_text(
     }
     desk.set_text(i, String::from_str(alloc, body)?, modified, file)?;
     Ok(())
+}
+
+/// Keeps a text of the first buffer if one is due at that second of the clock, and says whether it was.
+pub(crate) fn text_comes(
+    desk: &mut Desk<'_>,
+    dial: &Dial,
+    alloc: Global,
+    second: u32,
+) -> Result<bool, Fail> {
+    dial.set(second);
+    let due = desk.is_text_due(1);
+    if due {
+        set_text(desk, alloc, 0, "a", false, 0)?;
+    }
+    Ok(due)
 }
 
 /// What is kept of the text of a buffer: whether it was modified, the sum of its file's and the text, or `-`.

@@ -7,6 +7,9 @@ use std::io::{self, Write};
 use std::test::Fail;
 use std::time::{Clock, Duration};
 
+// 2026-11-29T01:22:33Z.
+const START: u64 = 1_795_915_353;
+
 /// A clock that stands still until it is set, and a count of lines.
 #[derive(Drop)]
 pub(crate) struct Dial {
@@ -19,7 +22,7 @@ impl Dial {
     /// A clock that stands at 2026-11-29T01:22:33Z.
     pub(crate) fn new() -> Dial {
         Dial {
-            seconds: Cell::new(1_795_915_353),
+            seconds: Cell::new(START),
             lines: Cell::new(0),
         }
     }
@@ -27,6 +30,11 @@ impl Dial {
     /// How many lines the writers of ledgers with this clock took.
     pub(crate) fn line_count(&self) -> u64 {
         self.lines.get()
+    }
+
+    /// Sets the clock to so many seconds after it began.
+    pub(crate) fn set(&self, seconds: u32) {
+        self.seconds.set(START.saturating_add(u64::from(seconds)));
     }
 
     /// Lets a second pass.

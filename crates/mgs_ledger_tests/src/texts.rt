@@ -1,5 +1,5 @@
 // What comes back of texts.
-use crate::calls::{add, come, forget, remove, set, set_text, text};
+use crate::calls::{add, come, forget, remove, set, set_text, text, text_comes};
 use crate::desk::{Desk, Dial, all_lines, begin, resume, tables};
 use std::alloc::Global;
 use std::test::Fail;
@@ -39,6 +39,28 @@ fn a_text_comes_back_as_it_was_kept_last(rt: HostRuntime) -> Result<(), Fail> {
         "true 9223372036854775807 a\u{0}\u{e9}\u{2014}\u{10ffff}\n"
     );
     assert_eq!(rt; text(rt.alloc(), &desk, 2)?.as_str(), "-");
+    Ok(())
+}
+
+// Seconds at which a text comes, and whether it is due: a second is over since one was kept, or the clock was set back by one.
+const MOMENTS: [(u32, bool); 8] = [
+    (70, true),
+    (70, false),
+    (71, true),
+    (71, false),
+    (73, true),
+    (72, true),
+    (72, false),
+    (0, true),
+];
+
+#[test]
+fn a_text_is_due_once_a_second_is_over(rt: HostRuntime) -> Result<(), Fail> {
+    let dial = Dial::new();
+    let mut desk = two(rt.alloc(), &dial)?;
+    for &(second, due) in &MOMENTS {
+        assert!(rt; text_comes(&mut desk, &dial, rt.alloc(), second)? == due);
+    }
     Ok(())
 }
 

@@ -1,4 +1,4 @@
-// What is kept of a file whose text is replaced.
+// The attributes of a file whose text is replaced: the new one keeps its mode, owner and group.
 ghost use Rattle.std.specs.Prelude.{◌≡◌, ◌≢◌, ◌↔◌, IsTrue, bit_and};
 ghost use Rattle.std.specs.Option.{option_map, unwrap_or};
 ghost use Rattle.std.specs.Fs.{IsFile, file_type, metadata_mode};
