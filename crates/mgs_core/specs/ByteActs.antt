@@ -3,7 +3,7 @@ use Rattle.std.specs.Prelude.{◌≡◌, ℕ, Bool, true, false, List, [], Optio
 use Rattle.mgs_model.specs.World as model
 use Rattle.mgs_model.specs.World.{World}
 use Rattle.mgs_model.specs.Outcome.{Act, Run, Unbound}
-use Rattle.mgs_model.specs.Turns.{command_for}
+use Rattle.mgs_model.specs.Questions.{command_for}
 use Rattle.mgs_model.specs.Events.{with_state}
 use Rattle.mgs_model.specs.declared.message.Message.TheVariants.{NoMemory, Silent}
 use Rattle.mgs_model.specs.declared.session.Command.TheVariants as commands

@@ -1,31 +1,11 @@
 // The last row where it waits for keys: a prompt, a search, a query-replace.
 ghost use Rattle.std.specs.Prelude.{◌≡◌, ◌<◌, ◌^◌, ◌++◌, length, codes};
 ghost use Rattle.mgs_model.specs.Cells.{cells};
-ghost use Rattle.mgs_model.specs.Prompts.{prompt_text, prompt_line, search_text};
+ghost use Rattle.mgs_model.specs.Prompts.{prompt_line, search_text};
 ghost use Rattle.mgs_grid.specs.Cells.{over};
 
 use crate::cells::{put_chars, put_text};
 use mgs_model::{Direction, Question};
-
-fn prompt_text(question: Question) -> &'static [u8]
-    ensures { result.now ≡ prompt_text question }
-{
-    match question {
-        Question::SwitchTo => b"Switch to buffer: ",
-        Question::FindWhich => b"Find file: ",
-        Question::KillWhich => b"Kill buffer: ",
-        Question::InsertWhich => b"Insert buffer: ",
-        Question::RunWhich => b"M-x ",
-        Question::GoToWhich => b"Goto line: ",
-        Question::EntryToInsert => b"Entry: ",
-        Question::EntryToReplace => b"Entry: ",
-        Question::WhichOwner => b"Owner: ",
-        Question::WhichGroup => b"Group: ",
-        Question::SearchWhat(_) => b"Search: ",
-        Question::ReplaceWhat => b"Query replace: ",
-        Question::ReplaceWith => b"With: ",
-    }
-}
 
 /// Writes the cells of a prompt's line into a row that shows the line from column `shift` on, and tells the column after
 /// them: the prompt and, behind it, what was typed. Cells that are not in sight are passed over.
@@ -40,7 +20,7 @@ pub(crate) fn put_prompt(
     ensures next { result ≡ length (cells (prompt_line question input.now)) }
     ensures few { result < 2 ^ 40 }
 {
-    let start = put_chars(row, shift, 0, prompt_text(question));
+    let start = put_chars(row, shift, 0, question.asking().text);
     put_text(row, shift, start, input)
 }
 

@@ -4,10 +4,11 @@
 ghost use Rattle.std.specs.Prelude.{◌≡◌, ◌≤◌, ℕ, List, [], length, IfSome, false};
 ghost use Rattle.std.specs.Option.{option_map};
 ghost use Rattle.mgs_model.specs.Keys.{is_graphic};
+ghost use Rattle.mgs_model.specs.Questions.{names_buffers, names_commands};
 ghost use Rattle.mgs_model.specs.Searching.{lengthened};
 ghost use Rattle.mgs_model.specs.Sequences.{sequence_read};
 ghost use Rattle.mgs_model.specs.declared.session.Question.{Question};
-ghost use Rattle.mgs_model.specs.Turns.{prompt_turn, prompt_keys, prompt_key, names_buffers, names_commands};
+ghost use Rattle.mgs_model.specs.Turns.{prompt_turn, prompt_keys, prompt_key};
 ghost use Rattle.mgs_model.specs.declared.session.Question.TheVariants.{ReplaceWith};
 ghost use Rattle.mgs_mini.specs.Typing.{IsCompletion, IsFirst, IsPromptTurn, IsTurn, IsWaiting, is_within, keys_of, typed_state, typed_turn, last_dropped};
 ghost use Rattle.mgs_mini.specs.declared.Waiting.TheVariants.{NoKey};
@@ -18,7 +19,7 @@ mod recording;
 
 use arrayvec::ArrayVec;
 pub use completing::{completion, narrowed};
-use mgs_model::{Question, Sequence, TYPED_LIMIT, read_sequence};
+use mgs_model::{Question, Sequence, TYPED_LIMIT, Wanted, read_sequence};
 pub use recording::Recorder;
 use std::marker::Model;
 
@@ -82,33 +83,6 @@ impl Model for Prompt {
     ghost use Rattle.mgs_mini.specs.Typing.{IsFirst, IsWaiting};
 
     ghost invariant = { λ p. IsFirst p.question p.first.items × IsWaiting p.waiting };
-}
-
-fn names_buffers(question: Question) -> bool
-    ensures { result ≡ names_buffers question }
-{
-    match question {
-        Question::SwitchTo | Question::FindWhich | Question::KillWhich | Question::InsertWhich =>
-            true,
-        Question::RunWhich
-        | Question::GoToWhich
-        | Question::EntryToInsert
-        | Question::EntryToReplace
-        | Question::WhichOwner
-        | Question::WhichGroup
-        | Question::SearchWhat(_)
-        | Question::ReplaceWhat
-        | Question::ReplaceWith => false,
-    }
-}
-
-fn names_commands(question: Question) -> bool
-    ensures { result ≡ names_commands question }
-{
-    match question {
-        Question::RunWhich => true,
-        _ => false,
-    }
 }
 
 // What waits after a byte of ASCII that is typed behind keys.
@@ -302,14 +276,14 @@ impl Prompt {
     pub fn names_buffer(&self) -> bool
         ensures { result ≡ names_buffers self.now.question }
     {
-        names_buffers(self.question)
+        self.question.asking().wanted == Wanted::BufferName
     }
 
     /// Whether the answer names a command: a TAB then completes it.
     pub fn names_command(&self) -> bool
         ensures { result ≡ names_commands self.now.question }
     {
-        names_commands(self.question)
+        self.question.asking().wanted == Wanted::CommandName
     }
 
     /// What a byte comes to. The input and the keys that are half read are then as the byte left them; an answer, a prompt

@@ -1,26 +1,11 @@
 -- The lines of the modes in the echo row.
 use Rattle.std.specs.Prelude.{ℕ, Bool, true, false, List, ◌++◌, Option, Some, None, codes}
+use Rattle.mgs_model.specs.Questions.{prompt_text}
 use Rattle.mgs_model.specs.declared.search.Direction.{Direction}
 use Rattle.mgs_model.specs.declared.search.Direction.TheVariants.{Forward, Backward}
 use Rattle.mgs_model.specs.declared.session.Mode.{Mode}
 use Rattle.mgs_model.specs.declared.session.Mode.TheVariants.{Plain, Prompt, Searching, Replacing}
 use Rattle.mgs_model.specs.declared.session.Question.{Question}
-use Rattle.mgs_model.specs.declared.session.Question.TheVariants.{SwitchTo, FindWhich, KillWhich, InsertWhich, RunWhich, GoToWhich, EntryToInsert, EntryToReplace, WhichOwner, WhichGroup, SearchWhat, ReplaceWhat, ReplaceWith}
-
-abbrev pub prompt_text : Question → List ℕ
-prompt_text SwitchTo = codes "Switch to buffer: "
-prompt_text FindWhich = codes "Find file: "
-prompt_text KillWhich = codes "Kill buffer: "
-prompt_text InsertWhich = codes "Insert buffer: "
-prompt_text RunWhich = codes "M-x "
-prompt_text GoToWhich = codes "Goto line: "
-prompt_text EntryToInsert = codes "Entry: "
-prompt_text EntryToReplace = codes "Entry: "
-prompt_text WhichOwner = codes "Owner: "
-prompt_text WhichGroup = codes "Group: "
-prompt_text (SearchWhat d) = codes "Search: "
-prompt_text ReplaceWhat = codes "Query replace: "
-prompt_text ReplaceWith = codes "With: "
 
 -- the input stands behind the prompt
 abbrev pub prompt_line : Question → List ℕ → List ℕ

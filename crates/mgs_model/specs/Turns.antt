@@ -4,6 +4,7 @@ use Rattle.mgs_model.specs.World.{State, Todo, Typed, Played, Replace_all, Play}
 use Rattle.mgs_model.specs.Keys.{input_limit, is_graphic, ends_in_escape, value_of, KeyRead, Half, Bound, Not_bound, key_read, is_character_byte, character_read}
 use Rattle.mgs_model.specs.Commands.{find_command, command_names}
 use Rattle.mgs_model.specs.Names.{same_name}
+use Rattle.mgs_model.specs.Questions.{command_for, names_buffers, names_commands}
 use Rattle.mgs_model.specs.View.{View}
 use Rattle.mgs_model.specs.Completion.{completion, shown_names}
 use Rattle.mgs_model.specs.Outcome.{Act, Unbound, Run}
@@ -25,11 +26,9 @@ use Rattle.mgs_model.specs.declared.session.Replacement.TheVariants.{ReplaceMatc
 use Rattle.mgs_model.specs.declared.session.Kind.TheVariants.{Other}
 use Rattle.mgs_model.specs.declared.session.Setting.TheVariants.{CallMacro}
 use Rattle.mgs_model.specs.declared.session.Question.{Question}
-use Rattle.mgs_model.specs.declared.session.Question.TheVariants.{SwitchTo, FindWhich, KillWhich, InsertWhich, RunWhich, GoToWhich, EntryToInsert, EntryToReplace, WhichOwner, WhichGroup, SearchWhat, ReplaceWhat, ReplaceWith}
-use Rattle.mgs_model.specs.declared.session.ByName.TheVariants.{SwitchToBuffer, KillBuffer, InsertBuffer}
-use Rattle.mgs_model.specs.declared.session.EntryChange.TheVariants.{InsertEntry, ReplaceEntry}
+use Rattle.mgs_model.specs.declared.session.Question.TheVariants.{RunWhich, GoToWhich, SearchWhat, ReplaceWhat, ReplaceWith}
 use Rattle.mgs_model.specs.declared.session.Command.{Command}
-use Rattle.mgs_model.specs.declared.session.Command.TheVariants.{Move, Seek, Replace, Set, Ask, Named, Entries, SetOwner, SetGroup, LeaveSearch}
+use Rattle.mgs_model.specs.declared.session.Command.TheVariants.{Move, Seek, Replace, Set, Ask, LeaveSearch}
 
 -- TURNS
 
@@ -75,34 +74,6 @@ abbrev pub unbound_state : State → State
 unbound_state state = record state { echo = KeyNotBound; keys = []; kind = Other; todo = [] }
 
 -- THE INPUT OF A PROMPT
-
--- the command that an answer is for: a file that is looked for is a buffer of its name, and a command's name is looked up
-abbrev pub command_for : Question → Command
-command_for SwitchTo = Named SwitchToBuffer
-command_for FindWhich = Named SwitchToBuffer
-command_for KillWhich = Named KillBuffer
-command_for InsertWhich = Named InsertBuffer
-command_for RunWhich = Ask RunWhich
-command_for GoToWhich = Move GoToLine
-command_for EntryToInsert = Entries InsertEntry
-command_for EntryToReplace = Entries ReplaceEntry
-command_for WhichOwner = SetOwner
-command_for WhichGroup = SetGroup
-command_for (SearchWhat d) = Seek (SearchFor d)
-command_for ReplaceWhat = Ask ReplaceWith
-command_for ReplaceWith = Seek StartReplace
-
--- what may be completed: the name of a buffer, or of a command
-abbrev pub names_buffers : Question → Bool
-names_buffers SwitchTo = true
-names_buffers FindWhich = true
-names_buffers KillWhich = true
-names_buffers InsertWhich = true
-names_buffers _ = false
-
-abbrev pub names_commands : Question → Bool
-names_commands RunWhich = true
-names_commands _ = false
 
 abbrev pub names_completed : View → Question → List (List ℕ)
 names_completed v c = cond (names_buffers c) (shown_names v) (cond (names_commands c) command_names [])

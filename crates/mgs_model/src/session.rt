@@ -1,5 +1,6 @@
 // The words for a session's state.
 ghost use Rattle.std.specs.Prelude.{◌≡◌};
+ghost use Rattle.mgs_model.specs.Questions.{asked};
 
 use crate::name::Name;
 use crate::search::{Direction, SearchStep};
@@ -303,6 +304,51 @@ pub enum Question {
     ReplaceWhat,
     /// `With:`, of M-% then: what is put in its place, which may be nothing.
     ReplaceWith,
+}
+
+/// What a question wants for an answer. A TAB completes a name.
+#[derive(Clone, Copy, PartialEq, Eq)]
+pub enum Wanted {
+    /// The name of a buffer.
+    BufferName,
+    /// The name of a command.
+    CommandName,
+    /// Any text.
+    AnyText,
+}
+
+/// A row of the table of questions.
+#[derive(Clone, Copy)]
+pub struct Asking {
+    /// What stands before the answer.
+    pub text: &'static [u8],
+    /// What is wanted.
+    pub wanted: Wanted,
+}
+
+impl Question {
+    /// The question's row.
+    pub fn asking(self) -> Asking
+        ensures text { result.text.now ≡ (asked self).text }
+        ensures wanted { result.wanted ≡ (asked self).wanted }
+    {
+        let (text, wanted): (&[u8], Wanted) = match self {
+            Question::SwitchTo => (b"Switch to buffer: ", Wanted::BufferName),
+            Question::FindWhich => (b"Find file: ", Wanted::BufferName),
+            Question::KillWhich => (b"Kill buffer: ", Wanted::BufferName),
+            Question::InsertWhich => (b"Insert buffer: ", Wanted::BufferName),
+            Question::RunWhich => (b"M-x ", Wanted::CommandName),
+            Question::GoToWhich => (b"Goto line: ", Wanted::AnyText),
+            Question::EntryToInsert => (b"Entry: ", Wanted::AnyText),
+            Question::EntryToReplace => (b"Entry: ", Wanted::AnyText),
+            Question::WhichOwner => (b"Owner: ", Wanted::AnyText),
+            Question::WhichGroup => (b"Group: ", Wanted::AnyText),
+            Question::SearchWhat(_) => (b"Search: ", Wanted::AnyText),
+            Question::ReplaceWhat => (b"Query replace: ", Wanted::AnyText),
+            Question::ReplaceWith => (b"With: ", Wanted::AnyText),
+        };
+        Asking { text, wanted }
+    }
 }
 
 /// What a word of keys tells a session to do, by what it may see and do.

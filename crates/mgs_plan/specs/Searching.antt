@@ -1,7 +1,7 @@
 -- What is searched for, and what an answer gives its command.
 use Rattle.std.specs.Prelude.{ℕ, ◌==◌, List, length, Option, cond}
 use Rattle.mgs_model.specs.Outcome.{Act, Run}
-use Rattle.mgs_model.specs.Turns.{command_for}
+use Rattle.mgs_model.specs.Questions.{command_for}
 use Rattle.mgs_model.specs.World.{State}
 use Rattle.mgs_model.specs.declared.session.Question.{Question}
 use Rattle.mgs_model.specs.declared.session.Question.TheVariants.{SearchWhat}
