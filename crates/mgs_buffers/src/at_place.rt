@@ -35,7 +35,7 @@ impl<T: Marked + Drop> Buffer<T> {
         ensures err { OnErr result (Changed T.text T.marks (λ k. k) self.old self.new) }
     {
         // For the range of a serial.
-        let _serial = self.record.serial();
+        prove!(self.record.serial() <= u64::MAX);
         self.edit(a, b, put)
     }
 }
@@ -58,7 +58,7 @@ impl<T: Marked + Drop> Buffers<T> {
         ensures limit { length (T.text result.now) ≤ 1048576 }
     {
         // Tells the prover that each text is within the limit.
-        let _count = self.len();
+        prove!(self.len() <= usize::MAX);
         self.buffer_at(name, at).text.text()
     }
 

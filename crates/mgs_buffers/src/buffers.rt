@@ -1,5 +1,5 @@
 // All buffers, by name and in order of creation.
-ghost use Rattle.std.specs.Prelude.{◌≡◌, ◌+◌, ◌-◌, ◌<◌, ◌≤◌, ◌∷◌, [], ◌++◌, List, map, find, length, None, false, count_by, is_some, slice_get};
+ghost use Rattle.std.specs.Prelude.{◌≡◌, ◌+◌, ◌-◌, ◌<◌, ◌≤◌, ◌∷◌, [], ◌++◌, List, map, find, length, None, false, count_by, is_some, slice_get, true};
 ghost use Rattle.std.specs.Prelude.{OnOk, OnErr, IfOk, IfSome};
 ghost use Rattle.std.specs.Option.{option_copied, option_map};
 ghost use Rattle.mgs_undo.specs.History.{has_serial};
@@ -438,8 +438,18 @@ impl<T: Marked + Drop> Buffers<T> {
         ensures limit { result ≤ 1048576 }
     {
         // Tells the prover that each text is within the limit.
-        let _count = self.len();
+        prove!(self.len() <= usize::MAX);
         self.buffer(name).text.text().len()
+    }
+
+    /// Whether the buffer's text is within the limit, which it always is: `prove!` says so where positions are added up.
+    pub fn is_within_limit(&self, name: &Name) -> bool
+        requires { HasBuffer name.now self.now }
+        ensures value { result ≡ true }
+        ensures limit { length (marked_at name.now self.now).buffer.text ≤ 1048576 }
+    {
+        prove!(self.len() <= usize::MAX);
+        self.has(name)
     }
 
     /// The serial of the buffer's last edit: 0 where there was none.

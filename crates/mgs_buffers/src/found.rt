@@ -148,7 +148,7 @@ impl<'a, T: Marked + Drop> Found<'a, T> {
         ensures limit { length (T.text result.now) ≤ 1048576 }
     {
         // Tells the prover that each text is within the limit.
-        let _count = self.buffers.len();
+        prove!(self.buffers.len() <= usize::MAX);
         self.buffer().text.text()
     }
 

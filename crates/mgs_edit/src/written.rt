@@ -46,14 +46,7 @@ fn exchanged<T: Text>(alloc: Global, text: &T, at: usize) -> Result<Vec<char>, S
     requires within { at + 1 ≤ length (T.text text.now) }
     ensures { IfOk result (λ v. v.items ≡ slice_range (T.text text.now) at (at + 1) ++ slice_range (T.text text.now) (at - 1) at) }
 {
-    // A position is far below the greatest number.
-    let _size = text.len();
-    let mut chars = text.copy(at, at + 1)?;
-    let before = text.copy(at - 1, at)?;
-    match chars.extend_from_slice(&before) {
-        Ok(()) => Ok(chars),
-        Err(_) => Err(Short),
-    }
+    Vec::from_slice(alloc, &[text.at(at), text.at(at - 1)]).map_err(|_| Short)
 }
 
 /// A stretch of the text, in another case.

@@ -102,16 +102,6 @@ marked_shown old new e l =
     let same : same_picture old.shown old.next ≡ true = sym (not_twice (same_picture old.shown old.next)) ∙ ap not (sym (ap (λ (x : Screen). x.late) e) ∙ l) in
     ap (λ (x : Screen). x.shown) e ∙ (picture_Decides old.shown old.next).0 same
 
-pub marked_repaint : (old new : Screen) → new ≡ record old { late = not (same_picture old.shown old.next) } → IsRepaint old new
-marked_repaint old new e = subst (IsRepaint old) (sym e) (record {
-  id = refl;
-  bytes = [];
-  appended = sym (append-nil old.queue);
-  draws = ([], refl, refl);
-  quiet = λ same. refl;
-  bound = omega arith;
-})
-
 -- and else it is painted
 pub ahead_repaint : (w : World) (old mid new : Screen) (rows : List Bool) → IsAhead w old mid rows → IsRepaint mid new → IsRepaint old new
 ahead_repaint w old mid new rows h r = record {

@@ -1,6 +1,5 @@
 -- What the calls of connections do to the world of an engine.
-use Rattle.std.proofs.Common.{◌≡◌, ℕ, ◌<◌, List, [], ◌∷◌, ◌++◌, drop, length, map, Some, None, Result, Ok, Err, refl, sym, ap, ◌∙◌, subst, arith}
-use Rattle.std.specs.Prelude.{slice_get}
+use Rattle.std.proofs.Common.{◌≡◌, ℕ, List, [], ◌∷◌, ◌++◌, map, Result, Ok, Err, refl, sym, ap, ◌∙◌, subst}
 use Rattle.mgs_model.specs.Events.{Event, Saved, run, run_saves}
 use Rattle.mgs_model.specs.Events as model
 use Rattle.mgs_model.specs.World.{World}
@@ -118,11 +117,3 @@ has_run served new told first calls made =
     }
 
 -- TELLING: there is one less to be told, until none is left
-
-pub less_to_tell : {T : Type 0} (xs : List T) (x : T) → Some x ≡ slice_get xs 0 → length (drop 1 xs) < length xs
-less_to_tell [] x e = absurd cc
-less_to_tell (y ∷ ys) x e = omega arith
-
-pub none_to_tell : {T : Type 0} (xs : List T) → None ≡ slice_get xs 0 → xs ≡ []
-none_to_tell [] e = refl
-none_to_tell (y ∷ ys) e = absurd cc

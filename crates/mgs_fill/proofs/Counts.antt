@@ -5,7 +5,7 @@ use Rattle.std.specs.List.{prefix_len, slice_split}
 use Rattle.std.proofs.lemmas.Bool.{cases_Bool}
 use Rattle.std.proofs.lemmas.List.{drop_more}
 use Rattle.std.proofs.lemmas.List.Folds.{length-prefix_len}
-use Rattle.mgs_model.specs.Cells.{cells, cells_from, glyph}
+use Rattle.mgs_model.specs.Cells.{cells}
 use Rattle.mgs_model.specs.Names.{is_filled}
 use Rattle.mgs_model.specs.Whites.{is_between, text_words, filled_from, filled_words, refilled}
 use Rattle.mgs_fill.specs.Rewriting.{filled_by, is_in_word}
@@ -107,11 +107,3 @@ counted_all xs from to i len fill in_word past all =
     let none : to - i ≡ 0 = omega arith in
     let empty : filled_count in_word (slice_range xs i to) ≡ 0 = ap (λ k. filled_count in_word (take k (drop i xs))) none in
     omega (arith, length_refilled fill (slice_range xs from to), all, empty)
-
--- CELLS of what is left, where the cells so far end in a column
-pub cells_left : (xs : List ℕ) (i column w : ℕ) → i < length xs → w ≡ length (glyph column (get_or xs i 0)) → length (cells_from column (drop i xs)) ≡ w + length (cells_from (column + w) (drop (i + 1) xs))
-cells_left xs i column w within is =
-    let c : ℕ = get_or xs i 0 in
-    let k : ℕ = length (glyph column c) in
-    let here : length (cells_from column (drop i xs)) ≡ k + length (cells_from (column + k) (drop (i + 1) xs)) = ap (λ ys. length (cells_from column ys)) (drop_more xs i 0 within) ∙ length-append (glyph column c) (cells_from (column + k) (drop (i + 1) xs)) in
-    here ∙ sym (ap (λ n. n + length (cells_from (column + n) (drop (i + 1) xs))) is)

@@ -1,5 +1,5 @@
 // Paragraphs that are filled.
-ghost use Rattle.std.specs.Prelude.{◌≡◌, ℕ, ◌+◌, ◌≤◌, ◌++◌, ◌∷◌, length, min, nat_le, slice_range, Ok, IfOk, OnOk};
+ghost use Rattle.std.specs.Prelude.{◌≡◌, ℕ, ◌+◌, ◌<◌, ◌≤◌, ◌^◌, ◌++◌, ◌∷◌, length, min, nat_le, slice_range, Ok, IfOk, OnOk};
 ghost use Rattle.mgs_model.specs.Cells.{cells};
 ghost use Rattle.mgs_model.specs.Plans.{alteration};
 ghost use Rattle.mgs_model.specs.Walks.{over};
@@ -134,10 +134,9 @@ fn filled_by(in_word: bool, c: char) -> usize
 fn filled_len<T: Text>(text: &T, from: usize, to: usize) -> usize
     requires order { from ≤ to }
     requires within { to ≤ length (T.text text.now) }
+    requires fits { to < 2 ^ 61 }
     ensures { (fill : ℕ) → length (refilled fill (slice_range (T.text text.now) from to)) ≡ result }
 {
-    // A position is far below the greatest number.
-    let _size = text.len();
     let mut len = 0;
     let mut in_word = false;
     for i in from..to {

@@ -8,7 +8,7 @@ use std::alloc::Global;
 use std::marker::Model;
 
 // The most characters that a block may have, so that its bytes are below 2 ^ 63.
-const MOST: usize = (1 << 61) - 1;
+pub(crate) const MOST: usize = (1 << 61) - 1;
 
 pub(crate) struct Block {
     cells: Cells,

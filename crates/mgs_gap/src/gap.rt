@@ -1,11 +1,11 @@
 // A text over a block with a gap. A mark is a raw place of the block: its number there, the gap counted.
-ghost use Rattle.std.specs.Prelude.{◌≡◌, ℕ, ◌+◌, ◌-◌, ◌<◌, ◌≤◌, ◌++◌, [], Option, Some, None, length, slice_range, IfOk};
+ghost use Rattle.std.specs.Prelude.{◌≡◌, ℕ, ◌+◌, ◌-◌, ◌<◌, ◌≤◌, ◌++◌, [], length, slice_range, IfOk};
 ghost use Rattle.mgs_marks.specs.Marks.{position_in};
 ghost use Rattle.mgs_gap.specs.Feeds.{AreFeeds, HasRoom};
 ghost use Rattle.mgs_gap.specs.Gapped.{text_of};
 ghost use Rattle.mgs_gap.specs.RawPlaces.{text_place, IsRaw, marks_at};
 
-use crate::block::Block;
+use crate::block::{Block, MOST};
 use crate::feeds::Feeds;
 use crate::lined::{edit_lined, gather_lined};
 use crate::places::{
@@ -103,7 +103,7 @@ impl Text for GapText {
     fn gather(&mut self) {
         let old = self.gap();
         // The block's size bounds every place in it.
-        let _size = self.block.after();
+        prove!(self.block.after() <= MOST);
         let end = self.block.before() + self.block.after();
         let stays = Splice {
             from: end,
@@ -134,9 +134,9 @@ impl Text for GapText {
             count: put.len(),
         };
         // The block's size bounds every place in it, before the edit and after it.
-        let _before = self.block.after();
+        prove!(self.block.after() <= MOST);
         edit_lined(&mut self.block, &mut self.feeds, self.alloc, a, b, put)?;
-        let _after = self.block.after();
+        prove!(self.block.after() <= MOST);
         if leaves_marks(edit, old) {
             return Ok(());
         }
@@ -150,14 +150,14 @@ impl Text for GapText {
 
     fn line_of(&self, p: usize) -> usize {
         // The block's size bounds every place in it.
-        let _size = self.block.after();
+        prove!(self.block.after() <= MOST);
         self.feeds.line_of(self.block.front(), self.block.back(), p)
     }
 
     #[tactic(auto, using(crate::proofs::FeedLists::start_of_within))]
     fn start_of(&self, line: usize) -> usize {
         // The block's size bounds every place in it.
-        let _size = self.block.after();
+        prove!(self.block.after() <= MOST);
         self.feeds
             .start_of(self.block.front(), self.block.back(), line)
     }
@@ -167,7 +167,7 @@ impl Marked for GapText {
     fn add_mark(&mut self, p: usize) -> Result<MarkId, Short> {
         let gap = self.gap();
         // The block's size bounds every place in it.
-        let _size = self.block.after();
+        prove!(self.block.after() <= MOST);
         let id = add_place(&mut self.places, to_raw(gap, p))?;
         Ok(MarkId::of(id))
     }
@@ -178,7 +178,7 @@ impl Marked for GapText {
 
     fn place(&mut self, id: MarkId, p: usize) {
         // The block's size bounds every place in it.
-        let _size = self.block.after();
+        prove!(self.block.after() <= MOST);
         let place = to_raw(self.gap(), p);
         put_place(&mut self.places, id.slot(), place);
     }

@@ -3,7 +3,7 @@ ghost use Rattle.std.specs.Prelude.{◌≡◌, ◌+◌, ◌-◌, ◌≤◌, ◌+
 ghost use Rattle.mgs_gap.specs.Feeds.{AreFeeds, HasRoom};
 ghost use Rattle.mgs_gap.specs.Gapped.{text_of};
 
-use crate::block::Block;
+use crate::block::{Block, MOST};
 use crate::feeds::{Feeds, count};
 use mgs_model::Short;
 use std::alloc::Global;
@@ -19,7 +19,7 @@ pub(crate) fn gather_lined(block: &mut Block, feeds: &mut Feeds)
     ensures room { HasRoom feeds.new }
 {
     // The block's size bounds every place in it.
-    let _size = block.after();
+    prove!(block.after() <= MOST);
     let end = block.before() + block.after();
     feeds.cut_at(block.front(), block.back(), end);
     block.gap_to(end);
@@ -47,7 +47,7 @@ pub(crate) fn edit_lined(
     ensures room { HasRoom feeds.old → HasRoom feeds.new }
 {
     // The block's size bounds every place in it.
-    let _size = block.after();
+    prove!(block.after() <= MOST);
     feeds.make_room(count(put))?;
     block.reserve(alloc, put.len())?;
     feeds.cut_at(block.front(), block.back(), a);

@@ -33,10 +33,6 @@ blanks_are cols n some = All-replicate (IsRow cols) n (plain_row cols []) (whole
 pub one_is : (cols : ℕ) (r : Row) → IsRow cols r → All (IsRow cols) (r ∷ [])
 one_is cols r h = All-cons (IsRow cols) r [] h (All-nil (IsRow cols))
 
-pub unread_are : (cols n : ℕ) (d : Decision) → 2 ≤ cols → All IsPrintable (unread_text d) → All (IsRow cols) (unread_rows cols n d)
-unread_are cols zero d some all = All-nil (IsRow cols)
-unread_are cols (suc n) d some all = All-cons (IsRow cols) (plain_row cols (unread_text d)) (blank_rows cols n) (plain_is cols (unread_text d) some all) (blanks_are cols n some)
-
 -- how many they are
 pub length-text_rows : (cols : ℕ) (shift : ℕ → ℕ) (i h : ℕ) (rest : List ℕ) → length (text_rows cols shift i h rest) ≡ h
 length-text_rows cols shift i zero rest = refl

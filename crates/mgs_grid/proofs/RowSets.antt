@@ -3,7 +3,7 @@ use Rattle.std.proofs.Common.{◌≡◌, ℕ, zero, suc, ◌+◌, ◌<◌, ◌�
 use Rattle.std.specs.Prelude.{Option, slice_get, unwrap_or}
 use Rattle.std.proofs.lemmas.Bool.{cases_Bool, cases_lt, cases_eq}
 use Rattle.std.proofs.lemmas.List.{same_lists}
-use Rattle.std.proofs.lemmas.Option.{slice_get_past, unwrap_or-slice_get}
+use Rattle.std.proofs.lemmas.Option.{unwrap_or-slice_get}
 use Rattle.mgs_model.specs.Rows.{Row}
 use Rattle.mgs_grid.specs.Cells.{rows_put}
 use Rattle.mgs_grid.proofs.Panes.{above_put, below_put}
@@ -57,15 +57,6 @@ in_then r s t first second = record { each = λ i has. second.each i (first.each
 
 pub same_refl : (rows : List Bool) (xs : List Row) → AreSameApart rows xs xs
 same_refl rows xs = record { each = λ i out. refl }
-
--- in a set that has all rows, any rows may differ
-pub same_all : (rows : List Bool) (olds news : List Row) → ((i : ℕ) → i < length olds → has_row i rows ≡ true) → length olds ≡ length news → AreSameApart rows olds news
-same_all rows olds news all size = record {
-  each = λ i out. elim (cases_lt i (length olds)) [
-    | inl within ↦ let has : has_row i rows ≡ true = all i within in absurd (cc)
-    | inr past ↦ slice_get_past news i (omega arith) ∙ sym (slice_get_past olds i past)
-  ];
-}
 
 -- in a set that has none, no row may differ
 pub none_apart : (rows : List Bool) (olds news : List Row) → IsNone rows → AreSameApart rows olds news → length olds ≡ length news → olds ≡ news
@@ -127,16 +118,7 @@ put_apart rows first count new old size put within = record {
   ];
 }
 
--- one row alone
-pub one_apart : (rows : List Bool) (row : ℕ) (r : Row) (old : List Row) → has_row row rows ≡ true → row < length old → AreSameApart rows old (rows_put row (r ∷ []) old)
-one_apart rows row r old has within =
-    put_apart rows row 1 (r ∷ []) old refl (λ i from before. let same : i ≡ row = omega arith in ap (λ k. has_row k rows) same ∙ has) (omega arith)
-
 -- rows that are put after other changes
 pub then_put : (s t : List Bool) (first count : ℕ) (new xs ys zs : List Row) → AreSameApart s xs ys → AreIn s t → zs ≡ rows_put first new ys → length new ≡ count → ((i : ℕ) → first ≤ i → i < first + count → has_row i t ≡ true) → first + count ≤ length ys → AreSameApart t xs zs
 then_put s t first count new xs ys zs before inside is size put within =
     rw is (same_then s t xs ys (rows_put first new ys) before (put_apart t first count new ys size put within) inside)
-
-pub then_one : (s t : List Bool) (row : ℕ) (r : Row) (xs ys zs : List Row) → AreSameApart s xs ys → AreIn s t → zs ≡ rows_put row (r ∷ []) ys → has_row row t ≡ true → row < length ys → AreSameApart t xs zs
-then_one s t row r xs ys zs before inside is has within =
-    rw is (same_then s t xs ys (rows_put row (r ∷ []) ys) before (one_apart t row r ys has within) inside)

@@ -11,7 +11,7 @@ use crate::line::Line;
 use crate::row_set::RowSet;
 use crate::shift::ShiftedRow;
 use crate::window::{clear_rows, draw_rows, take_some};
-use mgs_model::{Decision, Direction, Message, Name, Owners, Question, Short};
+use mgs_model::{Decision, Direction, Message, Name, Owners, Question, ROWS_MAX, Short};
 use mgs_text::Text;
 use std::alloc::Global;
 use std::marker::Model;
@@ -158,7 +158,7 @@ impl Grid {
         ensures row { self.new ≡ record self.old { lines = text_put at 1 0 shift (drop start (T.text text.now)) self.old } }
         ensures pane { CompletesPanes at start shift (T.text text.now) self.old self.new }
     {
-        let _rows = self.rows();
+        prove!(self.rows() <= ROWS_MAX);
         self.draw_line(at, text, start, shift);
     }
 

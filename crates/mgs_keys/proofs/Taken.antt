@@ -1,10 +1,9 @@
 -- Words taken one after the other.
-use Rattle.std.proofs.Common.{◌≡◌, ℕ, false, List, ◌∷◌, ◌++◌, Option, Some, None, is_some, is_none, Bor, refl, sym, ap, ◌∙◌, append_assoc}
+use Rattle.std.proofs.Common.{◌≡◌, ℕ, List, ◌∷◌, ◌++◌, Option, Some, None, is_some, Bor, refl, sym, ap, ◌∙◌, append_assoc}
 use Rattle.std.specs.Option.{option_map}
 use Rattle.mgs_model.specs.Names.{is_space}
 use Rattle.mgs_keys.specs.Words.{words_of, word_of, words_after, parts_after}
-use Rattle.mgs_keys.specs.Tokens.{spelled_by, then_bytes, bytes_in}
-use Rattle.mgs_keys.specs.declared.spelling.Spelling.{Spelling}
+use Rattle.mgs_keys.specs.Tokens.{spelled_by, then_bytes}
 use Rattle.mgs_keys.proofs.Cuts.{parts_cut}
 
 -- the words of what is left of a text
@@ -18,23 +17,6 @@ words_cut t word rest first after = parts_cut is_space t word (option_map (λ x.
 all_some : (bs : List ℕ) (later : Option (List ℕ)) → is_some (then_bytes (Some bs) later) ≡ is_some later
 all_some bs None = refl
 all_some bs (Some cs) = refl
-
--- a word that is a token
-pub token_passes : (f : List ℕ → Option (List ℕ)) (t word : List ℕ) (rest : Option (Bor (List ℕ))) (o : Option Spelling)
-    → words_of t ≡ word ∷ words_left rest → option_map bytes_in o ≡ f word → false ≡ is_none o
-    → is_some (spelled_by f (words_left rest)) ≡ is_some (spelled_by f (words_of t))
-token_passes f t word rest None cut told is = cc
-token_passes f t word rest (Some s) cut told is =
-    sym (all_some (bytes_in s) (spelled_by f (words_left rest)))
-    ∙ ap (λ (x : Option (List ℕ)). is_some (then_bytes x (spelled_by f (words_left rest)))) told
-    ∙ ap (λ (ws : List (List ℕ)). is_some (spelled_by f ws)) (sym cut)
-
--- a word that is no token
-pub token_fails : (f : List ℕ → Option (List ℕ)) (t word : List ℕ) (rest : Option (Bor (List ℕ)))
-    → words_of t ≡ word ∷ words_left rest → None ≡ f word → spelled_by f (words_of t) ≡ None
-token_fails f t word rest cut told =
-    ap (λ (ws : List (List ℕ)). spelled_by f ws) cut
-    ∙ ap (λ (x : Option (List ℕ)). then_bytes x (spelled_by f (words_left rest))) (sym told)
 
 regrouped : (front bs : List ℕ) (later : Option (List ℕ)) → then_bytes (Some front) (then_bytes (Some bs) later) ≡ then_bytes (Some (front ++ bs)) later
 regrouped front bs None = refl

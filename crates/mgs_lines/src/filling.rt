@@ -1,5 +1,5 @@
 // The lines that a paragraph is filled in: those around a position that are not blank.
-ghost use Rattle.std.specs.Prelude.{◌≡◌, ◌≤◌, length};
+ghost use Rattle.std.specs.Prelude.{◌≡◌, ◌<◌, ◌≤◌, ◌^◌, length};
 ghost use Rattle.mgs_model.specs.Lines.{line_end};
 ghost use Rattle.mgs_model.specs.Whites.{paragraph_end, paragraph_start};
 
@@ -33,6 +33,7 @@ pub fn paragraph_end<T: Text>(text: &T, p: usize) -> usize
     ensures from { p ≤ result }
     ensures after { line_end (T.text text.now) p ≤ result }
     ensures within { result ≤ length (T.text text.now) }
+    ensures fits { result < 2 ^ 61 }
 {
     let mut end = line_end(text, p);
     while end < text.len() {

@@ -12,11 +12,12 @@ fn past_feeds<T: Text>(text: &T, p: usize, feeds: usize) -> usize
     ensures value { result ≡ p + start_of feeds (drop p (T.text text.now)) }
     ensures within { result ≤ length (T.text text.now) }
 {
-    let _len = text.len();
     if feeds == 0 {
         return p;
     }
-    text.start_of(text.line_of(p).saturating_add(feeds))
+    // No text has more lines than that.
+    let lines = feeds.min(text.len() + 1);
+    text.start_of(text.line_of(p) + lines)
 }
 
 /// The other end of what a kill of lines takes from a position on. Without an argument that is the line's end, or the place

@@ -129,7 +129,7 @@ impl Text for PlainMarked {
 
     fn replace(&mut self, a: usize, b: usize, put: &[char]) -> Result<(), Short> {
         // No position is above the length, so that none passes its type when it moves.
-        let _length = self.len();
+        prove!(self.len() < 1 << 61);
         self.text.replace(a, b, put)?;
         shift_slots(&mut self.slots, a, b, put.len());
         Ok(())

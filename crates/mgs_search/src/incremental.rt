@@ -1,5 +1,5 @@
 // An incremental search, typed byte by byte.
-ghost use Rattle.std.specs.Prelude.{◌≡◌, ◌+◌, ◌≤◌, [], length, false, is_none, IfSome};
+ghost use Rattle.std.specs.Prelude.{◌≡◌, ◌+◌, ◌<◌, ◌≤◌, ◌^◌, [], length, false, is_none, IfSome};
 ghost use Rattle.mgs_model.specs.Keys.{is_graphic};
 ghost use Rattle.mgs_model.specs.Searching.{lengthened, shortened, dropped, read_byte, match_point, found_places, places_after, sought_after};
 ghost use Rattle.mgs_model.specs.declared.search.SearchStep.TheVariants.{FromAnchor};
@@ -82,17 +82,11 @@ fn back_at_origin(places: SearchPlaces) -> SearchPlaces
 }
 
 // The point at a match.
-pub(crate) fn match_point<T: Text>(
-    text: &T,
-    direction: Direction,
-    p: usize,
-    pattern: &[char],
-) -> usize
-    requires { p + length pattern.now ≤ length (T.text text.now) }
+pub(crate) fn match_point(direction: Direction, p: usize, pattern: &[char]) -> usize
+    requires { p + length pattern.now < 2 ^ 64 }
     ensures value { result ≡ match_point direction pattern.now p }
-    ensures within { result ≤ length (T.text text.now) }
+    ensures within { result ≤ p + length pattern.now }
 {
-    let _len = text.len();
     match direction {
         Direction::Forward => p + pattern.len(),
         Direction::Backward => p,
@@ -193,7 +187,8 @@ impl IncrementalSearch {
         found: Option<usize>,
         places: SearchPlaces,
     ) -> SearchPlaces
-        requires { IfSome found (λ m. m + length self.old.pattern ≤ length (T.text text.now)) }
+        requires within { IfSome found (λ m. m + length self.old.pattern ≤ length (T.text text.now)) }
+        requires fits { IfSome found (λ m. m + length self.old.pattern < 2 ^ 64) }
         ensures sought { self.new ≡ record self.old { failing = is_none found } }
         ensures places { result ≡ found_places found self.old places }
         ensures origin { result.origin ≡ places.origin }
@@ -210,7 +205,7 @@ impl IncrementalSearch {
                 SearchPlaces {
                     origin: places.origin,
                     anchor: p,
-                    point: match_point(text, self.direction, p, self.pattern.as_slice()),
+                    point: match_point(self.direction, p, self.pattern.as_slice()),
                 }
             }
         }

@@ -1,10 +1,9 @@
 //! Searches in a text: a pattern matches whatever the case of its ASCII letters.
 #![tactic(auto)]
 
-ghost use Rattle.std.specs.Prelude.{◌≡◌, ℕ, ◌+◌, ◌<◌, ◌≤◌, List, length, IfSome, true};
+ghost use Rattle.std.specs.Prelude.{◌≡◌, ◌+◌, ◌<◌, ◌≤◌, ◌^◌, length, IfSome, true};
 ghost use Rattle.std.specs.Char.{eq_ignore_ascii_case};
-ghost use Rattle.mgs_search.specs.Borders.{IsBorders, IsHead};
-ghost use Rattle.mgs_model.specs.Searching.{matches_at, first_match, last_match, last_match_before, match_from, match_past};
+ghost use Rattle.mgs_model.specs.Searching.{matches_at, first_match, last_match, match_from, match_past};
 
 mod heads;
 mod incremental;
@@ -30,6 +29,7 @@ pub fn matches_at<T: Text>(text: &T, p: usize, pattern: &[char]) -> bool
     requires { p ≤ length (T.text text.now) }
     ensures value { result ≡ matches_at pattern.now (T.text text.now) p }
     ensures within { result ≡ true → p + length pattern.now ≤ length (T.text text.now) }
+    ensures fits { result ≡ true → p + length pattern.now < 2 ^ 64 }
 {
     if text.len() - p < pattern.len() {
         return false;
@@ -42,25 +42,12 @@ pub fn matches_at<T: Text>(text: &T, p: usize, pattern: &[char]) -> bool
     true
 }
 
-// The first place behind `p` where a head stands, or the end. No pattern that begins so stands at a place between.
-fn next_behind<T: Text>(text: &T, p: usize, head: &[char], borders: &[usize]) -> usize
-    requires inside { p < length (T.text text.now) }
-    requires borders { IsBorders head.now borders.now }
-    requires head { length borders.now ≤ length head.now }
-    requires some { 0 < length borders.now }
-    ensures value { (chars : List ℕ) → IsHead chars head.now → first_match chars (T.text text.now) result ≡ first_match chars (T.text text.now) (p + 1) }
-    ensures order { p < result }
-    ensures within { result ≤ length (T.text text.now) }
-{
-    let _len = text.len();
-    next_headed(text, p + 1, head, borders)
-}
-
 /// The first position from `from` on where a pattern stands.
 pub fn find_forward<T: Text>(text: &T, from: usize, pattern: &[char]) -> Option<usize>
     requires { from ≤ length (T.text text.now) }
     ensures value { result ≡ first_match pattern.now (T.text text.now) from }
     ensures within { IfSome result (λ p. p + length pattern.now ≤ length (T.text text.now)) }
+    ensures fits { IfSome result (λ p. p + length pattern.now < 2 ^ 64) }
 {
     if pattern.is_empty() {
         return Some(from);
@@ -72,7 +59,7 @@ pub fn find_forward<T: Text>(text: &T, from: usize, pattern: &[char]) -> Option<
         if matches_at(text, p, pattern) {
             return Some(p);
         }
-        p = next_behind(text, p, head.as_slice(), borders.as_slice());
+        p = next_headed(text, p + 1, head.as_slice(), borders.as_slice());
     }
     None
 }
@@ -82,6 +69,7 @@ pub fn find_backward<T: Text>(text: &T, from: usize, pattern: &[char]) -> Option
     requires { from ≤ length (T.text text.now) }
     ensures value { result ≡ last_match pattern.now (T.text text.now) from }
     ensures within { IfSome result (λ p. p + length pattern.now ≤ length (T.text text.now)) }
+    ensures fits { IfSome result (λ p. p + length pattern.now < 2 ^ 64) }
 {
     if pattern.is_empty() {
         return Some(from);
@@ -109,6 +97,7 @@ pub fn find_from<T: Text>(
     requires { p ≤ length (T.text text.now) }
     ensures value { result ≡ match_from direction pattern.now (T.text text.now) p }
     ensures within { IfSome result (λ m. m + length pattern.now ≤ length (T.text text.now)) }
+    ensures fits { IfSome result (λ m. m + length pattern.now < 2 ^ 64) }
 {
     match direction {
         Direction::Forward => find_forward(text, p, pattern),
@@ -126,6 +115,7 @@ pub fn find_past<T: Text>(
     requires { p ≤ length (T.text text.now) }
     ensures value { result ≡ match_past direction pattern.now (T.text text.now) p }
     ensures within { IfSome result (λ m. m + length pattern.now ≤ length (T.text text.now)) }
+    ensures fits { IfSome result (λ m. m + length pattern.now < 2 ^ 64) }
 {
     match direction {
         Direction::Forward if p < text.len() => find_forward(text, p + 1, pattern),

@@ -1,5 +1,5 @@
 // A search for what was typed at a prompt.
-ghost use Rattle.std.specs.Prelude.{◌≡◌, ◌+◌, ◌≤◌, length, IfSome, IfOk};
+ghost use Rattle.std.specs.Prelude.{◌≡◌, ◌+◌, ◌<◌, ◌≤◌, ◌^◌, length, IfSome, IfOk};
 ghost use Rattle.mgs_model.specs.Searching.{match_once};
 ghost use Rattle.mgs_search.specs.Planned.{IsSearchPlan};
 
@@ -13,6 +13,7 @@ fn find_once<T: Text>(text: &T, direction: Direction, p: usize, pattern: &[char]
     requires { p ≤ length (T.text text.now) }
     ensures value { result ≡ match_once direction pattern.now (T.text text.now) p }
     ensures within { IfSome result (λ m. m + length pattern.now ≤ length (T.text text.now)) }
+    ensures fits { IfSome result (λ m. m + length pattern.now < 2 ^ 64) }
 {
     match direction {
         Direction::Forward => find_forward(text, p, pattern),
@@ -36,7 +37,7 @@ pub fn search_for<T: Text>(
         return Err(Message::NoPattern);
     }
     match find_once(text, direction, p, pattern) {
-        Some(m) => Ok(match_point(text, direction, m, pattern)),
+        Some(m) => Ok(match_point(direction, m, pattern)),
         None => Err(Message::NotFound),
     }
 }

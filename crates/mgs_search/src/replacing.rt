@@ -38,7 +38,6 @@ pub fn skip_match<T: Text>(text: &T, anchor: usize, old: &[char]) -> Option<usiz
     ensures plan { IsSkipped old.now (T.text text.now) anchor result }
     ensures within { IfSome result (λ m. m + length old.now ≤ length (T.text text.now)) }
 {
-    let _len = text.len();
     if matches_at(text, anchor, old) {
         return find_forward(text, anchor + old.len(), old);
     }
@@ -66,7 +65,6 @@ pub fn replace_match<T: Text>(text: &T, anchor: usize, old: &[char], put: &[char
     requires put { length put.now < 2 ^ 32 }
     ensures { IsReplacement ReplaceMatch old.now put.now (T.text text.now) anchor result }
 {
-    let _len = text.len();
     if !matches_at(text, anchor, old) {
         return MatchPlan {
             replaces: false,

@@ -198,8 +198,8 @@ impl Machine {
         ensures ok { OnOk result (TakesAll (terminal_of self.old) bytes.now (terminal_of self.new)) }
         ensures err { OnErr result (RefusesSome (terminal_of self.old) bytes.now (terminal_of self.new)) }
     {
-        // Reads the terminal once, so that the loop knows its invariant.
-        let _rows = &self.rows;
+        // By this the loop knows the invariant.
+        prove!(self.rows <= usize::MAX);
         for byte in bytes {
             self.feed(*byte)?;
         }

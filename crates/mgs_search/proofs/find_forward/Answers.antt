@@ -16,8 +16,8 @@ loop-p-preserved g c =
     let pattern = c.args.pattern.now in
     let xs : List ℕ = g.T.Text.text c.args.text.now in
     record {
-      within = c.next_behind-p.ensures.within;
-      same = first_passed pattern xs c.loop-p.p c.next_behind-p.result (first_match pattern xs c.args.from) (omega arith) (sym c.matches_at.ensures.value ∙ c.if-matches_at.false) (c.next_behind-p.ensures.value pattern (subst (IsHead pattern) (sym c.as_slice-in-loop-p.ensures.value) c.head_of-head.ensures.head)) c.loop-p.invariant.same;
+      within = c.next_headed-p-in-loop-p.ensures.within;
+      same = first_passed pattern xs c.loop-p.p c.next_headed-p-in-loop-p.result (first_match pattern xs c.args.from) (omega arith) (sym c.matches_at.ensures.value ∙ c.if-matches_at.false) (c.next_headed-p-in-loop-p.ensures.value pattern (subst (IsHead pattern) (sym c.as_slice-in-loop-p.ensures.value) c.head_of-head.ensures.head)) c.loop-p.invariant.same;
     }
 
 pub returns-then-matches_at-clause-value : goal.returns-then-matches_at-clause-value

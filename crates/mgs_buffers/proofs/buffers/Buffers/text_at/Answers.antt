@@ -5,4 +5,4 @@ use Rattle.mgs_buffers.proofs.buffers.Buffers.text_at.Goals as goal
 
 pub returns-clause-limit : goal.returns-clause-limit
 returns-clause-limit g c =
-    omega (arith, limit-at c.args.name.now c.args.self.now c.len-count.ensures.limits, ap (λ (k : MarkedBuffer). length k.buffer.text) c.buffer_at.ensures, ap (λ t. length (g.T.Text.text t)) c.text.ensures)
+    omega (arith, limit-at c.args.name.now c.args.self.now c.len.ensures.limits, ap (λ (k : MarkedBuffer). length k.buffer.text) c.buffer_at.ensures, ap (λ t. length (g.T.Text.text t)) c.text.ensures)

@@ -6,4 +6,4 @@ use Rattle.mgs_buffers.proofs.found.Found.text.Goals as goal
 
 pub returns-clause-limit : goal.returns-clause-limit
 returns-clause-limit g c =
-    omega (arith, limit-at c.args.self.now.name c.args.self.now.all (subst (λ (f : Named). AreWithinLimit f.all) c.self.view_is c.len-count.ensures.limits), ap (λ (k : MarkedBuffer). length k.buffer.text) c.buffer.ensures, ap (λ t. length (g.T.Text.text t)) c.text.ensures)
+    omega (arith, limit-at c.args.self.now.name c.args.self.now.all (subst (λ (f : Named). AreWithinLimit f.all) c.self.view_is c.len.ensures.limits), ap (λ (k : MarkedBuffer). length k.buffer.text) c.buffer.ensures, ap (λ t. length (g.T.Text.text t)) c.text.ensures)

@@ -8,9 +8,9 @@ pub invariant_of-self : goal.invariant_of-self
 invariant_of-self c =
     let now = c.args.self.now in let n = length now.block.front in let g = now.block.gap in let whole = now.block.front ++ now.block.back in let e = length whole in
     let to = c.gather_lined.new.block in let m = length to.front in let h = to.gap in let xs = now.places.slots in
-    let end : c.before-2.result + c.after.result ≡ e = omega (arith, c.before-2.ensures, c.after.ensures.value, length-append now.block.front now.block.back) in
+    let end : c.before-2.result + c.after-2.result ≡ e = omega (arith, c.before-2.ensures, c.after-2.ensures.value, length-append now.block.front now.block.back) in
     let held : c.move_places.new.places.slots ≡ map (option_map (moved n g e e 0 m h)) xs =
-    places_moved c.gap-old.result.start c.gap-old.result.width c.before-3.result c.gap.result (c.before-2.result + c.after.result) n g e m h xs c.move_places.new.places.slots
+    places_moved c.gap-old.result.start c.gap-old.result.width c.before-3.result c.gap.result (c.before-2.result + c.after-2.result) n g e m h xs c.move_places.new.places.slots
     c.gap-old.ensures.start c.gap-old.ensures.width c.before-3.ensures c.gap.ensures end c.move_places.ensures in
     record {
       lines = (c.gather_lined.ensures.feeds, c.gather_lined.ensures.room);
@@ -23,8 +23,8 @@ pub returns-clause-marks : goal.returns-clause-marks
 returns-clause-marks c =
     let now = c.args.self.now in let n = length now.block.front in let g = now.block.gap in let whole = now.block.front ++ now.block.back in let e = length whole in
     let to = c.gather_lined.new.block in let m = length to.front in let h = to.gap in let xs = now.places.slots in
-    let end : c.before-2.result + c.after.result ≡ e = omega (arith, c.before-2.ensures, c.after.ensures.value, length-append now.block.front now.block.back) in
+    let end : c.before-2.result + c.after-2.result ≡ e = omega (arith, c.before-2.ensures, c.after-2.ensures.value, length-append now.block.front now.block.back) in
     let held : c.move_places.new.places.slots ≡ map (option_map (moved n g e e 0 m h)) xs =
-    places_moved c.gap-old.result.start c.gap-old.result.width c.before-3.result c.gap.result (c.before-2.result + c.after.result) n g e m h xs c.move_places.new.places.slots
+    places_moved c.gap-old.result.start c.gap-old.result.width c.before-3.result c.gap.result (c.before-2.result + c.after-2.result) n g e m h xs c.move_places.new.places.slots
     c.gap-old.ensures.start c.gap-old.ensures.width c.before-3.ensures c.gap.ensures end c.move_places.ensures in
     ap (marks_at m h) held ∙ marks_still n g e m h xs now.within

@@ -7,4 +7,4 @@ use Rattle.mgs_grid.proofs.grid.Grid.draw_text_row.Goals as goal
 pub returns-clause-pane : goal.returns-clause-pane
 returns-clause-pane g c = λ i pane is.
     let p : Picture = c.args.self.now in
-    c.draw_line.ensures ∙ ap (λ (ls : List Row). record p { lines = ls }) (text_by_row i c.args.at c.args.start c.args.shift pane (g.T.Text.text c.args.text.now) p c.rows-rows.ensures.picture.count is)
+    c.draw_line.ensures ∙ ap (λ (ls : List Row). record p { lines = ls }) (text_by_row i c.args.at c.args.start c.args.shift pane (g.T.Text.text c.args.text.now) p c.rows.ensures.picture.count is)

@@ -5,7 +5,7 @@ use Rattle.mgs_marks.proofs.plain.PlainMarkedText.replace.Goals as goal
 
 pub shift_slots-requires-clause-fits : goal.shift_slots-requires-clause-fits
 shift_slots-requires-clause-fits c id =
-    omega (arith, c.self.invariant id, ap or_zero (mark_in_get c.self.inside.slots.slots id), ap (λ (v : MarkedText). length v.text) c.self.view_is, c.len-length.ensures.value, c.len-length.ensures.fits)
+    omega (arith, c.self.invariant id, ap or_zero (mark_in_get c.self.inside.slots.slots id), ap (λ (v : MarkedText). length v.text) c.self.view_is, c.len.ensures.value, c.len.ensures.fits)
 
 pub invariant_of-self-2 : goal.invariant_of-self-2
 invariant_of-self-2 c =
