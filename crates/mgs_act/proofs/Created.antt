@@ -1,5 +1,5 @@
 -- A buffer that is made, and one that goes again before a window shows it.
-use Rattle.std.proofs.Common.{◌≡◌, ℕ, ◌<◌, Bool, true, false, cond, List, [], ◌∷◌, ◌++◌, length, map, Option, Some, None, get_or, refl, sym, ap, subst, ◌∙◌, arith}
+use Rattle.std.proofs.Common.{◌≡◌, ℕ, ◌<◌, Bool, true, false, cond, List, [], ◌∷◌, ◌++◌, length, map, Option, Some, None, get_or, refl, sym, ap, ap₂, subst, ◌∙◌, arith}
 use Rattle.std.specs.Prelude.{find, is_some}
 use Rattle.std.specs.List.{position_or_len}
 use Rattle.std.proofs.lemmas.List.{map-append}
@@ -68,14 +68,12 @@ size_created m (x ∷ xs) b e =
 sizes_created : (ks : List MarkedBuffer) (k : MarkedBuffer) → k.buffer.text ≡ [] → SizesStay (buffers_of ks) (buffers_of (ks ++ k ∷ []))
 sizes_created ks k empty = λ n. ap (size_named n) (created_buffers ks k) ∙ size_created n (buffers_of ks) k.buffer empty
 
-pub created_session : (ks : List MarkedBuffer) (k : MarkedBuffer) (x : Session) → k.marks ≡ [] → k.buffer.text ≡ [] → session_of (ks ++ k ∷ []) x ≡ session_of ks x
-created_session ks k x e empty =
-    session_local (ks ++ k ∷ []) ks x (sizes_created ks k empty) (λ n i used. ap (λ (ms : List (Option ℕ)). position_in ms i) (marks_created n ks k e))
-
 pub created_sessions : (ks : List MarkedBuffer) (k : MarkedBuffer) (xs : List Session) → k.marks ≡ [] → k.buffer.text ≡ [] → map (session_of (ks ++ k ∷ [])) xs ≡ map (session_of ks) xs
 created_sessions ks k [] e empty = refl
 created_sessions ks k (x ∷ xs) e empty =
-    ap (λ y. y ∷ map (session_of (ks ++ k ∷ [])) xs) (created_session ks k x e empty) ∙ ap (λ ys. session_of ks x ∷ ys) (created_sessions ks k xs e empty)
+    ap₂ (λ y ys. y ∷ ys)
+    (session_local (ks ++ k ∷ []) ks x (sizes_created ks k empty) (λ n i used. ap (λ (ms : List (Option ℕ)). position_in ms i) (marks_created n ks k e)))
+    (created_sessions ks k xs e empty)
 
 -- IT GOES AGAIN: no mark of it is in use
 
@@ -118,13 +116,10 @@ module _ (name : List ℕ) (ks ls : List MarkedBuffer) (k : MarkedBuffer) (free 
       ∙ sym (buffers_killed name (ks ++ k ∷ []))
       ∙ ap (λ (ms : List MarkedBuffer). buffers_of ms) (removed_last (marked_named name) ks k free named)
 
-  gone_sizes : SizesStay (buffers_of ls) (buffers_of (without_marked name ls))
-  gone_sizes = λ n. ap (size_named n) gone_buffers ∙ sym (sizes_created ks k empty n) ∙ sym (ap (size_named n) dropped.buffers)
-
   pub gone_world : (xs ys : List Session) (directory : Directory) (next : Option ℕ) → IsSound ls ys → world_of directory ls ys next ≡ world_of directory (ks ++ k ∷ []) xs next → world_of directory (without_marked name ls) ys next ≡ world_of directory ks xs next
   gone_world xs ys directory next sound same =
       same_world directory _ _ _ _ (id_after next) gone_buffers
-      (sessions_stay ls (without_marked name ls) ys (sound_in_use ls ys sound) (sound_in_use (without_marked name ls) ys (gone_sound ys sound)) gone_sizes gone_stay
+      (sessions_stay ls (without_marked name ls) ys (sound_in_use ls ys sound) (sound_in_use (without_marked name ls) ys (gone_sound ys sound)) (λ n. ap (size_named n) gone_buffers ∙ sym (sizes_created ks k empty n) ∙ sym (ap (size_named n) dropped.buffers)) gone_stay
       ∙ ap (λ (w : World). w.sessions) same
       ∙ created_sessions ks k xs unmarked empty)
 

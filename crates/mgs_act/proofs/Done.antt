@@ -35,9 +35,10 @@ use Rattle.mgs_plan.specs.declared.outcome.Outcome.{Outcome}
 use Rattle.mgs_plan.proofs.Commands.{outcome_answered}
 use Rattle.mgs_plan.proofs.Deeds.{acting_marks}
 use Rattle.mgs_plan.proofs.Tells.{tells_known}
-use Rattle.mgs_world.specs.Sound.{IsSound}
+use Rattle.mgs_world.specs.Sound.{IsSound, session_uses}
 use Rattle.mgs_act.specs.Doing.{CanDo, DoneBy, IsDone, IsQuietlyDone, IsReady}
 use Rattle.mgs_world.proofs.Owns.{at_rest}
+use Rattle.mgs_world.proofs.Soundness.{sound_set}
 use Rattle.mgs_world.specs.Worlds.{idle, state_at, state_of, state_or_first, session_id, world_of}
 
 -- the session at an index within
@@ -92,9 +93,6 @@ quietly directory at o ks ls xs ys touched does = λ t. record {
       record { world = it.0; touches = it.1; saves = told_none t.accepted (saved_by (outcome_read ks (view_at directory ks xs next h) o true).effect) it.2 };
 }
 
-pub done_as : (directory : Directory) (at : ℕ) (o p : Outcome) (ks ls : List MarkedBuffer) (xs ys : List Session) (s t : StoreTold) (touched : Touched) → o ≡ p → IsDone directory at p ks xs s ls ys t touched → IsDone directory at o ks xs s ls ys t touched
-done_as directory at o p ks ls xs ys s t touched is done = subst (λ q. IsDone directory at q ks xs s ls ys t touched) (sym is) done
-
 -- what touches nothing saves nothing
 pub nowhere_saves_none : (e : Effect) → touched_by e ≡ Nowhere → saved_by e ≡ []
 nowhere_saves_none (Save name text) is = cc
@@ -105,17 +103,20 @@ pub quiet_done : (directory : Directory) (at : ℕ) (o p : Outcome) (ks ls : Lis
     → (let q = outcome_read ks (view_at directory ks xs next h) p true in (world_of directory ls ys next ≡ apply (world_of directory ks xs next) id q) × (touched_by q.effect ≡ Nowhere)))
     → IsDone directory at o ks xs t ls ys t Nowhere
 quiet_done directory at o p ks ls xs ys t is does =
-    done_as directory at o p ks ls xs ys t t Nowhere is
+    subst (λ q. IsDone directory at q ks xs t ls ys t Nowhere) (sym is)
     (quietly directory at p ks ls xs ys Nowhere (λ id next h place found. let it = does id next h place found in (it.0, sym it.1, nowhere_saves_none _ it.1)) t)
 
--- and is done to the session alone
-pub written_done : (directory : Directory) (at : ℕ) (o p : Outcome) (ks : List MarkedBuffer) (xs : List Session) (f : Session → Session) (r y : Session) (t : StoreTold) → o ≡ p → at < length xs → y ≡ f (get_or xs at r)
+-- and is done to the session alone, which uses the marks that it used
+pub written_done : {directory : Directory} {at : ℕ} {ks : List MarkedBuffer} {xs : List Session} {o : Outcome} (p : Outcome) (f : Session → Session) (r y : Session) → IsReady directory at ks xs o → o ≡ p → y ≡ f (get_or xs at r) → ((h : Session) (n : List ℕ) (i : ℕ) → session_uses n i (f h) ≡ session_uses n i h)
     → ((id : ℕ) (next : Option ℕ) (h : Session) → at ≡ position_or_len (session_id id) xs → slice_get xs at ≡ Some h
     → (let q = outcome_read ks (view_at directory ks xs next h) p true in (world_of directory ks (slice_set xs at (f h)) next ≡ apply (world_of directory ks xs next) id q) × (touched_by q.effect ≡ Nowhere)))
-    → IsDone directory at o ks xs t ks (slice_set xs at y) t Nowhere
-written_done directory at o p ks xs f r y t is within new does =
-    quiet_done directory at o p ks ks xs _ t is (λ id next h place found.
-    let it = does id next h place found in (ap (λ z. world_of directory ks (slice_set xs at z) next) (new ∙ ap f (here_is xs at r h within found)) ∙ it.0, it.1))
+    → IsSound ks (slice_set xs at y) × IsQuietlyDone directory at o ks xs ks (slice_set xs at y) Nowhere
+written_done {directory} {at} {ks} {xs} {o} p f r y ready is new uses does =
+    let h = get_or xs at r in (
+      rw new (sound_set ks xs at h (f h) (sym (get_or_from_slice_get xs at h h (slice_get-get_or xs at r ready.within))) (uses h) ready.sound),
+      λ t. quiet_done directory at o p ks ks xs _ t is (λ id next h place found.
+          let it = does id next h place found in (ap (λ z. world_of directory ks (slice_set xs at z) next) (new ∙ ap f (here_is xs at r h ready.within found)) ∙ it.0, it.1)),
+    )
 
 -- A COMMAND OF NO KIND WAS DONE by a session at rest
 pub fresh_acted : (o : held.State) → state_of o ≡ idle (state_of o) → state_of (record o { kind = Other }) ≡ acted_state (state_of o)

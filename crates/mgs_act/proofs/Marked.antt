@@ -1,19 +1,17 @@
 -- What an action does that sets the mark of the window.
-use Rattle.std.proofs.Common.{◌≡◌, ℕ, ◌+◌, ◌<◌, ◌≤◌, true, false, cond, List, [], length, map, get_or, Option, Some, None, refl, sym, ap, subst, ◌∙◌, arith}
-use Rattle.std.specs.Prelude.{find, is_some, slice_get, slice_set, Result, Ok, Err, OnOk}
+use Rattle.std.proofs.Common.{◌≡◌, ℕ, ◌+◌, ◌<◌, ◌≤◌, false, cond, List, [], length, map, get_or, Option, Some, None, refl, sym, ap, subst, ◌∙◌, arith}
+use Rattle.std.specs.Prelude.{find, is_some, slice_get, slice_set, Ok}
 use Rattle.std.specs.List.{position_or_len}
 use Rattle.std.specs.Option.{option_and_then, option_map}
 use Rattle.std.proofs.lemmas.Option.{get_or_from_slice_get, slice_get-get_or}
 use Rattle.mgs_model.specs.Access.{Directory, decision}
 use Rattle.mgs_model.specs.World.{Buffer, Item, has_id}
 use Rattle.mgs_model.specs.World as model
-use Rattle.mgs_model.specs.Outcome.{Effect, No_effect, Keep_position, Keep_mark, Mark_at}
-use Rattle.mgs_laws.specs.Refusals.{effect_takes_memory, takes_memory}
+use Rattle.mgs_model.specs.Outcome.{Effect, Keep_position, Keep_mark, Mark_at}
 use Rattle.mgs_model.specs.Plans as plans
 use Rattle.mgs_model.specs.Acts.{edit_of, fails, finished, is_too_large}
 use Rattle.mgs_model.specs.Apply.{apply, buffers_after, change_at, change_first, session_after, session_arranged, window_adjusted}
 use Rattle.mgs_model.specs.declared.message.Message.TheVariants.{KillTooLarge}
-use Rattle.mgs_model.proofs.Basics.{or_true}
 use Rattle.mgs_model.proofs.Firsts.{position_or_len-map}
 use Rattle.mgs_marks.specs.Marks.{mark_in}
 use Rattle.mgs_buffers.specs.MarkedBuffer.{HasBuffer, IsMark, MarkedBuffer, marked_at, marked_named, marked_or_none, marked_placed, marked_unmodified, with_marks}
@@ -30,13 +28,13 @@ use Rattle.mgs_plan.specs.declared.action.Action.TheVariants.{Fails, Edits, Undo
 use Rattle.mgs_plan.specs.Following.{edit_through, edit_told, followed}
 use Rattle.mgs_plan.specs.Actions.{AreMarks, CanBeDone, IsMarked, edited_by, kill_at, kill_or_none, mark_gone, mark_told, marked_after, marks_gone, outcome_through, removed_by, session_finished}
 use Rattle.mgs_act.specs.Doing.{IsReady}
-use Rattle.mgs_act.specs.Performing.{IsCarriedOut, IsCarriedOutBy, acted_in, buffers_acted}
+use Rattle.mgs_act.specs.Performing.{IsCarriedOut, IsCarriedOutBy}
 use Rattle.mgs_world.specs.Acted.{IsUnchanged}
 use Rattle.mgs_world.specs.Marking.{IsGivenUp, IsReserved, mark_at_place, session_marked}
 use Rattle.mgs_world.specs.Sound.{IsSound}
 use Rattle.mgs_world.specs.WindowMarks.{WindowMarksDropped}
 use Rattle.mgs_world.specs.Worlds.{id_after, idle, state_at, state_of, state_or_first, session_id, session_of, world_of}
-use Rattle.mgs_world.proofs.SelectedMark.{changed_first, get_set, given_up_sessions, given_up_sound, reserved_buffers, reserved_given_up, reserved_mark, reserved_more, reserved_sessions, reserved_sound, sessions_marked}
+use Rattle.mgs_world.proofs.SelectedMark.{changed_first, get_set, given_up_sessions, reserved_buffers, reserved_given_up, reserved_mark, reserved_more, reserved_sessions, reserved_sound, sessions_marked}
 use Rattle.mgs_world.proofs.Soundness.{in_use_mark, mark_is_kept, sound_placed, sound_set}
 use Rattle.mgs_world.proofs.Marks.{found_same, is_same}
 use Rattle.mgs_world.proofs.Owns.{search_at_rest}
@@ -148,14 +146,17 @@ mark_there x mid c f ls mark marks =
     let top = mark_still x.name x.point x.top f.point ls1 point (mark_edited_by x.name c ls x.top marks.top) in
     mark_still x.name x.top mid f.top (mark_gone x.name x.point f.point ls1) top (mark_still x.name x.point mid f.point ls1 point (mark_edited_by x.name c ls mid mark))
 
+-- what holds before any action and behind each change holds after it
+after_action : (holds : List MarkedBuffer → Type 0) (x : WindowMarks) (text : List ℕ) (items : List Item) (kill : List ℕ) (action : Action) (ls : List MarkedBuffer) → holds ls → ((c : plans.Change) (f : plans.Finish) → holds (marks_gone x f (edited_by x.name c ls))) → holds (change_first (marked_named x.name) marked_unmodified ls) → holds (marked_after x text items kill action ls)
+after_action holds x text items kill (Fails message) ls same changed clear = same
+after_action holds x text items kill (Edits mask c) ls same changed clear = changed (change_read text kill c) (change_read text kill c).finish
+after_action holds x text items kill (Undoes u) ls same changed clear = let c = undone_read text kill (removed_by u.serial items) u in changed c c.finish
+after_action holds x text items kill (Moves f) ls same changed clear = changed (record { a = 0; b = 0; put = []; finish = finish_read text kill 0 f }) (finish_read text kill 0 f)
+after_action holds x text items kill Clears ls same changed clear = clear
+
 pub mark_after_action : (x : WindowMarks) (mid : ℕ) (text : List ℕ) (items : List Item) (kill : List ℕ) (action : Action) (ls : List MarkedBuffer) → IsMark x.name mid ls → AreMarks ls x → IsMark x.name mid (marked_after x text items kill action ls)
-mark_after_action x mid text items kill (Fails message) ls mark marks = mark
-mark_after_action x mid text items kill (Edits mask c) ls mark marks = mark_there x mid (change_read text kill c) (change_read text kill c).finish ls mark marks
-mark_after_action x mid text items kill (Undoes u) ls mark marks =
-    let c = undone_read text kill (removed_by u.serial items) u in
-    mark_there x mid c c.finish ls mark marks
-mark_after_action x mid text items kill (Moves f) ls mark marks = mark_there x mid (record { a = 0; b = 0; put = []; finish = finish_read text kill 0 f }) (finish_read text kill 0 f) ls mark marks
-mark_after_action x mid text items kill Clears ls mark marks = ap (λ (ms : List (Option ℕ)). is_some (mark_in ms mid)) (marks_unmodified x.name x.name ls) ∙ mark
+mark_after_action x mid text items kill action ls mark marks =
+    after_action (IsMark x.name mid) x text items kill action ls mark (λ c f. mark_there x mid c f ls mark marks) (ap (λ (ms : List (Option ℕ)). is_some (mark_in ms mid)) (marks_unmodified x.name x.name ls) ∙ mark)
 
 -- the buffer keeps its place
 pub place_left : (x : WindowMarks) (c : plans.Change) (f : plans.Finish) (ls : List MarkedBuffer) (at : ℕ) → at ≡ position_or_len (marked_named x.name) ls → at ≡ position_or_len (marked_named x.name) (marks_gone x f (edited_by x.name c ls))
@@ -163,13 +164,8 @@ place_left x c f ls at place =
     place_gone x.name x.top f.top (mark_gone x.name x.point f.point (edited_by x.name c ls)) at (place_gone x.name x.point f.point (edited_by x.name c ls) at (place_edited_by x.name c ls at place))
 
 pub place_after_action : (x : WindowMarks) (text : List ℕ) (items : List Item) (kill : List ℕ) (action : Action) (ls : List MarkedBuffer) (at : ℕ) → at ≡ position_or_len (marked_named x.name) ls → at ≡ position_or_len (marked_named x.name) (marked_after x text items kill action ls)
-place_after_action x text items kill (Fails message) ls at place = place
-place_after_action x text items kill (Edits mask c) ls at place = place_left x (change_read text kill c) (change_read text kill c).finish ls at place
-place_after_action x text items kill (Undoes u) ls at place =
-    let c = undone_read text kill (removed_by u.serial items) u in
-    place_left x c c.finish ls at place
-place_after_action x text items kill (Moves f) ls at place = place_left x (record { a = 0; b = 0; put = []; finish = finish_read text kill 0 f }) (finish_read text kill 0 f) ls at place
-place_after_action x text items kill Clears ls at place = place ∙ sym (place_stays x.name x.name marked_unmodified (λ k. refl) ls)
+place_after_action x text items kill action ls at place =
+    after_action (λ ms. at ≡ position_or_len (marked_named x.name) ms) x text items kill action ls place (λ c f. place_left x c f ls at place) (place ∙ sym (place_stays x.name x.name marked_unmodified (λ k. refl) ls))
 
 -- where the mark is to be, there is a text
 pub text_left : (x : WindowMarks) (f : plans.Finish) (ls : List MarkedBuffer) → (marked_at x.name (marks_gone x f ls)).buffer.text ≡ (marked_at x.name ls).buffer.text
@@ -202,27 +198,7 @@ held_then ks ls xs at mid h x c f g sound kept r is sel marks =
     subst (IsSound (marks_gone x f ls1)) (set_twice xs at (session_marked mid h) (session_marked mid (session_finished g h)))
     (sound_set (marks_gone x f ls1) ys at (session_marked mid h) (session_marked mid (session_finished g h)) (sym (get_or_from_slice_get ys at (session_marked mid h) (session_marked mid h) (get_set xs at h (session_marked mid h) is))) (λ n i. refl) after)
 
--- the sessions, where the searches of all went by the edit
-marked_sessions : (ks ls : List MarkedBuffer) (xs : List Session) (id at mid p : ℕ) (h : Session) (x : WindowMarks) (c : plans.Change) (behind : ℕ) (text : List ℕ) (f : Finish) → c.a ≤ c.b → c.b ≤ length (marked_at x.name ks).buffer.text → IsSound ks xs → HasBuffer x.name ks → IsReserved x.name x.mark mid ks ls → at ≡ position_or_len (session_id id) xs → at < length xs → slice_get xs at ≡ Some h → window_marks_of h ≡ Some x → AreMarks ks x → state_of h.state ≡ idle (state_of h.state) → IsMark x.name mid (marks_gone x (finish_read text h.kill behind f) (edited_by x.name c ls))
-    → (let left = finish_read text h.kill behind f in
-    map (session_of (change_first (marked_named x.name) (marked_placed mid p) (marks_gone x left (edited_by x.name c ls)))) (followed x.name (edit_told (length (marked_at x.name ks).buffer.text) c) (slice_set xs at (session_marked mid (session_finished left h))))
-    ≡ change_first (has_id id) (session_arranged (ended (record left { mark = Mark_at p }) (edit_of x.name c.a c.b c.put) (state_of h.state))) (map (session_after (edit_of x.name c.a c.b c.put)) (map (session_of ks) xs)))
-marked_sessions ks ls xs id at mid p h x c behind text f order room sound kept r place within is sel marks fresh mark =
-    let left = finish_read text h.kill behind f in
-    let arranged : model.Session → model.Session = session_arranged (ended (record left { mark = Mark_at p }) (edit_of x.name c.a c.b c.put) (state_of h.state)) in
-    let o = edit_told (length (marked_at x.name ks).buffer.text) c in
-    let ys = followed x.name o xs in
-    let none = search_at_rest h.state fresh in
-    let found = get_followed x.name o xs at h none is in
-    let sound_f = sound_kept x.name o ks xs sound in
-    let marks_l = reserved_marks x mid ks ls kept r marks in
-    let same : length (marked_at x.name ls).buffer.text ≡ length (marked_at x.name ks).buffer.text = ap (λ (b : Buffer). length b.text) (reserved_buffer x.name x.mark mid ks ls r) in
-    ap (map (session_of (change_first (marked_named x.name) (marked_placed mid p) (marks_gone x left (edited_by x.name c ls))))) (set_followed x.name o xs at (session_marked mid (session_finished left h)) none)
-    ∙ marked_there ks ls ys id at mid p h x c behind text f sound_f kept r (place_followed x.name o xs id at place) (within_followed x.name o xs at within) found sel marks fresh mark (held_then ks ls ys at mid h x c left left sound_f kept r found sel marks_l)
-    ∙ ap (λ (n : ℕ). change_first (has_id id) arranged (map (session_of (edited_by x.name c ls)) (followed x.name (edit_told n c) xs))) (sym same)
-    ∙ ap (change_first (has_id id) arranged) (sessions_went x.name c ls xs order (omega (arith, same, room)) (mark_is_kept x.name x.point ls marks_l.point))
-    ∙ ap (λ (ss : List model.Session). change_first (has_id id) arranged (map (session_after (edit_of x.name c.a c.b c.put)) ss)) (reserved_sessions x mid ks ls xs sound kept r)
-
+-- the searches of all sessions go by the edit
 pub marked_so : (directory : Directory) (ks ls : List MarkedBuffer) (xs : List Session) (next : Option ℕ) (id at mid p : ℕ) (h : Session) (x : WindowMarks) (c : plans.Change) (behind : ℕ) (text : List ℕ) (f : Finish) → c.a ≤ c.b → c.b ≤ length (marked_at x.name ks).buffer.text → IsSound ks xs → HasBuffer x.name ks → IsReserved x.name x.mark mid ks ls → at ≡ position_or_len (session_id id) xs → at < length xs → slice_get xs at ≡ Some h → window_marks_of h ≡ Some x → AreMarks ks x → state_of h.state ≡ idle (state_of h.state) → f.mark ≡ Some p → is_too_large (kill_read text h.kill f.kill) ≡ false
     → (let left = finish_read text h.kill behind f in world_of directory (change_first (marked_named x.name) (marked_placed mid p) (marks_gone x left (edited_by x.name c ls))) (followed x.name (edit_told (length (marked_at x.name ks).buffer.text) c) (slice_set xs at (session_marked mid (session_finished left h)))) next ≡ apply (world_of directory ks xs next) id (finished (state_of h.state) left (edit_of x.name c.a c.b c.put)))
 marked_so directory ks ls xs next id at mid p h x c behind text f order room sound kept r place within is sel marks fresh told small =
@@ -232,9 +208,21 @@ marked_so directory ks ls xs next id at mid p h x c behind text f order room sou
     let ls2 = mark_gone x.name x.point left.point ls1 in
     let marks_l = reserved_marks x mid ks ls kept r marks in
     let mark = mark_there x mid c left ls (reserved_mark x.mark mid ks ls xs at h x refl sound kept is sel r) marks_l in
+    let arranged : model.Session → model.Session = session_arranged (ended (record left { mark = Mark_at p }) (edit_of x.name c.a c.b c.put) state) in
+    let o = edit_told (length (marked_at x.name ks).buffer.text) c in
+    let ys = followed x.name o xs in
+    let quiet = search_at_rest h.state fresh in
+    let found = get_followed x.name o xs at h quiet is in
+    let sound_f = sound_kept x.name o ks xs sound in
+    let same : length (marked_at x.name ls).buffer.text ≡ length (marked_at x.name ks).buffer.text = ap (λ (b : Buffer). length b.text) (reserved_buffer x.name x.mark mid ks ls r) in
     same_world directory _ _ _ _ (id_after next)
     (buffers_placed x.name mid p (marks_gone x left ls1) ∙ gone_buffers x.name x.top left.top ls2 ∙ gone_buffers x.name x.point left.point ls1 ∙ edited_buffers x.name c ls ∙ ap (buffers_after (edit_of x.name c.a c.b c.put)) (reserved_buffers x.name x.mark mid ks ls r))
-    (marked_sessions ks ls xs id at mid p h x c behind text f order room sound kept r place within is sel marks fresh mark ∙ sym (no_quit x.name c id _))
+    (ap (map (session_of (change_first (marked_named x.name) (marked_placed mid p) (marks_gone x left ls1)))) (set_followed x.name o xs at (session_marked mid (session_finished left h)) quiet)
+    ∙ marked_there ks ls ys id at mid p h x c behind text f sound_f kept r (place_followed x.name o xs id at place) (within_followed x.name o xs at within) found sel marks fresh mark (held_then ks ls ys at mid h x c left left sound_f kept r found sel marks_l)
+    ∙ ap (λ (n : ℕ). change_first (has_id id) arranged (map (session_of ls1) (followed x.name (edit_told n c) xs))) (sym same)
+    ∙ ap (change_first (has_id id) arranged) (sessions_went x.name c ls xs order (omega (arith, same, room)) (mark_is_kept x.name x.point ls marks_l.point))
+    ∙ ap (λ (ss : List model.Session). change_first (has_id id) arranged (map (session_after (edit_of x.name c.a c.b c.put)) ss)) (reserved_sessions x mid ks ls xs sound kept r)
+    ∙ sym (no_quit x.name c id _))
     ∙ ap (λ m. apply (world_of directory ks xs next) id (ended (record left { mark = mark_read m }) (edit_of x.name c.a c.b c.put) state)) (sym told)
     ∙ ap (λ b. apply (world_of directory ks xs next) id (cond b (fails state KillTooLarge) (ended left (edit_of x.name c.a c.b c.put) state))) (sym small)
 
@@ -272,11 +260,6 @@ selected_marks ks xs at h x sound is sel = acting_marks ks xs at x sound (ap (op
 pub marks_at : {directory : Directory} {at : ℕ} {ks : List MarkedBuffer} {xs : List Session} {o : Outcome} (x : WindowMarks) → IsReady directory at ks xs o → (r : Session) → window_marks_of (get_or xs at r) ≡ Some x → AreMarks ks x
 marks_at {directory} {at} {ks} {xs} x ready r sel = selected_marks ks xs at (get_or xs at r) x ready.sound (slice_get-get_or xs at r ready.within) sel
 
--- with a mark or without one
-pub plain_so : {T E : Type 0} (r : Result T E) (o : Option ℕ) (x : WindowMarks) (action : Action) (ks ls : List MarkedBuffer) (h y : Session) → o ≡ None → OnOk r (ls ≡ buffers_acted x h.kill action ks) → OnOk r (y ≡ acted_in x ks action h) → OnOk r (IsCarriedOutBy o x action ks ls h y)
-plain_so (Ok done) o x action ks ls h y none ok acts = subst (λ m. IsCarriedOutBy m x action ks ls h y) (sym none) (ok, acts)
-plain_so (Err e) o x action ks ls h y none ok acts = tt
-
 pub carried_sound : (ks ls : List MarkedBuffer) (xs : List Session) (at : ℕ) (x : WindowMarks) (h y : Session) (action : Action) → IsSound ks xs → slice_get xs at ≡ Some h → window_marks_of h ≡ Some x → AreMarks ks x → IsCarriedOut x action ks ls h y → IsSound ls (slice_set xs at y)
 carried_sound ks ls xs at x h y action sound is sel marks = by (mark_told action) refl
   where
@@ -298,28 +281,7 @@ carried_so directory ks ls xs next id at x h y action sound place within is sel 
         ∙ acted_so directory ks ls xs next id at p x h y action sound place within is sel (selected_marks ks xs at h x sound is sel) (fresh_state xs at h is fresh) can told done
         ∙ ap (λ o. apply (world_of directory ks xs next) id (outcome_through (state_or_first o) x ks (kill_or_none o) action)) (sym is)
 
--- a mark that was given up leaves the world as it was
-pub dropped_sound : (ks ls : List MarkedBuffer) (xs : List Session) (at : ℕ) (h y : Session) → slice_get xs at ≡ Some h → WindowMarksDropped None ks ls → y ≡ h → IsSound ks xs → IsSound ls (slice_set xs at y)
-dropped_sound ks ls xs at h y is dropped same sound =
-    rw same (sound_set ls xs at h h (sym (get_or_from_slice_get xs at h h is)) (λ n i. refl) (given_up_sound ks ls xs dropped sound))
-
 pub dropped_so : (ks ls : List MarkedBuffer) (xs : List Session) (at : ℕ) (h y : Session) → slice_get xs at ≡ Some h → WindowMarksDropped None ks ls → y ≡ h → IsSound ks xs → IsUnchanged ks xs ls (slice_set xs at y)
 dropped_so ks ls xs at h y is dropped same sound = λ directory next.
     same_world directory _ _ _ _ (id_after next) dropped.buffers
     (rw same (ap (map (session_of ls)) (set_back xs at h is)) ∙ given_up_sessions ks ls xs dropped sound)
-
--- what sets a mark may be refused
-pub finish_takes : (state : model.State) (f : plans.Finish) (e : Effect) (p : ℕ) → is_too_large f.kill ≡ false → f.mark ≡ Mark_at p → takes_memory (finished state f e) ≡ true
-finish_takes state f e p small told =
-    ap (λ b. takes_memory (cond b (fails state KillTooLarge) (ended f e state))) small
-    ∙ ap (λ m. takes_memory (ended (record f { mark = m }) e state)) told
-    ∙ or_true (effect_takes_memory e) true refl
-
-pub marking_takes : (state : model.State) (x : WindowMarks) (ks : List MarkedBuffer) (kill : List ℕ) (action : Action) (p : ℕ) → CanBeDone ks x kill action → mark_told action ≡ Some p → takes_memory (outcome_through state x ks kill action) ≡ true
-marking_takes state x ks kill (Edits mask c) p can told =
-    let change = change_read (marked_at x.name ks).buffer.text kill c in
-    finish_takes state change.finish (edit_of x.name change.a change.b change.put) p can.small (ap mark_read told)
-marking_takes state x ks kill (Moves f) p can told =
-    let text = (marked_at x.name ks).buffer.text in
-    finish_takes state (finish_read text kill 0 f) No_effect p can.small (ap mark_read told)
-marking_takes state x ks kill _ p can told = cc

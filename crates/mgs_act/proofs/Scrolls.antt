@@ -86,14 +86,12 @@ module _ (directory : Directory) (ks : List MarkedBuffer) (xs : List Session) (n
 
   by_window : (s : Option Scrolling) (o : Option Window) (rows : RowPane) → slice_get h.windows.windows h.windows.selected ≡ o → option_and_then (λ (w : Window). w.shows) o ≡ None → rows_scrolled s o ≡ Some rows
       → world_of directory ks (slice_set xs at (acted Other (session_rows rows h))) next ≡ apply (world_of directory ks xs next) id (rows_outcome (state_of h.state) rows)
-  by_window None o rows is none scrolled = cc
-  by_window (Some c) None rows is none scrolled = cc
   by_window (Some c) (Some w) rows is none scrolled = by_rows c w w.rows rows is none refl scrolled
+  by_window _ _ rows is none scrolled = cc
 
   pub scrolled_so : (rows : RowPane) → CanScroll h rows → world_of directory ks (slice_set xs at (acted Other (session_rows rows h))) next ≡ apply (world_of directory ks xs next) id (rows_outcome (state_of h.state) rows)
   scrolled_so rows can = by_window can.by (slice_get h.windows.windows h.windows.selected) rows refl can.unshown can.scrolled
 
 pub rows_quiet : (state : model.State) (rows : RowPane) → touched_by (rows_outcome state rows).effect ≡ Nowhere
 rows_quiet state NoRows = refl
-rows_quiet state (Buffers row) = refl
-rows_quiet state (Entries name row) = refl
+rows_quiet state _ = refl

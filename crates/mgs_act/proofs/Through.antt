@@ -23,7 +23,6 @@ use Rattle.mgs_plan.specs.declared.action.Action.{Action}
 use Rattle.mgs_plan.specs.declared.action.Action.TheVariants.{Edits, Undoes, Moves}
 use Rattle.mgs_plan.specs.declared.outcome.Outcome.TheVariants.{Acts, Copies}
 use Rattle.mgs_act.proofs.Done.{here_is, quietly}
-use Rattle.mgs_act.proofs.Marked.{finish_takes}
 use Rattle.mgs_act.specs.Doing.{IsQuietlyDone, TakesMemory}
 use Rattle.mgs_act.specs.Performing.{MayBeShort}
 use Rattle.mgs_world.specs.Worlds.{state_at, state_of, state_or_first, session_id, world_of}
@@ -74,8 +73,3 @@ copy_done directory at ks ls xs ys x source place touched done touches = quietly
   touches (state_of h.state),
   change_saves_none (state_of h.state) x.name (insertion_of place (marked_at source ks).buffer.text),
 ))
-
-pub copy_takes : (at : ℕ) (ks : List MarkedBuffer) (xs : List Session) (x : WindowMarks) (source : List ℕ) (place : ℕ) → TakesMemory at (Copies x source place) ks xs
-copy_takes at ks xs x source place = λ directory id next h here found.
-    let c = insertion_of place (marked_at source ks).buffer.text in
-    finish_takes (state_of h.state) c.finish (edit_of x.name c.a c.b c.put) place refl refl

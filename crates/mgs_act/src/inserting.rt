@@ -100,8 +100,7 @@ fn insert_marked<T: Marked + Drop>(
     ensures same { OnErr result (session.new ≡ session.old) }
 {
     let at = buffers.place_of(&window_marks.name);
-    // For the range of a place.
-    let _size = buffers.text_len_at(&window_marks.name, at);
+    prove!(buffers.is_within_limit(&window_marks.name));
     let mark = reserve_mark(buffers, window_marks)?;
     let writer = Writer {
         directory,

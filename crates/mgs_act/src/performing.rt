@@ -1,5 +1,5 @@
 // An action is done: in the buffers, and to the session that acts.
-ghost use Rattle.std.specs.Prelude.{◌≡◌, ◌+◌, ◌-◌, ◌<◌, ◌≤◌, ℕ, List, [], length, take, Option, Some, None, IfOk, OnOk, OnErr, false, true};
+ghost use Rattle.std.specs.Prelude.{◌≡◌, ◌+◌, ◌-◌, ◌<◌, ◌≤◌, ℕ, List, [], length, take, Option, Some, None, IfOk, OnOk, OnErr, true};
 ghost use Rattle.std.specs.List.{position_or_len};
 ghost use Rattle.mgs_laws.specs.Refusals.{kill_takes_memory};
 ghost use Rattle.mgs_buffers.specs.Changing.{writes};
@@ -152,8 +152,7 @@ fn restore<T: Marked + Drop>(
     if !is_undo_an_edit(undone) {
         return Ok(undone.from);
     }
-    // For the range of a place.
-    let _size = buffers.text_len_at(writer.name, writer.at);
+    prove!(buffers.is_within_limit(writer.name));
     let back = removed_by(buffers, writer.name, writer.at, undone.serial)?;
     let from = undone.from;
     let to = from + undone.gone;

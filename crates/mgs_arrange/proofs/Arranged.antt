@@ -1,15 +1,15 @@
 -- An arrangement of windows, as the model's act of a session: that it comes to what is said of the session alone.
-use Rattle.std.proofs.Common.{◌≡◌, ℕ, ◌+◌, ◌-◌, ◌<◌, ◌≢◌, ◌==◌, nat_lt, nat_le, Bool, true, false, cond, List, [], ◌∷◌, map, length, remove, Option, None, Some, Result, Ok, Err, refl, sym, ap, ap₂, ◌∙◌, ◌||◌, map-id, arith, eqb-true, ne_eqb, le-ltb, ltb-false}
+use Rattle.std.proofs.Common.{◌≡◌, ℕ, ◌+◌, ◌-◌, ◌/◌, ◌<◌, ◌≢◌, ◌==◌, nat_lt, nat_le, Bool, true, false, cond, List, [], ◌∷◌, map, length, remove, Option, None, Some, Result, Ok, Err, refl, sym, ap, ap₂, ◌∙◌, ◌||◌, map-id, arith, eq-eqb, eqb-true, ne_eqb, le-ltb, ltb-false}
+use Rattle.std.specs.List.{list_any}
 use Rattle.std.specs.Option.{option_map}
 use Rattle.std.proofs.lemmas.List.{length-map}
 use Rattle.mgs_model.specs.World.{Buffer_of, List_of, Listing, State, Place, Session, Shows, Window, World, find_session, has_id}
 use Rattle.mgs_model.specs.View.{reads, view, window_seen}
-use Rattle.mgs_model.specs.Outcome.{Arrange, Effect, No_effect, Keep_search, Outcome, Run, Slot, Slots}
-use Rattle.mgs_laws.specs.Refusals.{effect_takes_memory, takes_memory}
+use Rattle.mgs_model.specs.Outcome.{Arrange, Effect, No_effect, Keep_search, Outcome, Run, Slot, Slots, is_old}
+use Rattle.mgs_laws.specs.Refusals.{effect_takes_memory, may_be_refused, slots_take_memory, takes_memory}
 use Rattle.mgs_model.specs.Plans.{acted_state, arrangement, comes, count_of, failed_state, given, heir, height_at, kind_failed, neighbor, old_slot, resized, rows_of, selects, slots_but}
-use Rattle.mgs_model.specs.Acts.{arranges, fails, outcome}
+use Rattle.mgs_model.specs.Acts.{arranges, outcome}
 use Rattle.mgs_model.specs.Apply.{act, applied, apply, change_at, change_first, comer, outcome_in, places_left, is_search_mode, session_arranged, window_at}
-use Rattle.mgs_laws.specs.Refusals.{may_be_refused}
 use Rattle.mgs_model.specs.declared.limits.TheConstants.{WINDOW_LIMIT}
 use Rattle.mgs_model.specs.declared.message.Message.{Message}
 use Rattle.mgs_model.specs.declared.message.Message.TheVariants.{OnlyOneWindow, WindowTooSmall, TooManyWindows, ImpossibleChange}
@@ -24,7 +24,7 @@ use Rattle.mgs_windows.specs.Panes.{closer}
 use Rattle.mgs_world.specs.Worlds.{idle}
 use Rattle.mgs_arrange.specs.Arranged.{arranged_or_told, run_ended, grown, left_by, listing_for, lower_half, next_index, others_gone, previous_index, rearranged, rows_given, rows_given_if, shrunk, upper_half, window_gone, window_lists, window_selected, window_split}
 use Rattle.mgs_arrange.specs.Showing.{coming, window_shows}
-use Rattle.mgs_arrange.proofs.Slots.{all_stay, from_start, halves, come, come_takes_memory, halves_take_memory, height_seen, named_all, named_but, named_halves, named_come, named_one, one_leaves, others_leave, put, put_removed, put_resized, put_slots_but, reheighted, reheighted_not, reheighted_one, reheighted_same, reheighted_twice, replaced_by_one, replaced_by_two, rows_seen, seen}
+use Rattle.mgs_arrange.proofs.Slots.{takes_memory_at, all_stay, from_start, halves, come, height_seen, map_remove, named_all, named_but, named_halves, named_come, named_one, one_leaves, others_leave, put, put_resized, put_slots_but, reheighted, reheighted_not, reheighted_one, reheighted_same, reheighted_twice, replaced_by_one, replaced_by_two, rows_seen, seen}
 
 -- A SESSION IN NO MODE
 
@@ -35,20 +35,15 @@ slots_done x slots selected at windows places fresh quiet are left is =
     let search : cond (is_search_mode x.state.mode) x.search None ≡ x.search = ap (λ (o : State). cond (is_search_mode o.mode) x.search None) fresh ∙ sym quiet in
     λ t. record x { windows = are t; selected = is t; places = left t; search = search t; state = state t }
 
-failed_told : (message : Message) (state : State) → state ≡ idle state → kind_failed message state.kind ≡ Other → failed_state message state ≡ record state { echo = message; kind = Other; todo = [] }
-failed_told message state fresh broken =
-    ap (failed_state message) fresh ∙ ap (λ k. record (idle state) { echo = message; kind = k; todo = [] }) broken ∙ sym (ap (λ (o : State). record o { echo = message; kind = Other; todo = [] }) fresh)
-
--- what a failure makes of it
-failure_done : (x : Session) (message : Message) → x.state ≡ idle x.state → x.search ≡ None → ((kind : Kind) → kind_failed message kind ≡ Other) → session_arranged (fails x.state message) x ≡ run_ended (arranged_or_told (Err message) x)
-failure_done x message fresh quiet breaks = λ t. record x { search = sym quiet t; state = failed_told message x.state fresh (breaks x.state.kind) t }
-
 -- a failure that is tested first
 failure_first : (x : Session) (test : Bool) (message : Message) (plan : Result Arrange Message) (known : Result Session Message) → x.state ≡ idle x.state → x.search ≡ None → ((kind : Kind) → kind_failed message kind ≡ Other) → (test ≡ false → session_arranged (arranges x.state No_effect plan) x ≡ run_ended (arranged_or_told known x)) → session_arranged (arranges x.state No_effect (cond test (Err message) plan)) x ≡ run_ended (arranged_or_told (cond test (Err message) known) x)
 failure_first x test message plan known fresh quiet breaks same = go test refl
   where
     go : (b : Bool) → test ≡ b → session_arranged (arranges x.state No_effect (cond b (Err message) plan)) x ≡ run_ended (arranged_or_told (cond b (Err message) known) x)
-    go true e = failure_done x message fresh quiet breaks
+    go true e =
+        let told : failed_state message x.state ≡ record x.state { echo = message; kind = Other; todo = [] } =
+        ap (failed_state message) fresh ∙ ap (λ k. record (idle x.state) { echo = message; kind = k; todo = [] }) (breaks x.state.kind) ∙ sym (ap (λ (o : State). record o { echo = message; kind = Other; todo = [] }) fresh) in
+        λ t. record x { search = sym quiet t; state = told t }
     go false e = same e
 
 -- the same test, of windows and of what is seen of them
@@ -74,7 +69,8 @@ delete_done can n x fresh quiet within =
     let slots = remove (resized (f (height_at k (seen can xs))) 0 (seen can xs)) k in
     failure_seen x can (λ m. nat_lt m 2) OnlyOneWindow (Ok (Slots slots (k - 1) Keep_search)) (Ok (window_gone k (heir k) x)) fresh quiet (λ kind. refl)
     (λ e. slots_done x slots (k - 1) (closer k k) (window_gone k (heir k) x).windows (window_gone k (heir k) x).places fresh quiet
-    (put_removed x.search xs (places_left 0 slots xs x.places) can (f (height_at k (seen can xs))) k
+    (map_remove (put x.search xs (places_left 0 slots xs x.places)) (resized (f (height_at k (seen can xs))) 0 (seen can xs)) k
+    ∙ ap (λ ys. remove ys k) (put_resized x.search xs (places_left 0 slots xs x.places) can (f (height_at k (seen can xs))) 0 xs (from_start xs))
     ∙ ap (λ d. remove (reheighted (f d) 0 xs) k) (height_seen can k xs)
     ∙ ap (λ ys. remove ys k) (reheighted_one (λ h. h + ((window_at k xs).height + 1)) (heir k) xs))
     (one_leaves slots 0 k xs x.places within (λ j l. named_but (f (height_at k (seen can xs))) 0 j k (seen can xs) (seen_within can xs j l)))
@@ -171,15 +167,9 @@ come_done can shows made x fresh quiet within makes =
     let left : places_left 0 slots xs x.places ≡ places = one_leaves slots 0 k xs x.places within (λ j l. named_come shows k 0 j k (seen can xs) (omega arith) (seen_within can xs j l)) in
     slots_done x slots k k (change_at k made xs) places fresh quiet
     (ap (λ (ps : List Place). map (put x.search xs ps) slots) left
-    ∙ put_slots_but x.search xs places can k (come shows k) (λ y. made y ∷ []) 0 k xs (λ y is. came shows places y (makes y)) (omega arith) (from_start xs)
+    ∙ put_slots_but x.search xs places can k (come shows k) (λ y. made y ∷ []) 0 k xs (λ y is. ap (λ w. w ∷ []) (makes y)) (omega arith) (from_start xs)
     ∙ replaced_by_one made k xs)
     left refl
-  where
-    came : (shows : Shows) (places : List Place) (y : Window) → record (comer shows places) { height = y.height } ≡ made y → map (put x.search x.windows places) (come shows x.selected (window_seen can y)) ≡ made y ∷ []
-    came shows places y e = ap (λ w. w ∷ []) e
-
-list_done : (can : List ℕ → Bool) (n : Option ℕ) (x : Session) → x.state ≡ idle x.state → x.search ≡ None → x.selected < length x.windows → session_arranged (arranges x.state No_effect (arrangement ListBuffers (seen can x.windows) x.selected n)) x ≡ run_ended (arranged_or_told (rearranged ListBuffers n x) x)
-list_done can n x fresh quiet within = come_done can Listing (listing_for Listing) x fresh quiet within (λ y. refl)
 
 -- what any arrangement makes of a session
 arrangement_done : (can : List ℕ → Bool) (c : Arrangement) (n : Option ℕ) (x : Session) → x.state ≡ idle x.state → x.search ≡ None → x.selected < length x.windows → session_arranged (arranges x.state No_effect (arrangement c (seen can x.windows) x.selected n)) x ≡ run_ended (arranged_or_told (rearranged c n x) x)
@@ -194,7 +184,7 @@ arrangement_done can PreviousWindow n x fresh quiet within =
     select_done can x (previous_index k (length (seen can x.windows))) (previous_index k (length x.windows)) fresh quiet (ap (previous_index k) (length-map x.windows (window_seen can)))
 arrangement_done can EnlargeWindow n x fresh quiet within = enlarge_done can n x fresh quiet within
 arrangement_done can ShrinkWindow n x fresh quiet within = shrink_done can n x fresh quiet within
-arrangement_done can ListBuffers n x fresh quiet within = list_done can n x fresh quiet within
+arrangement_done can ListBuffers n x fresh quiet within = come_done can Listing (listing_for Listing) x fresh quiet within (λ y. refl)
 
 -- A BUFFER IS SHOWN, whatever else is done to the buffers
 
@@ -205,7 +195,7 @@ show_done can name e x fresh quiet within =
 pub show_takes_memory : (can : List ℕ → Bool) (name : List ℕ) (e : Effect) (x : Session) → x.selected < length x.windows → takes_memory (arranges x.state e (Ok (comes (seen can x.windows) x.selected (Buffer_of name)))) ≡ true
 show_takes_memory can name e x within =
     or_true (effect_takes_memory e) _
-    (ap (λ b. (b || false) || false) (come_takes_memory name x.selected 0 x.selected (seen can x.windows) (omega arith) (seen_within can x.windows x.selected within)))
+    (ap (λ b. (b || false) || false) (takes_memory_at x.selected (come (Buffer_of name) x.selected) 0 x.selected (seen can x.windows) (λ y rest. refl) (omega arith) (seen_within can x.windows x.selected within)))
 
 -- AN ACCESS LIST IS SHOWN
 
@@ -252,4 +242,5 @@ split_may_be_refused w id n x y found within is =
     go false true e = cc
     go false false e =
         let can = reads w.directory w.buffers x.user in
-        ap (λ b. (b || false) || false) (halves_take_memory x.selected 0 x.selected (seen can x.windows) (omega arith) (omega (arith, within, length-map x.windows (window_seen can))))
+        ap (λ b. (b || false) || false) (takes_memory_at x.selected (halves x.selected) 0 x.selected (seen can x.windows)
+        (λ y rest. ap (λ b. (b || list_any (is_old x.selected) rest) || slots_take_memory (old_slot x.selected (y.height - 1 - y.height / 2) ∷ rest)) (eq-eqb x.selected x.selected refl)) (omega arith) (omega (arith, within, length-map x.windows (window_seen can))))

@@ -43,11 +43,10 @@ others_after_above x k is within =
     subst (λ s. others_gone (window_gone 0 s (record x { selected = s })) ≡ others_gone (record x { selected = s })) (sym is) (above_gone x k x.windows (omega (arith, is, within)))
 
 below_gone : (x : Session) (xs : List Window) → 1 < length xs → others_gone (window_gone 1 0 (record x { windows = xs; selected = 0 })) ≡ others_gone (record x { windows = xs; selected = 0 })
-below_gone x [] many = absurd (omega (arith, many))
-below_gone x (y ∷ []) many = absurd (omega (arith, many))
 below_gone x (y ∷ z ∷ zs) many =
     let rows : y.height + (z.height + 1) + 1 + rows_in zs - 1 ≡ y.height + 1 + (z.height + 1 + rows_in zs) - 1 = omega arith in
     ap (λ n. record (others_gone (record x { windows = y ∷ z ∷ zs; selected = 0 })) { windows = (record y { height = n }) ∷ [] }) rows
+below_gone x _ many = absurd (omega (arith, many))
 
 -- the second, where the topmost is selected
 pub others_after_below : (x : Session) → x.selected ≡ 0 → 1 < length x.windows → others_gone (window_gone 1 0 x) ≡ others_gone x
@@ -55,9 +54,8 @@ others_after_below x is many =
     subst (λ s. others_gone (window_gone 1 0 (record x { selected = s })) ≡ others_gone (record x { selected = s })) (sym is) (below_gone x x.windows many)
 
 none_gone : (x : Session) (xs : List Window) → length xs ≡ 1 → others_gone (record x { windows = xs; selected = 0 }) ≡ record x { windows = xs; selected = 0 }
-none_gone x [] one = absurd (omega (arith, one))
 none_gone x (y ∷ []) one = let rows : y.height + 1 + 0 - 1 ≡ y.height = omega arith in λ t. record x { windows = (record y { height = rows t }) ∷ []; selected = 0 }
-none_gone x (y ∷ z ∷ zs) one = absurd (omega (arith, one))
+none_gone x _ one = absurd (omega (arith, one))
 
 -- where there is no other
 pub others_of_one : (x : Session) → x.selected < length x.windows → length x.windows ≡ 1 → others_gone x ≡ x

@@ -3,7 +3,7 @@ use Rattle.std.proofs.Common.{◌≡◌, ℕ, zero, suc, ◌+◌, ◌-◌, ◌/�
 use Rattle.std.specs.List.{list_any}
 use Rattle.std.proofs.lemmas.List.Folds.{list_any-append}
 use Rattle.std.proofs.Math.Dec.{eqb-suc-zero, eqb-zero-suc, eqb-suc-suc}
-use Rattle.mgs_model.specs.World.{Buffer_of, Place, Search, Shows, Window}
+use Rattle.mgs_model.specs.World.{Place, Search, Shows, Window}
 use Rattle.mgs_model.specs.View.{WindowSeen, window_seen}
 use Rattle.mgs_model.specs.Outcome.{Come, Slot, is_old}
 use Rattle.mgs_laws.specs.Refusals.{slots_take_memory}
@@ -86,15 +86,8 @@ reheighted_one g m xs =
 
 pub map_remove : {A B : Type 0} (f : A → B) (xs : List A) (k : ℕ) → map f (remove xs k) ≡ remove (map f xs) k
 map_remove f [] zero = refl
-map_remove f [] (suc k) = refl
-map_remove f (x ∷ xs) zero = refl
 map_remove f (x ∷ xs) (suc k) = ap (λ ys. f x ∷ ys) (map_remove f xs k)
-
--- without one of them
-pub put_removed : (search : Option Search) (all : List Window) (places : List Place) (can : List ℕ → Bool) (f : ℕ → ℕ → ℕ) (k : ℕ) → map (put search all places) (remove (resized f 0 (seen can all)) k) ≡ remove (reheighted f 0 all) k
-put_removed search all places can f k =
-    map_remove (put search all places) (resized f 0 (seen can all)) k
-    ∙ ap (λ ys. remove ys k) (put_resized search all places can f 0 all (from_start all))
+map_remove f _ _ = refl
 
 map_append : {A B : Type 0} (f : A → B) (xs ys : List A) → map f (xs ++ ys) ≡ map f xs ++ map f ys
 map_append f [] ys = refl
@@ -220,27 +213,16 @@ named_one k j h = go (j == k) refl
     go true e = ap (λ c. c || false) (eq-eqb k (0 + j) (omega (arith, eqb-true j k e)))
     go false e = ap (λ c. c || false) (ne_eqb k (0 + j) (λ p. true≢false (sym (eq-eqb j k (omega (arith, p))) ∙ e)))
 
--- a split takes memory
-pub halves_take_memory : (k i m : ℕ) (xs : List WindowSeen) → k ≡ i + m → m < length xs → slots_take_memory (slots_but k (halves k) i xs) ≡ true
-halves_take_memory k i m [] is l = absurd (omega (arith, l))
-halves_take_memory k i zero (x ∷ xs) is l =
-    let rest = slots_but k (halves k) (i + 1) xs in
-    ap (λ b. slots_take_memory (cond b (halves k x) (old_slot i x.height ∷ []) ++ rest)) (eq-eqb i k (omega (arith, is)))
-    ∙ ap (λ b. (b || list_any (is_old k) rest) || slots_take_memory (old_slot k (x.height - 1 - x.height / 2) ∷ rest)) (eq-eqb k k refl)
-halves_take_memory k i (suc m) (x ∷ xs) is l =
-    let rest = slots_but k (halves k) (i + 1) xs in
-    ap (λ b. slots_take_memory (cond b (halves k x) (old_slot i x.height ∷ []) ++ rest)) (ne_eqb i k (λ e. omega (arith, e, is)))
-    ∙ or_true (list_any (is_old i) rest) _ (halves_take_memory k (i + 1) m xs (omega (arith, is)) (omega (arith, l)))
-
--- and so does one that comes to a buffer
-pub come_takes_memory : (name : List ℕ) (k i m : ℕ) (xs : List WindowSeen) → k ≡ i + m → m < length xs → slots_take_memory (slots_but k (come (Buffer_of name) k) i xs) ≡ true
-come_takes_memory name k i m [] is l = absurd (omega (arith, l))
-come_takes_memory name k i zero (x ∷ xs) is l =
-    ap (λ b. slots_take_memory (cond b (come (Buffer_of name) k x) (old_slot i x.height ∷ []) ++ slots_but k (come (Buffer_of name) k) (i + 1) xs)) (eq-eqb i k (omega (arith, is)))
-come_takes_memory name k i (suc m) (x ∷ xs) is l =
-    let rest = slots_but k (come (Buffer_of name) k) (i + 1) xs in
-    ap (λ b. slots_take_memory (cond b (come (Buffer_of name) k x) (old_slot i x.height ∷ []) ++ rest)) (ne_eqb i k (λ e. omega (arith, e, is)))
-    ∙ or_true (list_any (is_old i) rest) _ (come_takes_memory name k (i + 1) m xs (omega (arith, is)) (omega (arith, l)))
+-- slots take memory where those in place of the one at k do
+pub takes_memory_at : (k : ℕ) (other : WindowSeen → List Slot) (i m : ℕ) (xs : List WindowSeen) → ((x : WindowSeen) (rest : List Slot) → slots_take_memory (other x ++ rest) ≡ true) → k ≡ i + m → m < length xs → slots_take_memory (slots_but k other i xs) ≡ true
+takes_memory_at k other i m [] takes is l = absurd (omega (arith, l))
+takes_memory_at k other i zero (x ∷ xs) takes is l =
+    let rest = slots_but k other (i + 1) xs in
+    ap (λ b. slots_take_memory (cond b (other x) (old_slot i x.height ∷ []) ++ rest)) (eq-eqb i k (omega (arith, is))) ∙ takes x rest
+takes_memory_at k other i (suc m) (x ∷ xs) takes is l =
+    let rest = slots_but k other (i + 1) xs in
+    ap (λ b. slots_take_memory (cond b (other x) (old_slot i x.height ∷ []) ++ rest)) (ne_eqb i k (λ e. omega (arith, e, is)))
+    ∙ or_true (list_any (is_old i) rest) _ (takes_memory_at k other (i + 1) m xs takes (omega (arith, is)) (omega (arith, l)))
 
 -- WHICH PLACES ARE LEFT
 
@@ -254,38 +236,32 @@ next_named i j slots b e = (let on : suc i + j ≡ i + suc j = omega arith in ap
 pub all_stay : (slots : List Slot) (i : ℕ) (xs : List Window) (places : List Place) → ((j : ℕ) → j < length xs → list_any (is_old (i + j)) slots ≡ true) → places_left i slots xs places ≡ places
 all_stay slots i [] places named = refl
 all_stay slots i (x ∷ xs) places named =
-    let first : list_any (is_old i) slots ≡ true = first_named i slots true (named 0 (omega arith)) in
-    ap (λ b. places_left (suc i) slots xs (cond b places (left_by x places))) first
+    ap (λ b. places_left (suc i) slots xs (cond b places (left_by x places))) (first_named i slots true (named 0 (omega arith)))
     ∙ all_stay slots (suc i) xs places (λ j l. next_named i j slots true (named (suc j) (omega (arith, l))))
 
 -- that of the one at k
 pub one_leaves : (slots : List Slot) (i k : ℕ) (xs : List Window) (places : List Place) → k < length xs → ((j : ℕ) → j < length xs → list_any (is_old (i + j)) slots ≡ not (j == k)) → places_left i slots xs places ≡ left_by (window_at k xs) places
 one_leaves slots i k [] places within named = absurd (omega (arith, within))
 one_leaves slots i zero (x ∷ xs) places within named =
-    let first : list_any (is_old i) slots ≡ false = first_named i slots false (named 0 (omega arith)) in
-    ap (λ b. places_left (suc i) slots xs (cond b places (left_by x places))) first
+    ap (λ b. places_left (suc i) slots xs (cond b places (left_by x places))) (first_named i slots false (named 0 (omega arith)))
     ∙ all_stay slots (suc i) xs (left_by x places) (λ j l. next_named i j slots true (named (suc j) (omega (arith, l)) ∙ ap not (eqb-suc-zero j)))
 one_leaves slots i (suc k) (x ∷ xs) places within named =
-    let first : list_any (is_old i) slots ≡ true = first_named i slots true (named 0 (omega arith) ∙ ap not (eqb-zero-suc k)) in
-    ap (λ b. places_left (suc i) slots xs (cond b places (left_by x places))) first
+    ap (λ b. places_left (suc i) slots xs (cond b places (left_by x places))) (first_named i slots true (named 0 (omega arith) ∙ ap not (eqb-zero-suc k)))
     ∙ one_leaves slots (suc i) k xs places (omega (arith, within)) (λ j l. next_named i j slots (not (j == k)) (named (suc j) (omega (arith, l)) ∙ ap not (eqb-suc-suc j k)))
 
 -- those of all
 all_leave : (slots : List Slot) (i : ℕ) (xs : List Window) (places : List Place) → ((j : ℕ) → list_any (is_old (i + j)) slots ≡ false) → places_left i slots xs places ≡ left_by_all xs places
 all_leave slots i [] places named = refl
 all_leave slots i (x ∷ xs) places named =
-    let first : list_any (is_old i) slots ≡ false = first_named i slots false (named 0) in
-    ap (λ b. places_left (suc i) slots xs (cond b places (left_by x places))) first
+    ap (λ b. places_left (suc i) slots xs (cond b places (left_by x places))) (first_named i slots false (named 0))
     ∙ all_leave slots (suc i) xs (left_by x places) (λ j. next_named i j slots false (named (suc j)))
 
 -- those of all but the one at k
 pub others_leave : (slots : List Slot) (i k : ℕ) (xs : List Window) (places : List Place) → ((j : ℕ) → list_any (is_old (i + j)) slots ≡ (j == k)) → places_left i slots xs places ≡ left_by_others k xs places
 others_leave slots i k [] places named = refl
 others_leave slots i zero (x ∷ xs) places named =
-    let first : list_any (is_old i) slots ≡ true = first_named i slots true (named 0) in
-    ap (λ b. places_left (suc i) slots xs (cond b places (left_by x places))) first
+    ap (λ b. places_left (suc i) slots xs (cond b places (left_by x places))) (first_named i slots true (named 0))
     ∙ all_leave slots (suc i) xs places (λ j. next_named i j slots false (named (suc j) ∙ eqb-suc-zero j))
 others_leave slots i (suc k) (x ∷ xs) places named =
-    let first : list_any (is_old i) slots ≡ false = first_named i slots false (named 0 ∙ eqb-zero-suc k) in
-    ap (λ b. places_left (suc i) slots xs (cond b places (left_by x places))) first
+    ap (λ b. places_left (suc i) slots xs (cond b places (left_by x places))) (first_named i slots false (named 0 ∙ eqb-zero-suc k))
     ∙ others_leave slots (suc i) k xs (left_by x places) (λ j. next_named i j slots (j == k) (named (suc j) ∙ eqb-suc-suc j k))

@@ -1,26 +1,22 @@
 -- A window comes to show rows: what it used is given up, and it is seen so.
-use Rattle.std.proofs.Common.{◌≡◌, ℕ, zero, suc, ◌+◌, ◌<◌, List, [], ◌∷◌, length, map, get_or, Option, None, Some, refl, sym, ap, ◌∙◌, arith}
-use Rattle.std.specs.Prelude.{slice_set}
-use Rattle.std.specs.List.{position_or_len}
-use Rattle.mgs_model.specs.Access.{Directory}
+use Rattle.std.proofs.Common.{◌≡◌, ℕ, zero, suc, ◌+◌, ◌<◌, List, [], ◌∷◌, length, map, None, refl, sym, ap, ◌∙◌, arith}
 use Rattle.mgs_model.specs.Apply.{change_at}
-use Rattle.mgs_model.specs.World.{Shows, find_session}
 use Rattle.mgs_model.specs.World as model
 use Rattle.mgs_buffers.specs.MarkedBuffer.{MarkedBuffer}
 use Rattle.mgs_windows.specs.declared.Window.{Window}
 use Rattle.mgs_windows.specs.declared.RowPane.{RowPane}
 use Rattle.mgs_windows.specs.Panes.{height_at, rows_at, shows_at, showing_rows, window_rows_shown}
 use Rattle.mgs_session.specs.declared.Session.{Session}
-use Rattle.mgs_world.specs.Sound.{IsSessionSound, IsShownSound, IsSound, session_uses, sum_of, window_marks_uses, window_uses}
+use Rattle.mgs_world.specs.Sound.{IsSessionSound, IsShownSound, session_uses, sum_of, window_marks_uses, window_uses}
 use Rattle.mgs_world.specs.WindowMarks.{WindowMarksDropped}
-use Rattle.mgs_world.specs.Worlds.{place_of, rows_shown, session_id, session_of, window_of, world_of}
+use Rattle.mgs_world.specs.Worlds.{place_of, rows_shown, session_of, window_of}
 use Rattle.mgs_world.proofs.WindowMarks.{same_sizes, session_local}
 use Rattle.mgs_world.proofs.Worlds.{same_positions}
-use Rattle.mgs_arrange.specs.Arranged.{left_by, listing_for, run_ended, window_lists}
+use Rattle.mgs_arrange.specs.Arranged.{left_by, listing_for, window_lists}
 use Rattle.mgs_arrange.specs.Arranging.{Rearranged}
-use Rattle.mgs_arrange.specs.Listing.{IsFromStart, listed_in}
+use Rattle.mgs_arrange.specs.Listing.{IsFromStart}
 use Rattle.mgs_arrange.proofs.WindowsGone.{after_uses, height_shown, map_changed, places_seen, window_seen}
-use Rattle.mgs_arrange.proofs.WindowShown.{given_up, made_world}
+use Rattle.mgs_arrange.proofs.WindowShown.{given_up}
 
 abbrev pub rows_session : RowPane → Session → Session
 rows_session rows x = record x { windows = window_rows_shown rows x.windows }
@@ -67,9 +63,3 @@ module _ (ks ls : List MarkedBuffer) (rows : RowPane) (x : Session) (within : x.
         session_local ls ks (rows_session rows x) (same_sizes ks ls dropped.buffers)
         (λ n i used. dropped.stay n i (omega (arith, used, came_uses n i rows x within, sound.once n i)) (omega (arith, used, came_uses n i rows x within, sound.once n i, dropped.uses n i)))
         ∙ lists_seen ks rows x start within
-
--- THE WORLD AFTERWARDS
-
-pub listed_world : (shows : Shows) (d : Directory) (ks ls : List MarkedBuffer) (xs : List Session) (next : Option ℕ) (id at : ℕ) (x y : Session) (z : model.Session) → IsSound ks xs → at ≡ position_or_len (session_id id) xs → x ≡ get_or xs at x → at < length xs → Rearranged ks ls x y
-    → session_of ls y ≡ run_ended (window_lists shows (session_of ks x)) → find_session id (world_of d ks xs next).sessions ≡ Some z → world_of d ls (slice_set xs at y) next ≡ listed_in id shows z (world_of d ks xs next)
-listed_world shows d ks ls xs next id at x y z = made_world (λ s. run_ended (window_lists shows s)) d ks ls xs next id at x y z

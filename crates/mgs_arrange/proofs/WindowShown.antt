@@ -24,9 +24,9 @@ use Rattle.mgs_world.proofs.WindowMarks.{place_local, same_sizes, session_local}
 use Rattle.mgs_world.proofs.Only.{only_world, sound_but}
 use Rattle.mgs_world.proofs.Sessions.{session_some}
 use Rattle.mgs_world.proofs.Worlds.{same_positions}
-use Rattle.mgs_arrange.specs.Arranged.{left_by, run_ended}
+use Rattle.mgs_arrange.specs.Arranged.{left_by}
 use Rattle.mgs_arrange.specs.Arranging.{Rearranged}
-use Rattle.mgs_arrange.specs.Showing.{coming, is_shown, shown_in, standing, standing_mark, standing_point, window_shows}
+use Rattle.mgs_arrange.specs.Showing.{coming, is_shown, standing, standing_mark, standing_point, window_shows}
 use Rattle.mgs_arrange.proofs.WindowsGone.{after_uses, height_shown, map_changed, places_seen, window_seen}
 use Rattle.mgs_arrange.proofs.WindowsSplit.{shown_uses}
 
@@ -40,9 +40,6 @@ put_there x (q ∷ qs) = by (same_name x.name q.name) refl (put_there x qs)
     by : (b : Bool) → same_name x.name q.name ≡ b → find (is_place_in x.name) (with_place x qs) ≡ Some x → find (is_place_in x.name) (cond b (x ∷ qs) (q ∷ with_place x qs)) ≡ Some x
     by true is later = ap (λ b. cond b (Some x) (find (is_place_in x.name) qs)) (is_name x.name)
     by false is later = ap (λ b. cond b (Some q) (find (is_place_in x.name) (with_place x qs))) is ∙ later
-
-found_there : (name : List ℕ) (x : WindowMarks) (ps : List WindowMarks) → same_name name x.name ≡ true → find (is_place_in name) (with_place x ps) ≡ Some x
-found_there name x ps e = subst (λ n. find (is_place_in n) (with_place x ps) ≡ Some x) (sym (same_names name x.name e)) (put_there x ps)
 
 -- and one in another buffer is passed over
 found_elsewhere : (name : List ℕ) (x : WindowMarks) (ps : List WindowMarks) → same_name name x.name ≡ false → find (is_place_in name) (with_place x ps) ≡ find (is_place_in name) ps
@@ -60,7 +57,7 @@ standing_shown name w x e is = ap (λ o. find (is_place_in name) (places_after (
   where
     by : (o : Option WindowMarks) → is_shown name o ≡ true → find (is_place_in name) (places_after o w.places) ≡ o
     by None is = cc
-    by (Some y) is = found_there name y w.places is
+    by (Some y) is = subst (λ n. find (is_place_in n) (with_place y w.places) ≡ Some y) (sym (same_names name y.name is)) (put_there y w.places)
 
 pub standing_left : (name : List ℕ) (w : WindowList) (x : Window) → slice_get w.windows w.selected ≡ Some x → is_shown name x.shows ≡ false → standing name w ≡ find (is_place_in name) w.places
 standing_left name w x e is = ap (λ o. find (is_place_in name) (places_after (option_and_then (λ (v : Window). v.shows) o) w.places)) e ∙ by x.shows is
@@ -201,12 +198,5 @@ module _ (name : List ℕ) (p : ℕ) (q : Option ℕ) (capacity : ℕ) (y : Wind
 pub made_world : (f : model.Session → model.Session) (d : Directory) (ks ls : List MarkedBuffer) (xs : List Session) (next : Option ℕ) (id at : ℕ) (x y : Session) (z : model.Session) → IsSound ks xs → at ≡ position_or_len (session_id id) xs → x ≡ get_or xs at x → at < length xs → Rearranged ks ls x y
     → session_of ls y ≡ f (session_of ks x) → find_session id (world_of d ks xs next).sessions ≡ Some z → world_of d ls (slice_set xs at y) next ≡ (let w = world_of d ks xs next in let v : World = record w { sessions = change_first (has_id id) (λ old. f z) w.sessions } in v)
 made_world f d ks ls xs next id at x y z sound place is within h shown found =
-    let same : session_of ks x ≡ z = some_same (sym (session_some d ks xs next id at x place within is) ∙ found) in
+    let same : session_of ks x ≡ z = cc (sym (session_some d ks xs next id at x place within is) ∙ found) in
     only_world nothing_held d ks ls xs next id at x y (λ old. f z) (sound_but ks xs sound) place is within h (shown ∙ ap f same)
-  where
-    some_same : {A : Type 0} {a b : A} → Path (Option A) (Some a) (Some b) → a ≡ b
-    some_same e = cc
-
-pub shown_world : (d : Directory) (ks ls : List MarkedBuffer) (xs : List Session) (next : Option ℕ) (id at : ℕ) (name : List ℕ) (x y : Session) (z : model.Session) → IsSound ks xs → at ≡ position_or_len (session_id id) xs → x ≡ get_or xs at x → at < length xs → Rearranged ks ls x y
-    → session_of ls y ≡ run_ended (window_shows name (session_of ks x)) → find_session id (world_of d ks xs next).sessions ≡ Some z → world_of d ls (slice_set xs at y) next ≡ shown_in id name z (world_of d ks xs next)
-shown_world d ks ls xs next id at name x y z = made_world (λ s. run_ended (window_shows name s)) d ks ls xs next id at x y z

@@ -1,31 +1,25 @@
 -- A window goes: what is seen of its session, and the marks that it uses.
-use Rattle.std.proofs.Common.{◌≡◌, ℕ, zero, suc, ◌+◌, ◌-◌, ◌<◌, ◌≤◌, Bool, true, false, cond, List, [], ◌∷◌, length, map, Option, Some, None, refl, sym, ap, ◌∙◌, arith}
-use Rattle.std.specs.Prelude.{find, remove, nat_lt, Ok, Err}
+use Rattle.std.proofs.Common.{◌≡◌, ℕ, zero, suc, ◌+◌, ◌-◌, ◌<◌, true, false, cond, List, [], ◌∷◌, length, map, Option, Some, None, refl, sym, ap, ◌∙◌, arith}
+use Rattle.std.specs.Prelude.{find, remove}
 use Rattle.std.proofs.lemmas.List.{length-map}
-use Rattle.std.proofs.lemmas.Bool.{lt-ltb}
-use Rattle.std.proofs.lemmas.Bool.Decides.{nat_tests}
 use Rattle.mgs_model.specs.Names.{same_name}
 use Rattle.mgs_model.specs.World as model
 use Rattle.mgs_model.specs.Apply.{change_at, set_place, window_at}
-use Rattle.mgs_model.specs.Plans.{heir}
-use Rattle.mgs_model.specs.declared.message.Message.TheVariants.{OnlyOneWindow}
-use Rattle.mgs_model.specs.declared.session.Arrangement.TheVariants.{DeleteWindow}
 use Rattle.mgs_buffers.specs.MarkedBuffer.{MarkedBuffer}
 use Rattle.mgs_windows.specs.Panes as panes
 use Rattle.mgs_windows.specs.Panes.{WindowList, height_at, is_place_in, places_after, rows_at, shows_at, window_removed, windows_without, with_place}
 use Rattle.mgs_windows.specs.declared.WindowMarks.{WindowMarks}
 use Rattle.mgs_windows.specs.declared.Window.{Window}
 use Rattle.mgs_windows.specs.declared.RowPane.{RowPane}
-use Rattle.mgs_windows.specs.declared.RowPane.TheVariants.{NoRows, Buffers, Entries}
-use Rattle.mgs_windows.proofs.Heights.{length_changed, length_removed, shows_same}
+use Rattle.mgs_windows.specs.declared.RowPane.TheVariants.{NoRows}
+use Rattle.mgs_windows.proofs.Heights.{length_changed, shows_same}
 use Rattle.mgs_session.specs.declared.Session.{Session}
-use Rattle.mgs_session.specs.Sessions.{broken_off}
 use Rattle.mgs_world.specs.Worlds.{place_of, session_of, window_of, window_shown}
 use Rattle.mgs_world.specs.Sound.{IsSessionSound, IsShownSound, place_uses, session_uses, sum_of, window_marks_uses, window_uses}
 use Rattle.mgs_world.specs.WindowMarks.{WindowMarksDropped}
 use Rattle.mgs_world.proofs.WindowMarks.{same_sizes, session_local}
 use Rattle.mgs_world.proofs.Worlds.{same_positions}
-use Rattle.mgs_arrange.specs.Arranged.{arranged_or_told, grown, left_by, others_gone, rearranged, shrunk, window_gone}
+use Rattle.mgs_arrange.specs.Arranged.{grown, left_by, others_gone, shrunk, window_gone}
 use Rattle.mgs_arrange.proofs.Others.{others_after_above, others_after_below, others_of_one}
 use Rattle.mgs_arrange.proofs.Slots.{map_remove}
 
@@ -43,19 +37,16 @@ sum_changed used f (suc i) (x ∷ xs) same = omega (arith, sum_changed used f i 
 
 -- WHAT IS SEEN OF WINDOWS
 
-shown_grown : (ks : List MarkedBuffer) (n h : ℕ) (o : Option WindowMarks) (rows : RowPane) → window_shown ks (h + n) o rows ≡ grown n (window_shown ks h o rows)
-shown_grown ks n h None rows = refl
-shown_grown ks n h (Some x) rows = refl
+-- of another height
+pub sized : (ks : List MarkedBuffer) (size : ℕ → ℕ) (h : ℕ) (o : Option WindowMarks) (rows : RowPane) → window_shown ks (size h) o rows ≡ (let w = window_shown ks h o rows in record w { height = size w.height })
+sized ks size h None rows = refl
+sized ks size h (Some x) rows = refl
 
 pub seen_grown : (ks : List MarkedBuffer) (n : ℕ) (x : Window) → window_of ks (panes.grown n x) ≡ grown n (window_of ks x)
-seen_grown ks n x = shown_grown ks n x.height x.shows x.rows
-
-shown_shrunk : (ks : List MarkedBuffer) (n h : ℕ) (o : Option WindowMarks) (rows : RowPane) → window_shown ks (h - n) o rows ≡ shrunk n (window_shown ks h o rows)
-shown_shrunk ks n h None rows = refl
-shown_shrunk ks n h (Some x) rows = refl
+seen_grown ks n x = sized ks (λ h. h + n) x.height x.shows x.rows
 
 pub seen_shrunk : (ks : List MarkedBuffer) (n : ℕ) (x : Window) → window_of ks (panes.shrunk n x) ≡ shrunk n (window_of ks x)
-seen_shrunk ks n x = shown_shrunk ks n x.height x.shows x.rows
+seen_shrunk ks n x = sized ks (λ h. h - n) x.height x.shows x.rows
 
 pub height_shown : (ks : List MarkedBuffer) (h : ℕ) (o : Option WindowMarks) (rows : RowPane) → (window_shown ks h o rows).height ≡ h
 height_shown ks h None rows = refl
@@ -88,8 +79,7 @@ place_put ks x (q ∷ qs) =
 
 pub places_seen : (ks : List MarkedBuffer) (h : ℕ) (o : Option WindowMarks) (rows : RowPane) (ps : List WindowMarks) → map (place_of ks) (places_after o ps) ≡ left_by (window_shown ks h o rows) (map (place_of ks) ps)
 places_seen ks h None NoRows ps = refl
-places_seen ks h None (Buffers row) ps = refl
-places_seen ks h None (Entries name row) ps = refl
+places_seen ks h None _ ps = refl
 places_seen ks h (Some x) rows ps = place_put ks x ps
 
 -- the session, where its marks stay
@@ -147,21 +137,6 @@ rest_gone ks ls x k to o w sound h within e list =
 
 -- THE SELECTED ONE GOES
 
-pub deleted_not : (n : Option ℕ) (ks : List MarkedBuffer) (x : Session) → length x.windows.windows < 2 → session_of ks (broken_off OnlyOneWindow x) ≡ arranged_or_told (rearranged DeleteWindow n (session_of ks x)) (session_of ks x)
-deleted_not n ks x few =
-    let s = session_of ks x in
-    let one : nat_lt (length s.windows) 2 ≡ true = ap (λ (k : ℕ). nat_lt k 2) (length-map x.windows.windows (window_of ks)) ∙ lt-ltb (length x.windows.windows) 2 few in
-    sym (ap (λ (b : Bool). arranged_or_told (cond b (Err OnlyOneWindow) (Ok (window_gone s.selected (heir s.selected) s))) s) one)
-
-pub deleted_so : (n : Option ℕ) (ks : List MarkedBuffer) (x : Session) (y : model.Session) → 2 ≤ length x.windows.windows → y ≡ window_gone x.windows.selected (heir x.windows.selected) (session_of ks x) → y ≡ arranged_or_told (rearranged DeleteWindow n (session_of ks x)) (session_of ks x)
-deleted_so n ks x y many e =
-    let s = session_of ks x in
-    let more : nat_lt (length s.windows) 2 ≡ false = ap (λ (k : ℕ). nat_lt k 2) (length-map x.windows.windows (window_of ks)) ∙ many_not (length x.windows.windows) many in
-    e ∙ sym (ap (λ (b : Bool). arranged_or_told (cond b (Err OnlyOneWindow) (Ok (window_gone s.selected (heir s.selected) s))) s) more)
-  where
-    many_not : (k : ℕ) → 2 ≤ k → nat_lt k 2 ≡ false
-    many_not k many = grind (arith, nat_tests)
-
 -- ALL OTHERS GO
 
 seen_within : (ks : List MarkedBuffer) (x : Session) (k : ℕ) → k < length x.windows.windows → k < length (map (window_of ks) x.windows.windows)
@@ -174,19 +149,6 @@ above_step ks ls x y some within e =
 
 pub below_step : (ks ls : List MarkedBuffer) (x y : Session) → x.windows.selected ≡ 0 → 1 < length x.windows.windows → session_of ls y ≡ window_gone 1 0 (session_of ks x) → others_gone (session_of ls y) ≡ others_gone (session_of ks x)
 below_step ks ls x y first many e = ap others_gone e ∙ others_after_below (session_of ks x) first (seen_within ks x 1 many)
-
-pub closer_less : (s : ℕ) → 0 < s → panes.closer 0 s < s
-closer_less s some = go (nat_lt s 0) refl
-  where
-    go : (b : Bool) → nat_lt s 0 ≡ b → cond b s (s - 1) < s
-    go true e = grind (arith, nat_tests)
-    go false e = omega (arith, some)
-
-pub length_without : (k to : ℕ) (xs : List Window) → k < length xs → length (windows_without k to xs) + 1 ≡ length xs
-length_without k to xs within =
-    let n = height_at k xs + 1 in
-    let len : length (change_at to (panes.grown n) xs) ≡ length xs = length_changed (panes.grown n) to xs in
-    omega (arith, length_removed k (change_at to (panes.grown n) xs) (omega (arith, within, len)), len)
 
 pub one_left : (ks ls : List MarkedBuffer) (x y : Session) → y.windows.selected ≡ 0 → length y.windows.windows ≡ 1 → others_gone (session_of ls y) ≡ others_gone (session_of ks x) → session_of ls y ≡ others_gone (session_of ks x)
 one_left ks ls x y first one same =

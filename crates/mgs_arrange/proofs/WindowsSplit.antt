@@ -26,7 +26,7 @@ use Rattle.mgs_world.proofs.WindowMarks.{same_sizes, session_local, window_local
 use Rattle.mgs_world.proofs.Worlds.{same_window, same_windows}
 use Rattle.mgs_arrange.specs.Arranged.{arranged_or_told, lower_half, rearranged, upper_half, window_split}
 use Rattle.mgs_arrange.specs.Arranging.{IsCopied, MayBeSplit, Rearranged}
-use Rattle.mgs_arrange.proofs.WindowsGone.{height_seen}
+use Rattle.mgs_arrange.proofs.WindowsGone.{sized, height_seen}
 
 -- WHETHER IT CAN
 
@@ -90,46 +90,34 @@ split_uses m i (suc k) o (x ∷ xs) within = omega (arith, split_uses m i k o xs
 
 copied_buffers : (o p : Option WindowMarks) (ks ls : List MarkedBuffer) → IsCopied o p ks ls → buffers_of ls ≡ buffers_of ks
 copied_buffers None None ks ls h = ap buffers_of h
-copied_buffers None (Some y) ks ls h = absurd h
-copied_buffers (Some x) None ks ls h = absurd h
 copied_buffers (Some x) (Some y) ks ls h = h.buffers
+copied_buffers _ _ ks ls h = absurd h
 
 copied_stay : (o p : Option WindowMarks) (ks ls : List MarkedBuffer) → IsCopied o p ks ls → MarksStay ks ls
 copied_stay None None ks ls h = λ m i a b. ap (λ (k : List MarkedBuffer). mark_at m k i) h
-copied_stay None (Some y) ks ls h = absurd h
-copied_stay (Some x) None ks ls h = absurd h
 copied_stay (Some x) (Some y) ks ls h = h.stay
+copied_stay _ _ ks ls h = absurd h
 
 copied_uses : (o p : Option WindowMarks) (ks ls : List MarkedBuffer) → IsCopied o p ks ls → (m : List ℕ) (i : ℕ) → in_use m i ls ≡ in_use m i ks + window_marks_uses m i p
 copied_uses None None ks ls h m i = omega (arith, ap (in_use m i) h)
-copied_uses None (Some y) ks ls h m i = absurd h
-copied_uses (Some x) None ks ls h m i = absurd h
 copied_uses (Some x) (Some y) ks ls h m i = h.uses m i
+copied_uses _ _ ks ls h m i = absurd h
 
 -- it is seen as what it was copied from was
 copied_shown : (o p : Option WindowMarks) (ks ls : List MarkedBuffer) (height : ℕ) (rows : RowPane) → IsCopied o p ks ls → window_shown ls height p rows ≡ window_shown ks height o rows
 copied_shown None None ks ls height rows h = refl
-copied_shown None (Some y) ks ls height rows h = absurd h
-copied_shown (Some x) None ks ls height rows h = absurd h
 copied_shown (Some x) (Some y) ks ls height rows h =
     ap (λ (n : List ℕ). let w : model.Window = record { shows = Buffer_of n; point = mark_at n ls y.point; mark = option_map (mark_at n ls) y.mark; top = mark_at n ls y.top; row = 0; height = height } in w) h.named
     ∙ same_window (Buffer_of x.name) _ _ _ _ _ _ 0 height h.point h.mark h.top
+copied_shown _ _ ks ls height rows h = absurd h
 
 -- THE WINDOWS AFTERWARDS
-
-upper_seen : (ks : List MarkedBuffer) (h : ℕ) (o : Option WindowMarks) (rows : RowPane) → window_shown ks (h / 2) o rows ≡ upper_half (window_shown ks h o rows)
-upper_seen ks h None rows = refl
-upper_seen ks h (Some x) rows = refl
-
-lower_seen : (ks : List MarkedBuffer) (h : ℕ) (o : Option WindowMarks) (rows : RowPane) → window_shown ks (h - 1 - h / 2) o rows ≡ lower_half (window_shown ks h o rows)
-lower_seen ks h None rows = refl
-lower_seen ks h (Some x) rows = refl
 
 split_there : (ls : List MarkedBuffer) (p : Option WindowMarks) (k : ℕ) (xs : List Window) → k < length xs → ((h : ℕ) → window_shown ls h p (rows_at k xs) ≡ window_shown ls h (shows_at k xs) (rows_at k xs)) → map (window_of ls) (split_at k p xs) ≡ insert (change_at k upper_half (map (window_of ls) xs)) (suc k) (lower_half (window_at k (map (window_of ls) xs)))
 split_there ls p k [] within same = absurd (omega (arith, within))
 split_there ls p zero (x ∷ xs) within same =
-    ap (λ (w : model.Window). w ∷ window_shown ls (x.height - 1 - x.height / 2) p x.rows ∷ map (window_of ls) xs) (upper_seen ls x.height x.shows x.rows)
-    ∙ ap (λ (w : model.Window). upper_half (window_of ls x) ∷ w ∷ map (window_of ls) xs) (same (x.height - 1 - x.height / 2) ∙ lower_seen ls x.height x.shows x.rows)
+    ap (λ (w : model.Window). w ∷ window_shown ls (x.height - 1 - x.height / 2) p x.rows ∷ map (window_of ls) xs) (sized ls (λ h. h / 2) x.height x.shows x.rows)
+    ∙ ap (λ (w : model.Window). upper_half (window_of ls x) ∷ w ∷ map (window_of ls) xs) (same (x.height - 1 - x.height / 2) ∙ sized ls (λ h. h - 1 - h / 2) x.height x.shows x.rows)
 split_there ls p (suc k) (x ∷ xs) within same = ap (λ ws. window_of ls x ∷ ws) (split_there ls p k xs (omega (arith, within)) same)
 
 -- THE SESSION AFTERWARDS

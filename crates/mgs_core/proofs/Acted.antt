@@ -30,35 +30,24 @@ use Rattle.mgs_core.proofs.Sizes.{place_sized}
 
 -- THE WORLD IN WHICH IT IS DECIDED is the world before, but for the record of its session
 
-sizes_started : (o : Option Direction) (id : ℕ) (w : World) → sizes (started_world o id w) ≡ sizes w
-sizes_started None id w = refl
-sizes_started (Some d) id w = map-change_first_same session_size (has_id id) (state_set (searching_state d)) (λ x. refl) w.sessions
+started_stays : (t : Touched) (o : Option Direction) (id : ℕ) (w : World) → (sizes (started_world o id w) ≡ sizes w) × Apart t id w (started_world o id w)
+started_stays t None id w = (refl, apart_same t id w)
+started_stays t (Some d) id w = (map-change_first_same session_size (has_id id) (state_set (searching_state d)) (λ x. refl) w.sessions, apart_state t id (searching_state d) w)
 
-sizes_begun : (b : ModeBefore) (byte_act : ByteAct) (id : ℕ) (w : World) → sizes (deciding_world b byte_act id w) ≡ sizes w
-sizes_begun b (byte_acts.Act a) id w = sizes_started (started_by a) id w
-sizes_begun b byte_acts.StartReplacing id w = map-change_first_same session_size (has_id id) (state_set (replacing_state (asked_of b).first (asked_of b).input)) (λ x. refl) w.sessions
-sizes_begun b _ id w = refl
-
-started_apart : (t : Touched) (o : Option Direction) (id : ℕ) (w : World) → Apart t id w (started_world o id w)
-started_apart t None id w = apart_same t id w
-started_apart t (Some d) id w = apart_state t id (searching_state d) w
-
-begun_apart : (t : Touched) (b : ModeBefore) (byte_act : ByteAct) (id : ℕ) (w : World) → Apart t id w (deciding_world b byte_act id w)
-begun_apart t b (byte_acts.Act a) id w = started_apart t (started_by a) id w
-begun_apart t b byte_acts.StartReplacing id w = apart_state t id (replacing_state (asked_of b).first (asked_of b).input) w
-begun_apart t b _ id w = apart_same t id w
+begun_stays : (t : Touched) (b : ModeBefore) (byte_act : ByteAct) (id : ℕ) (w : World) → (sizes (deciding_world b byte_act id w) ≡ sizes w) × Apart t id w (deciding_world b byte_act id w)
+begun_stays t b (byte_acts.Act a) id w = started_stays t (started_by a) id w
+begun_stays t b byte_acts.StartReplacing id w =
+    let f = replacing_state (asked_of b).first (asked_of b).input in
+    (map-change_first_same session_size (has_id id) (state_set f) (λ x. refl) w.sessions, apart_state t id f w)
+begun_stays t b _ id w = (refl, apart_same t id w)
 
 -- ALL THAT IT DID NOT TOUCH
-
-done_apart : (t : Touched) (old new : World) (before after : StoreTold) (id : ℕ) (c : Act) → DoneBy t old new before after id c → Apart t id old new
-done_apart t old new before after id c did =
-    let stored = did.acted.stored in
-    subst (Apart t id old) (sym did.acted.world) (subst (λ (s : Touched). Apart s id old (act old id c stored)) (sym did.tells) (apart_act old id c stored))
 
 pub byte_act_apart : (t : Touched) (b : ModeBefore) (byte_act : ByteAct) (w new : World) (before after : StoreTold) (id : ℕ) (c : Act) → DoneBy t (deciding_world b byte_act id w) new before after id c → Apart t id w new
 byte_act_apart t b byte_act w new before after id c did =
     let begun : World = deciding_world b byte_act id w in
-    apart_then t id w begun new (begun_apart t b byte_act id w) (done_apart t begun new before after id c did)
+    apart_then t id w begun new (begun_stays t b byte_act id w).1
+    (subst (Apart t id begun) (sym did.acted.world) (subst (λ (s : Touched). Apart s id begun (act begun id c did.acted.stored)) (sym did.tells) (apart_act begun id c did.acted.stored)))
 
 -- SIZES: no session went, so that none has quit
 pub byte_act_sizes : (t : Touched) (b : ModeBefore) (byte_act : ByteAct) (d : Directory) (ks ls : List MarkedBuffer) (xs ys : List Session) (id at : ℕ) (before after : StoreTold) (c : Act)
@@ -66,7 +55,7 @@ pub byte_act_sizes : (t : Touched) (b : ModeBefore) (byte_act : ByteAct) (d : Di
 byte_act_sizes t b byte_act d ks ls xs ys id at before after c place within many did =
     let w : World = world_of d ks xs None in
     let begun : World = deciding_world b byte_act id w in
-    let same : sizes begun ≡ sizes_in xs = sizes_begun b byte_act id w ∙ sizes_of_world d ks xs None in
+    let same : sizes begun ≡ sizes_in xs = (begun_stays t b byte_act id w).0 ∙ sizes_of_world d ks xs None in
     let new : sizes (act begun id c did.acted.stored) ≡ sizes_in ys = sym (ap sizes did.acted.world) ∙ sizes_of_world d ls ys None in
     let there : position_or_len (is_size_of id) (sizes begun) < length (sizes begun) =
     omega (arith, place, within, place_sized id xs, ap (position_or_len (is_size_of id)) same, ap length same, length_sizes xs) in

@@ -1,6 +1,7 @@
 -- The marks in use are counted twice: mark by mark, and window by window.
 use Rattle.std.proofs.Common.{◌≡◌, ◌+◌, ◌<◌, ◌≤◌, ◌∙◌, ℕ, zero, suc, Bool, true, false, cond, List, [], ◌∷◌, map, length, Option, Some, None, refl, inl, inr, sym, ap, ap₂, arith}
-use Rattle.std.proofs.lemmas.Bool.{cases_eq, cases_lt, ne_eqb}
+use Rattle.std.proofs.lemmas.Bool.{cases_lt}
+use Rattle.std.proofs.Math.Dec.{eqb-suc-zero, eqb-zero-suc, eqb-suc-suc}
 use Rattle.std.specs.Prelude.{count_by, is_some, nat_eq}
 use Rattle.std.specs.Option.{option_map}
 use Rattle.std.proofs.lemmas.List.Sums.{sum_by-cons}
@@ -11,7 +12,7 @@ use Rattle.mgs_buffers.specs.MarkedBuffer.{MarkedBuffer, marked_at, mark_at}
 use Rattle.mgs_windows.specs.declared.WindowMarks.{WindowMarks}
 use Rattle.mgs_windows.specs.declared.Window.{Window}
 use Rattle.mgs_windows.specs.declared.RowPane.{RowPane}
-use Rattle.mgs_windows.specs.declared.RowPane.TheVariants.{NoRows, Buffers, Entries}
+use Rattle.mgs_windows.specs.declared.RowPane.TheVariants.{NoRows}
 use Rattle.mgs_session.specs.declared.Session.{Session}
 use Rattle.mgs_world.specs.Sound.{IsSound, one_if, option_uses, sum_of, window_marks_uses, window_uses, place_uses, session_uses, uses, in_use}
 use Rattle.mgs_world.specs.Worlds.{window_of, window_shown, place_of, session_of, world_of}
@@ -46,27 +47,12 @@ past_end [] i h = refl
 past_end (m ∷ ms) zero h = absurd (omega (arith, h))
 past_end (m ∷ ms) (suc i) h = past_end ms i (omega (arith, h))
 
-no_use : (a b : ℕ) → (a ≡ b → ⊥) → one_if (nat_eq a b) ≡ 0
-no_use a b n = let t : nat_eq a b ≡ false = ne_eqb a b n in rw t refl
-
-suc_not_zero : (i : ℕ) → one_if (nat_eq 0 (suc i)) ≡ 0
-suc_not_zero i = no_use 0 (suc i) (λ e. omega (arith, e))
-
-zero_not_suc : (m : ℕ) → one_if (nat_eq (suc m) 0) ≡ 0
-zero_not_suc m = no_use (suc m) 0 (λ e. omega (arith, e))
-
-both_next : (m i : ℕ) → one_if (nat_eq (suc m) (suc i)) ≡ one_if (nat_eq m i)
-both_next m i = elim (cases_eq m i) [
-  | inl e ↦ one_use (suc m) (suc i) (ap suc e) ∙ sym (one_use m i e)
-  | inr n ↦ no_use (suc m) (suc i) (λ e. n (omega (arith, e))) ∙ sym (no_use m i n)
-]
-
 -- a number stands once among those up to a bound above it
 once_below : (n m : ℕ) → m < n → over n (λ i. one_if (nat_eq m i)) ≡ 1
 once_below zero m h = absurd (omega (arith, h))
-once_below (suc n) zero h = omega (arith, over_none n (λ i. one_if (nat_eq 0 (suc i))) suc_not_zero, one_use 0 0 refl)
+once_below (suc n) zero h = omega (arith, over_none n (λ i. one_if (nat_eq 0 (suc i))) (λ i. ap one_if (eqb-zero-suc i)), one_use 0 0 refl)
 once_below (suc n) (suc m) h =
-    omega (arith, zero_not_suc m, over_same n (λ i. one_if (nat_eq (suc m) (suc i))) (λ i. one_if (nat_eq m i)) (both_next m), once_below n m (omega (arith, h)))
+    omega (arith, ap one_if (eqb-suc-zero m), over_same n (λ i. one_if (nat_eq (suc m) (suc i))) (λ i. one_if (nat_eq m i)) (λ i. ap one_if (eqb-suc-suc m i)), once_below n m (omega (arith, h)))
 
 -- nothing counts from n on
 abbrev IsBelow : ℕ → (ℕ → ℕ) → Type 0
@@ -86,10 +72,6 @@ option_below : (n : ℕ) (o : Option ℕ) → IsBelow n (λ i. option_uses i o) 
 option_below n None h = over_none n (λ i. 0) (λ i. refl)
 option_below n (Some m) h = one_below n m h
 
-marks_with_is : (f : ℕ → ℕ) (o : Option ℕ) → 1 + option_marks o + 1 ≡ marks_with (option_map f o)
-marks_with_is f None = refl
-marks_with_is f (Some m) = refl
-
 -- the marks of a window or of a place, where the buffer is theirs or not
 abbrev uses_if : Bool → WindowMarks → ℕ → ℕ
 uses_if b x i = cond b (one_if (nat_eq x.point i) + option_uses i x.mark + one_if (nat_eq x.top i)) 0
@@ -102,15 +84,14 @@ uses_counted f n true x h =
     let top : over n (λ i. one_if (nat_eq x.top i)) ≡ 1 = one_below n x.top (λ i l. omega (arith, h i l)) in
     over_both n (λ i. one_if (nat_eq x.point i) + option_uses i x.mark) (λ i. one_if (nat_eq x.top i))
     ∙ ap₂ (λ a c. a + c) (over_both n (λ i. one_if (nat_eq x.point i)) (λ i. option_uses i x.mark) ∙ ap₂ (λ a c. a + c) point mark) top
-    ∙ marks_with_is f x.mark
+    ∙ (elim x.mark as (λ o. 1 + option_marks o + 1 ≡ marks_with (option_map f o)) [ None ↦ refl | Some m ↦ refl ])
 
 window_counted : (ks : List MarkedBuffer) (name : List ℕ) (n : ℕ) (x : Window) → IsBelow n (λ i. window_uses name i x) → over n (λ i. window_uses name i x) ≡ window_marks name (window_of ks x)
 window_counted ks name n x h = shown_counted x.height x.shows x.rows h
   where
     shown_counted : (height : ℕ) (o : Option WindowMarks) (rows : RowPane) → IsBelow n (λ i. window_marks_uses name i o) → over n (λ i. window_marks_uses name i o) ≡ window_marks name (window_shown ks height o rows)
     shown_counted height None NoRows h = over_none n (λ i. 0) (λ i. refl)
-    shown_counted height None (Buffers row) h = over_none n (λ i. 0) (λ i. refl)
-    shown_counted height None (Entries other row) h = over_none n (λ i. 0) (λ i. refl)
+    shown_counted height None _ h = over_none n (λ i. 0) (λ i. refl)
     shown_counted height (Some x) rows h = uses_counted (mark_at x.name ks) n (same_name name x.name) x h
 
 place_counted : (ks : List MarkedBuffer) (name : List ℕ) (n : ℕ) (x : WindowMarks) → IsBelow n (λ i. place_uses name i x) → over n (λ i. place_uses name i x) ≡ place_marks name (place_of ks x)

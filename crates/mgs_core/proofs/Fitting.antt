@@ -9,7 +9,7 @@ use Rattle.mgs_model.specs.Plans.{acted_state}
 use Rattle.mgs_model.specs.SearchCommands.{Failing, Goes_on, Keep_mode, ModePlan, Over, SearchChange, replace}
 use Rattle.mgs_model.specs.Acts.{Target, allowed, around_search, edit_of, fails, failing_in, is_full, judged, mode_left, needs, outcome, permitted, replaced_by, replaces_one, search_finished, target, without_all}
 use Rattle.mgs_model.specs.declared.entry.Decision.{Decision}
-use Rattle.mgs_model.specs.declared.entry.Decision.TheVariants.{Granted, DeniedBy, NotGranted}
+use Rattle.mgs_model.specs.declared.entry.Decision.TheVariants.{Granted}
 use Rattle.mgs_model.specs.declared.message.Message.{Message}
 use Rattle.mgs_model.specs.declared.message.Message.TheVariants.{BufferFull, NoBuffer, Silent}
 use Rattle.mgs_model.specs.declared.session.Replacement.{Replacement}
@@ -41,20 +41,14 @@ module _ (state : State) (mode : state.mode ≡ Replacing) (some : 0 < length st
 
   replaces_fit : (o : Option Target) (plan : Target → Result SearchChange Message) → IsFit (replaces_one state o plan).state
   replaces_fit None plan = failed_fits state NoBuffer
-  replaces_fit (Some t) plan = by (plan t)
-    where
-      full : (c : SearchChange) (b : Bool) → IsFit (cond b (fails state BufferFull) (search_finished state c.finish (edit_of t.buffer.name c.a c.b c.put))).state
-      full c true = failed_fits state BufferFull
-      full c false = mode_fits c.finish.mode
-
-      by : (p : Result SearchChange Message) → IsFit (replaced_by state t.buffer p).state
-      by (Err message) = failed_fits state message
-      by (Ok c) = full c (is_full (size_told t.buffer.told) (serial_told t.buffer.told) c.a c.b c.put)
+  replaces_fit (Some t) plan = elim (plan t) as (λ p. IsFit (replaced_by state t.buffer p).state) [
+    | Err message ↦ failed_fits state message
+    | Ok c ↦ elim (is_full (size_told t.buffer.told) (serial_told t.buffer.told) c.a c.b c.put) as (λ b. IsFit (cond b (fails state BufferFull) (search_finished state c.finish (edit_of t.buffer.name c.a c.b c.put))).state) [ true ↦ failed_fits state BufferFull | false ↦ mode_fits c.finish.mode ]
+  ]
 
   permitted_fits : (d : Decision) (o : Outcome) → IsFit o.state → IsFit (permitted state d o).state
   permitted_fits Granted o h = h
-  permitted_fits (DeniedBy n right) o h = fit_none (permitted state (DeniedBy n right) o).state refl
-  permitted_fits (NotGranted right) o h = fit_none (permitted state (NotGranted right) o).state refl
+  permitted_fits d o h = fit_none (permitted state d o).state refl
 
 replacement_fits : (v : View) (c : Replacement) (n : Option ℕ) (typed : List ℕ) (stored : Bool) → v.session.state.mode ≡ Replacing → 0 < length v.session.state.old → has_all (without_all v.session.state.todo) ≡ false → IsFit (outcome v (Run (Replace c) n typed) stored).state
 unfolding outcome

@@ -7,7 +7,7 @@ use Rattle.std.specs.Option.{option_or, option_map}
 use Rattle.std.proofs.lemmas.Bool.Decides.{nat_tests}
 use Rattle.std.proofs.lemmas.List.{map-id}
 use Rattle.std.proofs.lemmas.List.Elements.{All-head, All-tail, All-cons, All-nil, All-append}
-use Rattle.std.proofs.lemmas.List.Folds.{find-append}
+use Rattle.std.proofs.lemmas.List.Folds.{find-append, find_at}
 use Rattle.std.proofs.lemmas.Option.{slice_get-map, get_or_from_slice_get, slice_get_within}
 use Rattle.mgs_model.specs.Apply.{change_first, remove_first}
 use Rattle.mgs_world.specs.declared.size.Size.{Size}
@@ -30,20 +30,13 @@ pub none_of : {A B : Type 0} (f : A → B) (o : Option A) → option_map f o ≡
 none_of f None e = refl
 none_of f (Some a) e = cc
 
--- what holds of each holds of the one that is found
-pub All-found : {A : Type 0} (P : A → Type 0) (p : A → Bool) (xs : List A) (x : A) → All P xs → find p xs ≡ Some x → P x
-All-found P p [] x h e = cc
-All-found P p (y ∷ ys) x h e =
-    let go : (b : Bool) → cond b (Some y) (find p ys) ≡ Some x → P x =
-    λ b. elim b as (λ b. cond b (Some y) (find p ys) ≡ Some x → P x) [
-      | true ↦ λ f. let is : y ≡ x = cc in subst P is (All-head P y ys h)
-      | false ↦ λ f. All-found P p ys x (All-tail P y ys h) f
-    ]
-    in go (p y) e
-
 -- what holds of each holds of the one at a place
 pub all_got : {A : Type 0} (P : A → Type 0) (xs : List A) (i : ℕ) (x : A) → All P xs → slice_get xs i ≡ Some x → P x
 all_got P xs i x h e = subst P (get_or_from_slice_get xs i x x e) (h i x (slice_get_within xs i x e))
+
+-- and of the one that is found
+pub All-found : {A : Type 0} (P : A → Type 0) (p : A → Bool) (xs : List A) (x : A) → All P xs → find p xs ≡ Some x → P x
+All-found P p xs x h e = all_got P xs (position_or_len p xs) x h (sym (find_at p xs) ∙ e)
 
 pub mapped_got : {A B : Type 0} (f : A → B) (xs : List A) (i : ℕ) (x : A) → slice_get xs i ≡ Some x → slice_get (map f xs) i ≡ Some (f x)
 mapped_got f xs i x e = slice_get-map f xs i ∙ ap (option_map f) e
@@ -70,21 +63,15 @@ remove_at_first {A = A} p (x ∷ xs) =
 -- where none passes, none goes
 pub remove_none : {A : Type 0} (p : A → Bool) (xs : List A) → find p xs ≡ None → remove_first p xs ≡ xs
 remove_none p [] h = refl
-remove_none {A = A} p (x ∷ xs) h =
-    let goal : Bool → Type 0 = λ b. cond b (Some x) (find p xs) ≡ None → cond b xs (x ∷ remove_first p xs) ≡ x ∷ xs in
-    let go : (b : Bool) → goal b = λ b. elim b as goal [ true ↦ λ e. cc | false ↦ λ e. ap (λ ys. x ∷ ys) (remove_none p xs e) ] in
-    go (p x) h
+remove_none p (x ∷ xs) h =
+    (elim (p x) as (λ b. cond b (Some x) (find p xs) ≡ None → cond b xs (x ∷ remove_first p xs) ≡ x ∷ xs) [ true ↦ λ e. cc | false ↦ λ e. ap (λ ys. x ∷ ys) (remove_none p xs e) ]) h
 
 -- a map of both
 pub map-remove_first : {A B : Type 0} (h : A → B) (p : A → Bool) (q : B → Bool) → ((x : A) → q (h x) ≡ p x) → (xs : List A) → map h (remove_first p xs) ≡ remove_first q (map h xs)
 map-remove_first h p q same [] = refl
 map-remove_first h p q same (x ∷ xs) =
-    let go : (b : Bool) → map h (cond b xs (x ∷ remove_first p xs)) ≡ cond b (map h xs) (h x ∷ remove_first q (map h xs)) =
-    λ b. elim b as (λ b. map h (cond b xs (x ∷ remove_first p xs)) ≡ cond b (map h xs) (h x ∷ remove_first q (map h xs))) [
-      | true ↦ refl
-      | false ↦ ap (λ ys. h x ∷ ys) (map-remove_first h p q same xs)
-    ]
-    in go (p x) ∙ ap (λ b. cond b (map h xs) (h x ∷ remove_first q (map h xs))) (sym (same x))
+    elim (p x) as (λ b. map h (cond b xs (x ∷ remove_first p xs)) ≡ cond b (map h xs) (h x ∷ remove_first q (map h xs))) [ true ↦ refl | false ↦ ap (λ ys. h x ∷ ys) (map-remove_first h p q same xs) ]
+    ∙ ap (λ b. cond b (map h xs) (h x ∷ remove_first q (map h xs))) (sym (same x))
 
 -- and by its place below a map
 pub map-remove_at : {A B : Type 0} (h : A → B) (p : B → Bool) (at : ℕ) (xs : List A) → at ≡ position_or_len (λ x. p (h x)) xs → map h (remove xs at) ≡ remove_first p (map h xs)
@@ -107,10 +94,8 @@ find-remove_first_other p q apart xs = find_removed p q apart xs
 -- where none passes, none is changed
 pub change_none : {A : Type 0} (p : A → Bool) (f : A → A) (xs : List A) → find p xs ≡ None → change_first p f xs ≡ xs
 change_none p f [] h = refl
-change_none {A = A} p f (x ∷ xs) h =
-    let goal : Bool → Type 0 = λ b. cond b (Some x) (find p xs) ≡ None → cond b (f x ∷ xs) (x ∷ change_first p f xs) ≡ x ∷ xs in
-    let go : (b : Bool) → goal b = λ b. elim b as goal [ true ↦ λ e. cc | false ↦ λ e. ap (λ ys. x ∷ ys) (change_none p f xs e) ] in
-    go (p x) h
+change_none p f (x ∷ xs) h =
+    (elim (p x) as (λ b. cond b (Some x) (find p xs) ≡ None → cond b (f x ∷ xs) (x ∷ change_first p f xs) ≡ x ∷ xs) [ true ↦ λ e. cc | false ↦ λ e. ap (λ ys. x ∷ ys) (change_none p f xs e) ]) h
 
 -- WHERE NO ID STANDS TWICE
 
@@ -118,12 +103,10 @@ change_none {A = A} p f (x ∷ xs) h =
 pub unique_found : {A : Type 0} (of : A → Size) (xs : List A) → IsUnique (map of xs) → (at : ℕ) (x : A) → slice_get xs at ≡ Some x → find (λ y. is_size_of (of x).id (of y)) xs ≡ Some x
 unique_found of [] u at x is = cc
 unique_found {A = A} of (z ∷ zs) u zero x is =
-    let e : z ≡ x = same_some z x is in
-    subst (λ (s : A). find (λ y. is_size_of (of s).id (of y)) (z ∷ zs) ≡ Some s) e
+    subst (λ (s : A). find (λ y. is_size_of (of s).id (of y)) (z ∷ zs) ≡ Some s) (same_some z x is)
     (ap (λ b. cond b (Some z) (find (λ y. is_size_of (of z).id (of y)) zs)) (eq-eqb (of z).id (of z).id refl))
 unique_found of (z ∷ zs) u (suc at) x is =
-    let other : nat_eq (of z).id (of x).id ≡ false = all_got (IsOther (of z)) (map of zs) at (of x) u.0 (mapped_got of zs at x is) in
-    ap (λ b. cond b (Some z) (find (λ y. is_size_of (of x).id (of y)) zs)) other ∙ unique_found of zs u.1 at x is
+    ap (λ b. cond b (Some z) (find (λ y. is_size_of (of x).id (of y)) zs)) (all_got (IsOther (of z)) (map of zs) at (of x) u.0 (mapped_got of zs at x is)) ∙ unique_found of zs u.1 at x is
 
 pub known_at : (ss : List Size) (at : ℕ) (x : Size) → IsUnique ss → slice_get ss at ≡ Some x → find_size x.id ss ≡ Some x
 known_at ss at x u is = unique_found (λ (s : Size). s) ss (subst IsUnique (sym (map-id ss)) u) at x is
@@ -132,13 +115,10 @@ known_at ss at x u is = unique_found (λ (s : Size). s) ss (subst IsUnique (sym 
 pub unique_opened : (y : Size) (xs : List Size) → find_size y.id xs ≡ None → IsUnique xs → IsUnique (xs ++ y ∷ [])
 unique_opened y [] h u = (All-nil (IsOther y), tt)
 unique_opened y (x ∷ xs) h u =
-    let goal : Bool → Type 0 = λ b. nat_eq x.id y.id ≡ b → cond b (Some x) (find_size y.id xs) ≡ None → IsUnique ((x ∷ xs) ++ y ∷ []) in
-    let go : (b : Bool) → goal b =
-    λ b. elim b as goal [
+    (elim (nat_eq x.id y.id) as (λ b. nat_eq x.id y.id ≡ b → cond b (Some x) (find_size y.id xs) ≡ None → IsUnique ((x ∷ xs) ++ y ∷ [])) [
       | true ↦ λ e n. cc
       | false ↦ λ e n. (All-append (IsOther x) xs (y ∷ []) u.0 (All-cons (IsOther x) y [] e (All-nil (IsOther x))), unique_opened y xs n u.1)
-    ]
-    in go (nat_eq x.id y.id) refl h
+    ]) refl h
 
 pub known_last : (ss : List Size) (y : Size) → find_size y.id ss ≡ None → find_size y.id (ss ++ y ∷ []) ≡ Some y
 known_last ss y h =
@@ -175,10 +155,7 @@ pub others_left : {A : Type 0} (of : A → Size) (id : ℕ) (xs : List A) → Is
 others_left of id [] u = All-nil (λ x. nat_eq id (of x).id ≡ false)
 others_left {A = A} of id (x ∷ xs) u =
     let P : A → Type 0 = λ y. nat_eq id (of y).id ≡ false in
-    let goal : Bool → Type 0 = λ b. All P (cond b xs (x ∷ remove_first (λ y. is_size_of id (of y)) xs)) in
-    let go : (b : Bool) → nat_eq (of x).id id ≡ b → goal b =
-    λ b. elim b as (λ b. nat_eq (of x).id id ≡ b → goal b) [
+    (elim (nat_eq (of x).id id) as (λ b. nat_eq (of x).id id ≡ b → All P (cond b xs (x ∷ remove_first (λ y. is_size_of id (of y)) xs))) [
       | true ↦ λ e. subst (λ (n : ℕ). All (λ y. nat_eq n (of y).id ≡ false) xs) ((unsigned_Decides (of x).id id).0 e) (All-unmap (IsOther (of x)) of xs u.0)
       | false ↦ λ e. All-cons P x (remove_first (λ y. is_size_of id (of y)) xs) (differ (of x).id id e) (others_left of id xs u.1)
-    ]
-    in go (nat_eq (of x).id id) refl
+    ]) refl

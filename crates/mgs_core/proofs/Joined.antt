@@ -31,25 +31,21 @@ unchanged_less name id x = by (has_id id x) (list_any (λ (w : Window). may_show
 
 map_through : {A B : Type 0} (f g : A → Option B) (h : Option B → Option B) → ((x : A) → f x ≡ h (g x)) → (xs ys : List A) → map g xs ≡ map g ys → map f xs ≡ map f ys
 map_through f g h same [] [] e = refl
-map_through f g h same [] (y ∷ ys) e = cc
-map_through f g h same (x ∷ xs) [] e = cc
 map_through {A = A} {B = B} f g h same (x ∷ xs) (y ∷ ys) e =
     let first : g x ≡ g y = cc in
     let rest : map g xs ≡ map g ys = cc in
     ap (λ (o : Option B). o ∷ map f xs) (same x ∙ ap h first ∙ sym (same y)) ∙ ap (λ (os : List (Option B)). f y ∷ os) (map_through f g h same xs ys rest)
+map_through f g h same _ _ e = cc
 
-nowhere_in : (name : List ℕ) (id : ℕ) (u v : World) → Apart Nowhere id u v → Apart (In name) id u v
-nowhere_in name id u v a = record {
+pub apart_nowhere : (t : Touched) (id : ℕ) (u v : World) → Apart Nowhere id u v → Apart t id u v
+apart_nowhere Nowhere id u v a = a
+apart_nowhere (In name) id u v a = record {
   directory = a.directory;
   buffers = λ other differs. ap (find_buffer other) a.buffers;
   rules = λ h. a.rules refl;
   texts = λ h. a.texts refl;
   sessions = λ h. map_through (unchanged (In name) id) (unchanged Nowhere id) (option_and_then (unchanged (In name) id)) (unchanged_less name id) v.sessions u.sessions (a.sessions refl);
 }
-
-pub apart_nowhere : (t : Touched) (id : ℕ) (u v : World) → Apart Nowhere id u v → Apart t id u v
-apart_nowhere Nowhere id u v a = a
-apart_nowhere (In name) id u v a = nowhere_in name id u v a
 apart_nowhere Anywhere id u v a = apart_anywhere id u v a.directory
 
 -- one after the other
@@ -61,5 +57,4 @@ apart_both (In name) (In other) id u v w a b = by (same_name name other) refl
     by : (c : Bool) → same_name name other ≡ c → Apart (cond c (In name) Anywhere) id u w
     by true e = apart_then (In name) id u v w a (subst (λ (m : List ℕ). Apart (In m) id v w) (sym (same_names name other e)) b)
     by false e = apart_anywhere id u w (b.directory ∙ a.directory)
-apart_both (In name) Anywhere id u v w a b = apart_anywhere id u w (b.directory ∙ a.directory)
-apart_both Anywhere s id u v w a b = apart_anywhere id u w (b.directory ∙ a.directory)
+apart_both _ _ id u v w a b = apart_anywhere id u w (b.directory ∙ a.directory)

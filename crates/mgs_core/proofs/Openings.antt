@@ -22,25 +22,18 @@ use Rattle.mgs_world.specs.Sound.{IsSound, in_use}
 use Rattle.mgs_world.specs.WindowMarks.{FirstWindowMarks, MarksStay, WindowMarksDropped, first_name, window_marks_name}
 use Rattle.mgs_model.specs.declared.right.Right.TheVariants.{ReadAttributes}
 use Rattle.mgs_core.specs.Calls.{OpenAnswers, OpenedBy}
+use Rattle.mgs_model.proofs.Firsts.{found_passes}
 use Rattle.mgs_core.proofs.Stays.{opened_rests}
 use Rattle.mgs_world.proofs.Marks.{same_is}
 use Rattle.mgs_world.proofs.Worlds.{same_window, same_windows, same_world}
-use Rattle.mgs_world.proofs.Soundness.{AreInUse, in_use_more, sound_in_use, sound_same}
+use Rattle.mgs_world.proofs.Soundness.{AreInUse, in_use_more, sound_in_use}
 use Rattle.mgs_world.proofs.WindowMarks.{same_sizes, sessions_stay}
 
 -- WHAT THE FIRST WINDOW SHOWS
 
-first_buffers : (o : Option WindowMarks) (ks ls : List MarkedBuffer) → FirstWindowMarks o ks ls → buffers_of ls ≡ buffers_of ks
-first_buffers None ks ls h = h.buffers
-first_buffers (Some x) ks ls h = h.buffers
-
-first_stay : (o : Option WindowMarks) (ks ls : List MarkedBuffer) → FirstWindowMarks o ks ls → MarksStay ks ls
-first_stay None ks ls h = h.stay
-first_stay (Some x) ks ls h = h.stay
-
-first_more : (o : Option WindowMarks) (ks ls : List MarkedBuffer) → FirstWindowMarks o ks ls → (m : List ℕ) (i : ℕ) → in_use m i ks ≤ in_use m i ls
-first_more None ks ls h m i = omega (arith, h.uses m i)
-first_more (Some x) ks ls h m i = omega (arith, h.uses m i)
+first_kept : (o : Option WindowMarks) (ks ls : List MarkedBuffer) → FirstWindowMarks o ks ls → (buffers_of ls ≡ buffers_of ks) × MarksStay ks ls × ((m : List ℕ) (i : ℕ) → in_use m i ks ≤ in_use m i ls)
+first_kept None ks ls h = (h.buffers, h.stay, λ m i. omega (arith, h.uses m i))
+first_kept (Some x) ks ls h = (h.buffers, h.stay, λ m i. omega (arith, h.uses m i))
 
 first_window : (o : Option WindowMarks) (b : Option Buffer) (ks ls : List MarkedBuffer) (height : ℕ) → FirstWindowMarks o ks ls → window_marks_name o ≡ option_map (λ (b : Buffer). b.name) b → window_shown ls height o NoRows ≡ record { shows = first_shows b; point = 0; mark = None; top = 0; row = 0; height = height }
 first_window None None ks ls height h e = refl
@@ -65,10 +58,7 @@ world_stays d ks ls xs next before after buffers stay = same_world d _ _ _ _ (id
 pub world_undone : (d : Directory) (ks ls : List MarkedBuffer) (xs : List Session) (next : Option ℕ) → IsSound ks xs → WindowMarksDropped None ks ls → world_of d ls xs next ≡ world_of d ks xs next
 world_undone d ks ls xs next sound h =
     let used = sound_in_use ks xs sound in
-    world_stays d ks ls xs next used (in_use_more ks ls xs (first_more None ks ls h) used) h.buffers h.stay
-
-pub sound_undone : (ks ls : List MarkedBuffer) (xs : List Session) → IsSound ks xs → WindowMarksDropped None ks ls → IsSound ls xs
-sound_undone ks ls xs sound h = sound_same ks ls xs (λ m i. omega (arith, h.uses m i)) sound
+    world_stays d ks ls xs next used (in_use_more ks ls xs (first_kept None ks ls h).2 used) h.buffers h.stay
 
 next_above : (id : ℕ) → id + 1 ≡ max id (id + 1)
 next_above id = omega arith
@@ -80,11 +70,12 @@ pub opened_at : (d : Directory) (ks ls : List MarkedBuffer) (xs ys : List Sessio
 opened_at d ks ls xs ys id user rows cols o capacity sound h named more =
     let y = session_opened id user rows cols o capacity in
     let used = sound_in_use ks xs sound in
+    let kept = first_kept o ks ls h in
     let seen : map (session_of ls) (xs ++ y ∷ []) ≡ map (session_of ks) xs ++ new_session d (buffers_of ks) id user rows cols ∷ [] =
     map-append (session_of ls) xs (y ∷ [])
-    ∙ ap (λ (ss : List model.Session). ss ++ session_of ls y ∷ []) (sessions_stay ks ls xs used (in_use_more ks ls xs (first_more o ks ls h) used) (same_sizes ks ls (first_buffers o ks ls h)) (first_stay o ks ls h))
+    ∙ ap (λ (ss : List model.Session). ss ++ session_of ls y ∷ []) (sessions_stay ks ls xs used (in_use_more ks ls xs kept.2 used) (same_sizes ks ls kept.0) kept.1)
     ∙ ap (λ (s : model.Session). map (session_of ks) xs ++ s ∷ []) (session_new d ks ls id user rows cols o capacity h named) in
-    ap (λ (zs : List Session). world_of d ls zs (Some (id + 1))) more ∙ same_world d _ _ _ _ (id + 1) (first_buffers o ks ls h) seen
+    ap (λ (zs : List Session). world_of d ls zs (Some (id + 1))) more ∙ same_world d _ _ _ _ (id + 1) kept.0 seen
     ∙ ap (λ (n : ℕ). record (opened (world_of d ks xs (Some id)) id user rows cols) { next_id = n }) (next_above id)
 
 -- WHY NOT
@@ -96,17 +87,10 @@ among user (x ∷ xs) =
 
 -- who is found is the one who was named
 user_found : (user found : List ℕ) (users : List (List ℕ)) → find (same_name user) users ≡ Some found → found ≡ user
-user_found user found [] e = cc
-user_found user found (x ∷ xs) e =
-    let goal : Bool → Type 0 = λ b. cond b (Some x) (find (same_name user) xs) ≡ Some found → found ≡ user in
-    let go : (b : Bool) → same_name user x ≡ b → goal b = λ b. elim b as (λ b. same_name user x ≡ b → goal b) [
-      | true ↦ λ same is. (let named : x ≡ found = cc in sym named ∙ sym (same_is user x same))
-      | false ↦ λ same is. user_found user found xs is
-    ] in
-    go (same_name user x) refl e
+user_found user found users e = sym (same_is user found (found_passes (same_name user) users found e))
 
 -- the four questions in order
-abbrev fault_of : Bool → Bool → Bool → Bool → Option OpenFault
+abbrev pub fault_of : Bool → Bool → Bool → Bool → Option OpenFault
 fault_of known fits many used =
     option_or (if not known then Some NoUser else if not fits then Some Size else if many then Some Full else None) (if used then Some Full else None)
 
@@ -117,26 +101,12 @@ never_short true true true used e = cc
 never_short true true false true e = cc
 never_short true true false false e = cc
 
+pub fault_is : (w : World) (user : List ℕ) (rows cols : ℕ) (known fits many used : Bool) → is_some (find (same_name user) w.directory.users) ≡ known → is_size rows cols ≡ fits → nat_le SESSION_LIMIT (length w.sessions) ≡ many → nat_le (2 ^ 64) w.next_id ≡ used
+    → open_fault w user rows cols ≡ fault_of known fits many used
+fault_is w user rows cols known fits many used user_is fits_is many_is used_is = λ i. fault_of ((sym (among user w.directory.users) ∙ user_is) i) (fits_is i) (many_is i) (used_is i)
+
 pub no_user : (w : World) (user : List ℕ) (rows cols : ℕ) → is_some (find (same_name user) w.directory.users) ≡ false → open_fault w user rows cols ≡ Some NoUser
-no_user w user rows cols none =
-    ap (λ (b : Bool). fault_of b (is_size rows cols) (nat_le SESSION_LIMIT (length w.sessions)) (nat_le (2 ^ 64) w.next_id)) (sym (among user w.directory.users) ∙ none)
-
-pub no_screen : (w : World) (user : List ℕ) (rows cols : ℕ) → is_some (find (same_name user) w.directory.users) ≡ true → is_size rows cols ≡ false → open_fault w user rows cols ≡ Some Size
-no_screen w user rows cols some small =
-    ap (λ (b : Bool). fault_of b (is_size rows cols) (nat_le SESSION_LIMIT (length w.sessions)) (nat_le (2 ^ 64) w.next_id)) (sym (among user w.directory.users) ∙ some)
-    ∙ ap (λ (b : Bool). fault_of true b (nat_le SESSION_LIMIT (length w.sessions)) (nat_le (2 ^ 64) w.next_id)) small
-
-pub no_room : (w : World) (user : List ℕ) (rows cols : ℕ) (many used : Bool) → is_some (find (same_name user) w.directory.users) ≡ true → is_size rows cols ≡ true → nat_le SESSION_LIMIT (length w.sessions) ≡ many → nat_le (2 ^ 64) w.next_id ≡ used → open_fault w user rows cols ≡ cond many (Some Full) (cond used (Some Full) None)
-no_room w user rows cols many used some fits many_is used_is =
-    ap (λ (b : Bool). fault_of b (is_size rows cols) (nat_le SESSION_LIMIT (length w.sessions)) (nat_le (2 ^ 64) w.next_id)) (sym (among user w.directory.users) ∙ some)
-    ∙ ap (λ (b : Bool). fault_of true b (nat_le SESSION_LIMIT (length w.sessions)) (nat_le (2 ^ 64) w.next_id)) fits
-    ∙ ap (λ (b : Bool). fault_of true true b (nat_le (2 ^ 64) w.next_id)) many_is
-    ∙ ap (λ (b : Bool). fault_of true true many b) used_is
-    ∙ either many
-  where
-    either : (b : Bool) → fault_of true true b used ≡ cond b (Some Full) (cond used (Some Full) None)
-    either true = refl
-    either false = refl
+no_user w user rows cols none = fault_is w user rows cols false _ _ _ none refl refl refl
 
 -- as many sessions as are kept
 pub many_sessions : (d : Directory) (ks : List MarkedBuffer) (xs : List Session) (next : Option ℕ) (n : ℕ) → n ≡ length xs → nat_le SESSION_LIMIT (length (world_of d ks xs next).sessions) ≡ nat_le SESSION_LIMIT n
@@ -148,25 +118,9 @@ first_none : {A : Type 0} (a b : Option A) → option_or a b ≡ None → a ≡ 
 first_none None b e = refl
 first_none (Some x) b e = cc
 
-can_be_opened : (w : World) (id : ℕ) (user : List ℕ) (rows cols : ℕ) → open_fault w user rows cols ≡ None → is_open id w ≡ false → can_open w id user rows cols ≡ true
-can_be_opened w id user rows cols well fresh =
-    ap (λ (o : Option OpenFault). not (is_some o) && not (is_open id w)) (first_none (session_fault w user rows cols) (if nat_le (2 ^ 64) w.next_id then Some Full else None) well)
-    ∙ ap not fresh
-
-opened_ok : (w v : World) (id : ℕ) (user : List ℕ) (rows cols : ℕ) → open_fault w user rows cols ≡ None → id ≡ w.next_id → is_open id w ≡ false → v ≡ settled (opened w id user rows cols) → OpenedBy w v user rows cols (Ok id)
-opened_ok w v id user rows cols well is fresh done =
-    let can = can_be_opened w id user rows cols well fresh in
-    record {
-      ok = (is, can, done ∙ sym (ap (λ (b : Bool). cond b (settled (opened w id user rows cols)) w) can));
-      err = tt;
-      answer = well;
-    }
-
 answers : (w : World) (user : List ℕ) (rows cols : ℕ) (fault : OpenFault) → open_fault w user rows cols ≡ Some fault → OpenAnswers (Err fault) (open_fault w user rows cols)
-answers w user rows cols NoUser e = e
-answers w user rows cols Size e = e
-answers w user rows cols Full e = e
 answers w user rows cols Short e = never_short (is_among user w.directory.users) (is_size rows cols) (nat_le SESSION_LIMIT (length w.sessions)) (nat_le (2 ^ 64) w.next_id) e
+answers w user rows cols _ e = e
 
 pub opened_fault : (w : World) (user : List ℕ) (rows cols : ℕ) (fault : OpenFault) → open_fault w user rows cols ≡ Some fault → OpenedBy w w user rows cols (Err fault)
 opened_fault w user rows cols fault e = record { ok = tt; err = refl; answer = answers w user rows cols fault e }
@@ -185,5 +139,14 @@ opened_is w d ks ls xs ys now after id user found rows cols view is behind named
 -- and its answer
 pub opened_by : (w v : World) (d : Directory) (ks : List MarkedBuffer) (xs : List Session) (now : Option ℕ) (id : ℕ) (user : List ℕ) (rows cols : ℕ) → world_of d ks xs now ≡ w → now ≡ Some id → open_fault w user rows cols ≡ None → IsSize rows cols → settled w ≡ w → is_open id w ≡ false → v ≡ opened w id user rows cols → OpenedBy w v user rows cols (Ok id)
 opened_by w v d ks xs now id user rows cols view is well size rests fresh done =
-    opened_ok w v id user rows cols well (sym (ap id_after is) ∙ ap (λ (u : World). u.next_id) view) fresh
-    (done ∙ sym (opened_rests w id user rows cols (omega (arith, size.some_rows)) rests))
+    let can : can_open w id user rows cols ≡ true =
+    ap (λ (o : Option OpenFault). not (is_some o) && not (is_open id w)) (first_none (session_fault w user rows cols) (if nat_le (2 ^ 64) w.next_id then Some Full else None) well) ∙ ap not fresh in
+    record {
+      ok = (
+        sym (ap id_after is) ∙ ap (λ (u : World). u.next_id) view,
+        can,
+        done ∙ sym (opened_rests w id user rows cols (omega (arith, size.some_rows)) rests) ∙ sym (ap (λ (b : Bool). cond b (settled (opened w id user rows cols)) w) can),
+      );
+      err = tt;
+      answer = well;
+    }

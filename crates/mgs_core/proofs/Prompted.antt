@@ -10,7 +10,8 @@ use Rattle.mgs_model.specs.Outcome.{Act, Run}
 use Rattle.mgs_model.specs.Apply.{outcome_in}
 use Rattle.mgs_model.specs.Completion.{completion, shown_names}
 use Rattle.mgs_mini.specs.Narrowing.{granted_names}
-use Rattle.mgs_model.specs.Turns.{Keep, Do, command_turn, answer_turn, command_for, completed, named_turn, names_buffers, names_commands, names_completed, plain_state, prompt_turn, unbound_state}
+use Rattle.mgs_model.specs.Questions.{command_for, names_buffers, names_commands}
+use Rattle.mgs_model.specs.Turns.{Keep, Do, command_turn, answer_turn, completed, named_turn, names_completed, plain_state, prompt_turn, unbound_state}
 use Rattle.mgs_model.specs.Events.{refused_state}
 use Rattle.mgs_laws.specs.Refusals.{may_be_refused}
 use Rattle.mgs_model.specs.declared.message.Message.TheVariants.{Silent, NoMemory, NoSuchCommand, Quitting}
@@ -19,7 +20,7 @@ use Rattle.mgs_model.specs.declared.session.Mode.TheVariants.{Prompt}
 use Rattle.mgs_model.specs.declared.session.Question.{Question}
 use Rattle.mgs_model.specs.declared.session.Question.TheVariants.{SwitchTo, RunWhich, ReplaceWhat, ReplaceWith}
 use Rattle.mgs_laws.proofs.LeftToDo.{is_single}
-use Rattle.mgs_mini.specs.Typing.{PromptInput, keys_of, stepped, typed_state}
+use Rattle.mgs_mini.specs.Typing.{IsFirst, PromptInput, keys_of, stepped, typed_state}
 use Rattle.mgs_mini.specs.Typing as prompts
 use Rattle.mgs_mini.specs.declared.Step.{Step}
 use Rattle.mgs_mini.specs.declared.Step.TheVariants.{GoesOn, Answered, Quit, Completes, Unbound}
@@ -31,7 +32,6 @@ use Rattle.mgs_plan.specs.Searching.{meant}
 use Rattle.mgs_model.specs.Plans.{failed_state}
 use Rattle.mgs_buffers.specs.MarkedBuffer.{MarkedBuffer}
 use Rattle.mgs_session.specs.declared.Session.{Session}
-use Rattle.mgs_session.specs.declared.search.Aim.{Aim}
 use Rattle.mgs_session.specs.declared.search.Aim.TheVariants.{Find, Replace}
 use Rattle.mgs_session.specs.declared.search.Search.{Search}
 use Rattle.mgs_session.specs.Sessions.{failed, prompting, resting, unbound, unprompted}
@@ -47,10 +47,9 @@ use Rattle.mgs_core.specs.declared.byte_acts.ModeBefore.TheVariants as befores
 use Rattle.mgs_core.specs.declared.keying.ByteStep.{ByteStep}
 use Rattle.mgs_core.specs.declared.keying.ByteStep.TheVariants.{Kept, Acts}
 use Rattle.mgs_core.specs.Prompted.{names_for, state_turn}
-use Rattle.mgs_mini.specs.Typing.{IsFirst}
-use Rattle.mgs_core.specs.ByteActs.{asked_of, before_turn, model_act, deciding_state, deciding_world, refused}
-use Rattle.mgs_core.specs.ByteSteps.{IsAlone, IsAnswerStep, IsAskedStep, IsByteStep, IsCommandStep, IsNamedStep, IsReplyStep, SeesNames, second_input}
-use Rattle.mgs_core.proofs.Stepped.{command_step, fit_same, left_same, none_stays, acts_same, kept_none, kept_same}
+use Rattle.mgs_core.specs.ByteActs.{asked_of, before_turn, model_act, deciding_state, refused}
+use Rattle.mgs_core.specs.ByteSteps.{IsAlone, IsAnswerStep, IsAskedStep, IsByteStep, IsNamedStep, IsReplyStep, SeesNames, second_input}
+use Rattle.mgs_core.proofs.Stepped.{command_step, further_same, left_same, none_stays, acts_same, kept_none, kept_same}
 
 -- WHAT AN ANSWER IS FOR
 
@@ -103,56 +102,39 @@ completed_seen d ks user v c e state input sees same =
     ap (λ (names : List (List ℕ)). completed state (completion (cond (names_buffers c) names (cond (names_commands c) command_names [])) input)) sees
     ∙ sym (ap (λ (k : Question). completed state (completion (names_for d user ks k) input)) same)
 
-completed_todo : (state : model.State) (o : Option (List ℕ)) → (completed state o).todo ≡ state.todo
-completed_todo state None = refl
-completed_todo state (Some text) = refl
-
-completed_mode : (state : model.State) (o : Option (List ℕ)) → (completed state o).mode ≡ state.mode
-completed_mode state None = refl
-completed_mode state (Some text) = refl
+completed_same : (state : model.State) (o : Option (List ℕ)) → ((completed state o).todo ≡ state.todo) × ((completed state o).mode ≡ state.mode)
+completed_same state None = (refl, refl)
+completed_same state (Some text) = (refl, refl)
 
 -- a session in the mode of a prompt does not search
 prompted_none : (s : Option Search) (p : Option PromptInput) (c : Question) → mode_in s p ≡ Prompt c → s ≡ None
 prompted_none None p c e = refl
-prompted_none (Some s) p c e = by s.aim e
-  where
-    by : (a : Aim) → aim_mode a ≡ Prompt c → Path (Option Search) (Some s) None
-    by (Find f) h = cc
-    by (Replace r) h = cc
+prompted_none (Some s) p c e = (elim s.aim as (λ a. aim_mode a ≡ Prompt c → Path (Option Search) (Some s) None) [ Find f ↦ λ h. cc | Replace r ↦ λ h. cc ]) e
 
 pub completes : (d : Directory) (ks : List MarkedBuffer) (y taken new : Session) (p q : PromptInput) (byte : ℕ) → IsAlone (unsearched y).state.player → (unsearched y).state.prompt ≡ Some p → q.question ≡ p.question → q.first ≡ p.first → IsFed p q byte Completes → taken ≡ unprompted (unsearched y)
     → state_of new.state ≡ completed (state_of (prompting q taken).state) (completion (names_for d taken.user ks q.question) q.input) → new ≡ record taken { state = new.state } → IsByteStep d ks (unsearched y) new byte befores.Plain Kept
-completes d ks y taken new p q byte alone is question first turn took owns rest = record {
-  state = rest ∙ ap (λ (s : Session). record s { state = new.state }) took;
-  stays = none_stays (unsearched y).state new.state
-      (prompted_none new.state.search new.state.prompt q.question
-      (ap (λ (o : model.State). o.mode) owns
-      ∙ completed_mode (state_of (prompting q taken).state) (completion (names_for d taken.user ks q.question) q.input)
-      ∙ ap (λ (s : Session). (state_of (prompting q s).state).mode) took));
-  turn = λ v sees.
-      step_turn v y p q Completes byte is question first turn
-      ∙ ap Keep
-      (completed_seen d ks (unsearched y).user v p.question q.question (state_of (prompting q (unsearched y)).state) q.input sees question
-      ∙ sym (ap (λ (s : Session). completed (state_of (prompting q s).state) (completion (names_for d s.user ks q.question) q.input)) took)
-      ∙ sym owns);
-  left = left_same (unsearched y).state.player new.state.player.todo alone
-      (ap (λ (o : model.State). o.todo) owns
-      ∙ completed_todo (state_of (prompting q taken).state) (completion (names_for d taken.user ks q.question) q.input)
-      ∙ ap (λ (s : Session). s.state.player.todo) took);
-  fit = fit_same (unsearched y).state.player (state_of new.state) alone
-      (ap (λ (o : model.State). o.todo) owns
-      ∙ completed_todo (state_of (prompting q taken).state) (completion (names_for d taken.user ks q.question) q.input)
-      ∙ ap (λ (s : Session). s.state.player.todo) took);
-}
+completes d ks y taken new p q byte alone is question first turn took owns rest =
+    let same = completed_same (state_of (prompting q taken).state) (completion (names_for d taken.user ks q.question) q.input) in
+    let todo = ap (λ (o : model.State). o.todo) owns ∙ same.0 ∙ ap (λ (s : Session). s.state.player.todo) took in
+    record {
+      state = rest ∙ ap (λ (s : Session). record s { state = new.state }) took;
+      stays = none_stays (unsearched y).state new.state
+          (prompted_none new.state.search new.state.prompt q.question (ap (λ (o : model.State). o.mode) owns ∙ same.1 ∙ ap (λ (s : Session). (state_of (prompting q s).state).mode) took));
+      turn = λ v sees.
+          step_turn v y p q Completes byte is question first turn
+          ∙ ap Keep
+          (completed_seen d ks (unsearched y).user v p.question q.question (state_of (prompting q (unsearched y)).state) q.input sees question
+          ∙ sym (ap (λ (s : Session). completed (state_of (prompting q s).state) (completion (names_for d s.user ks q.question) q.input)) took)
+          ∙ sym owns);
+      left = left_same (unsearched y).state.player new.state.player.todo alone todo;
+      fit = further_same (unsearched y).state.player (state_of new.state) alone todo;
+    }
 
 -- a completion, by the record that it leaves
-completed_still : (y : Session) (p q : PromptInput) (text : Option (List ℕ)) (b : Bool) → q.question ≡ p.question → q.first ≡ p.first → ((state : model.State) → completed (typed_state state p.input p.waiting) text ≡ prompts.told b (typed_state state q.input q.waiting)) → prompts.told b (state_of (prompting q (unsearched y)).state) ≡ completed (state_of (prompting p (unsearched y)).state) text
-completed_still y p q text b question first input =
-    let state : model.State = state_of (prompting p (unsearched y)).state in
-    (λ i. prompts.told b (record (typed_state state q.input q.waiting) { mode = Prompt (question i); old = first i })) ∙ sym (input state)
-
 pub completed_as : (x : Session) (p q : PromptInput) (text : Option (List ℕ)) (b : Bool) → x ≡ unsearched x → q.question ≡ p.question → q.first ≡ p.first → ((state : model.State) → completed (typed_state state p.input p.waiting) text ≡ prompts.told b (typed_state state q.input q.waiting)) → prompts.told b (state_of (prompting q x).state) ≡ completed (state_of (prompting p x).state) text
-completed_as x p q text b still question first input = subst (λ (z : Session). prompts.told b (state_of (prompting q z).state) ≡ completed (state_of (prompting p z).state) text) (sym still) (completed_still x p q text b question first input)
+completed_as x p q text b still question first input =
+    subst (λ (z : Session). prompts.told b (state_of (prompting q z).state) ≡ completed (state_of (prompting p z).state) text) (sym still)
+    ((λ i. prompts.told b (record (typed_state (state_of (prompting p (unsearched x)).state) q.input q.waiting) { mode = Prompt (question i); old = first i })) ∙ sym (input (state_of (prompting p (unsearched x)).state)))
 
 -- AN ANSWER, with no key half read
 
@@ -173,9 +155,8 @@ answered_at v y p byte c is turn of_c = step_turn v y p p Answered byte is refl 
 
 named_at : (v : View) (y : Session) (p : PromptInput) (o : Option Command) (byte : ℕ) → (unsearched y).state.prompt ≡ Some p → IsFed p p byte Answered → p.question ≡ RunWhich → find_command p.input ≡ o → state_turn v (unsearched y).state byte ≡ named_turn (plain_state (state_of (prompting p (unsearched y)).state)) (value_of (unsearched y).state.keyboard.argument) o
 named_at v y p o byte is turn names found =
-    let state : model.State = state_of (prompting p (unsearched y)).state in
     answered_at v y p byte RunWhich is turn names
-    ∙ ap (named_turn (plain_state state) (value_of (unsearched y).state.keyboard.argument)) found
+    ∙ ap (named_turn (plain_state (state_of (prompting p (unsearched y)).state)) (value_of (unsearched y).state.keyboard.argument)) found
 
 -- the session that is at its prompt again has what it had
 again_prompted : (y : Session) (p : PromptInput) → (unsearched y).state.prompt ≡ Some p → p.waiting ≡ NoKey → state_of (refused (before_turn (befores.Prompt p) (unsearched y).state) (resting (unsearched y))).state ≡ refused_state (state_of (unsearched y).state)
@@ -187,9 +168,7 @@ again_prompted y p is none =
 module _ (d : Directory) (ks : List MarkedBuffer) (y taken new : Session) (p : PromptInput) (byte : ℕ) (b : ModeBefore) (alone : IsAlone (unsearched y).state.player) (is : (unsearched y).state.prompt ≡ Some p) (none : p.waiting ≡ NoKey) (turn : IsFed p p byte Answered) (took : taken ≡ unprompted (unsearched y)) where
   -- its prompt was there before
   prompt_was : (step k : ByteStep) → step ≡ k → b ≡ befores.Prompt p → IsByteStep d ks (unsearched y) new byte (befores.Prompt p) k → IsByteStep d ks (unsearched y) new byte b step
-  prompt_was step k same was s =
-      subst (λ (e : ModeBefore). IsByteStep d ks (unsearched y) new byte e step) (sym was)
-      (subst (IsByteStep d ks (unsearched y) new byte (befores.Prompt p)) (sym same) s)
+  prompt_was step k same was s = rw (was, same) s
 
   -- where it names a command
   named_step : (step : ByteStep) (o : Option Command) → p.question ≡ RunWhich → p.first ≡ [] → find_command p.input ≡ o → IsNamedStep taken new p b o step → IsByteStep d ks (unsearched y) new byte b step
@@ -202,8 +181,7 @@ module _ (d : Directory) (ks : List MarkedBuffer) (y taken new : Session) (p : P
       prompt_was step step refl did.1
       (command_step (SeesNames d ks (unsearched y).user) (λ v. state_turn v (unsearched y).state byte) (unsearched y) new c (value_of (unsearched y).state.keyboard.argument) (befores.Prompt p) step
       (λ v sees. named_at v y p (Some c) byte is turn names found ∙ ap (λ (state : model.State). command_turn state (value_of (unsearched y).state.keyboard.argument) c) (plain_rests y p none first))
-      did.0 alone (again_prompted y p is none) (λ r. refl)
-      (subst (λ (s : Session). IsCommandStep (resting s) new c (value_of s.state.keyboard.argument) step) took did.2))
+      did.0 alone (again_prompted y p is none) (λ r. refl) (rw took at did.2))
 
   -- where it is what the question is for
   asked_step : is_answered p.question ≡ true → p.first ≡ [] → new ≡ resting (unsearched y) → IsByteStep d ks (unsearched y) new byte (befores.Prompt p) (Acts (byte_acts.Answer (value_of (unsearched y).state.keyboard.argument)))
@@ -250,18 +228,15 @@ still_step d ks y new byte b step still s = subst (λ (z : Session). IsByteStep 
 
 -- WHAT AN ANSWER DOES
 
-answer_act : {X : Type 0} (f : Act → X) (state : model.State) (b : ModeBefore) (byte_act : ByteAct) (p : PromptInput) (n : Option ℕ) (c : Question) (typed : List ℕ) → byte_act ≡ byte_acts.Answer n → p ≡ asked_of b → c ≡ p.question → typed ≡ p.input → f (Run (command_for c) n (meant c state.pattern typed)) ≡ f (model_act state b byte_act)
-answer_act f state b byte_act p n c typed is asked question input =
+answer_act : {X : Type 0} (f : Act → X) (state : model.State) (b : ModeBefore) (p : PromptInput) (n : Option ℕ) (c : Question) (typed : List ℕ) → p ≡ asked_of b → c ≡ p.question → typed ≡ p.input → f (Run (command_for c) n (meant c state.pattern typed)) ≡ f (model_act state b (byte_acts.Answer n))
+answer_act f state b p n c typed asked question input =
     ap (λ (q : Question). f (Run (command_for q) n (meant q state.pattern typed))) question
     ∙ ap (λ (t : List ℕ). f (Run (command_for p.question) n (meant p.question state.pattern t))) input
     ∙ ap (λ (q : PromptInput). f (Run (command_for q.question) n (meant q.question state.pattern q.input))) asked
-    ∙ sym (ap (λ (d : ByteAct). f (model_act state b d)) is)
 
-pub answer_done : (touched : Touched) (old new : World) (before after : StoreTold) (id : ℕ) (state : model.State) (b : ModeBefore) (byte_act : ByteAct) (p : PromptInput) (n : Option ℕ) (c : Question) (typed : List ℕ) → byte_act ≡ byte_acts.Answer n → p ≡ asked_of b → c ≡ p.question → typed ≡ p.input
-    → DoneBy touched old new before after id (Run (command_for c) n (meant c state.pattern typed)) → DoneBy touched (deciding_world b byte_act id old) new before after id (model_act state b byte_act)
-answer_done touched old new before after id state b byte_act p n c typed is asked question input did =
-    subst (λ (e : ByteAct). DoneBy touched (deciding_world b e id old) new before after id (model_act state b e)) (sym is)
-    (subst (DoneBy touched old new before after id) (answer_act (λ (e : Act). e) state b (byte_acts.Answer n) p n c typed refl asked question input) did)
+pub answer_done : (touched : Touched) (old new : World) (before after : StoreTold) (id : ℕ) (state : model.State) (b : ModeBefore) (p : PromptInput) (n : Option ℕ) (c : Question) (typed : List ℕ) → p ≡ asked_of b → c ≡ p.question → typed ≡ p.input
+    → DoneBy touched old new before after id (Run (command_for c) n (meant c state.pattern typed)) → DoneBy touched old new before after id (model_act state b (byte_acts.Answer n))
+answer_done touched old new before after id state b p n c typed asked question input did = subst (DoneBy touched old new before after id) (answer_act (λ (e : Act). e) state b p n c typed asked question input) did
 
-pub answer_may : (w : World) (id : ℕ) (state : model.State) (b : ModeBefore) (byte_act : ByteAct) (p : PromptInput) (n : Option ℕ) (c : Question) (typed : List ℕ) → byte_act ≡ byte_acts.Answer n → p ≡ asked_of b → c ≡ p.question → typed ≡ p.input → may_be_refused (outcome_in w id (Run (command_for c) n (meant c state.pattern typed)) true) ≡ true → may_be_refused (outcome_in w id (model_act state b byte_act) true) ≡ true
-answer_may w id state b byte_act p n c typed is asked question input may = sym (answer_act (λ (a : Act). may_be_refused (outcome_in w id a true)) state b byte_act p n c typed is asked question input) ∙ may
+pub answer_may : (w : World) (id : ℕ) (state : model.State) (b : ModeBefore) (p : PromptInput) (n : Option ℕ) (c : Question) (typed : List ℕ) → p ≡ asked_of b → c ≡ p.question → typed ≡ p.input → may_be_refused (outcome_in w id (Run (command_for c) n (meant c state.pattern typed)) true) ≡ true → may_be_refused (outcome_in w id (model_act state b (byte_acts.Answer n)) true) ≡ true
+answer_may w id state b p n c typed asked question input may = sym (answer_act (λ (a : Act). may_be_refused (outcome_in w id a true)) state b p n c typed asked question input) ∙ may

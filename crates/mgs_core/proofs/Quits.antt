@@ -40,9 +40,7 @@ module _ (w start now : World) (before after : StoreTold) (id byte : ℕ) (begin
 
   -- only that session has the id
   ended_is : ended ≡ record started { sessions = without_session id started.sessions }
-  ended_is =
-      let v : World = with_state id (begun_state byte) w in
-      act_ends v t.state id t.argument true _ (found_state w id (begun_state byte) x found) t.quiet
+  ended_is = act_ends started t.state id t.argument true _ (found_state w id (begun_state byte) x found) t.quiet
 
   ended_closed : ended ≡ closed w id
   ended_closed =
@@ -59,12 +57,7 @@ module _ (w start now : World) (before after : StoreTold) (id byte : ℕ) (begin
   saved = flat_map saved_by (act_effects (with_state id (λ was. t.state) started) id exits true)
 
   leads : Leads id true 1 saved started ended
-  leads =
-      let v : World = with_state id (begun_state byte) w in
-      leads_acted id true v (act (with_state id (λ was. t.state) v) id (Run Exit t.argument []) true) t.state (Run Exit t.argument []) (ap (λ (u : World). turn_in u id) (sym begins) ∙ t.turn) refl
-
-  saves_none : saved ≡ []
-  saves_none = act_saves_none (with_state id (λ was. t.state) started) id (Run Exit t.argument []) true refl
+  leads = leads_acted id true started ended t.state exits (ap (λ (u : World). turn_in u id) (sym begins) ∙ t.turn) refl
 
   over : rests (turn_in ended id) ≡ true
   over = rests_found ended id None gone (λ y e. cc)
@@ -86,7 +79,7 @@ module _ (w start now : World) (before after : StoreTold) (id byte : ℕ) (begin
         fault = λ e. cc;
         saves =
             ap (λ (s : StoreTold). s.accepted) t.left
-            ∙ told_none before.accepted saved saves_none
+            ∙ told_none before.accepted saved (act_saves_none (with_state id (λ was. t.state) started) id exits true refl)
             ∙ sym (ap (λ (xs : List Saved). told_more xs before.accepted) (saves_done w ended id byte true 1 saved here leads (within_most 1 (omega arith)) over));
         unasked = λ e. cc;
       }
@@ -95,38 +88,17 @@ module _ (w start now : World) (before after : StoreTold) (id byte : ℕ) (begin
 pub event_keyed : (id byte : ℕ) (w start now new : World) (before after : StoreTold) (k : Keyed) → (k ≡ keyed.Quit → ⊥) → EventBy id start now before after k → IsSome (find_session id w.sessions) → IsSome (find_session id new.sessions) → start ≡ with_state id (begun_state byte) w → new ≡ settled now → TypedBy w new before after id byte k
 event_keyed id byte w start now new before after keyed.Quit other e here there begins settles = absurd (other refl)
 event_keyed id byte w start now new before after keyed.NoSession other e here there begins settles = absurd e
-event_keyed id byte w start now new before after keyed.Done other e here there begins settles =
-    subst (λ (v : World). KeyedBy w v before after id byte keyed.Done) (sym settles) (e w byte here (subst (λ (v : World). IsSome (find_session id v.sessions)) settles there) begins)
-event_keyed id byte w start now new before after keyed.Short other e here there begins settles =
-    subst (λ (v : World). KeyedBy w v before after id byte keyed.Short) (sym settles) (e w byte here (subst (λ (v : World). IsSome (find_session id v.sessions)) settles there) begins)
-
-pub event_quits : (id : ℕ) (start now : World) (before after : StoreTold) (k : Keyed) → k ≡ keyed.Quit → EventBy id start now before after k → TurnEnds false start now before after id
-event_quits id start now before after keyed.Quit is e = e
-event_quits id start now before after keyed.Done is e = cc
-event_quits id start now before after keyed.Short is e = cc
-event_quits id start now before after keyed.NoSession is e = cc
-
-pub typed_ends : (w new : World) (before after : StoreTold) (id byte : ℕ) (k : Keyed) → k ≡ keyed.Quit → KeyedBy w (closed w id) before after id byte keyed.Quit → TypedBy w new before after id byte k
-typed_ends w new before after id byte keyed.Quit is h = h
-typed_ends w new before after id byte keyed.Done is h = cc
-typed_ends w new before after id byte keyed.Short is h = cc
-typed_ends w new before after id byte keyed.NoSession is h = cc
+event_keyed id byte w start now new before after k other e here there begins settles =
+    subst (λ (v : World). KeyedBy w v before after id byte k) (sym settles) (e w byte here (subst (λ (v : World). IsSome (find_session id v.sessions)) settles there) begins)
 
 -- what was typed, where it ends the session and where it does not
-pub typed_quit : (v w : World) (before after : StoreTold) (id byte : ℕ) (k : Keyed) → k ≡ keyed.Quit → TypedBy v w before after id byte k → KeyedBy v (closed v id) before after id byte keyed.Quit
-typed_quit v w before after id byte keyed.Quit e h = h
-typed_quit v w before after id byte keyed.Done e h = cc
-typed_quit v w before after id byte keyed.Short e h = cc
-typed_quit v w before after id byte keyed.NoSession e h = cc
+pub typed_quit : (v w new : World) (before after : StoreTold) (id byte : ℕ) (k : Keyed) → k ≡ keyed.Quit → new ≡ closed v id → TypedBy v w before after id byte k → KeyedBy v new before after id byte keyed.Quit
+typed_quit v w new before after id byte k e gone h = subst (λ (u : World). KeyedBy v u before after id byte keyed.Quit) (sym gone) (subst (TypedBy v w before after id byte) e h)
 
 pub typed_other : (v w : World) (before after : StoreTold) (id byte : ℕ) (k : Keyed) → (k ≡ keyed.Quit → ⊥) → TypedBy v w before after id byte k → KeyedBy v w before after id byte k
 typed_other v w before after id byte keyed.Quit e h = absurd (e refl)
-typed_other v w before after id byte keyed.Done e h = h
-typed_other v w before after id byte keyed.Short e h = h
-typed_other v w before after id byte keyed.NoSession e h = h
+typed_other v w before after id byte _ e h = h
 
 pub sizes_other : (k : Keyed) (id : ℕ) (zs : List Size) → (k ≡ keyed.Quit → ⊥) → zs ≡ sizes_keyed k id zs
 sizes_other keyed.Quit id zs e = absurd (e refl)
-sizes_other keyed.Done id zs e = refl
-sizes_other keyed.Short id zs e = refl
-sizes_other keyed.NoSession id zs e = refl
+sizes_other _ id zs e = refl

@@ -86,8 +86,7 @@ module _ (d : Directory) (ks : List MarkedBuffer) (y new : Session) (place : Sea
   pub replace_every : (held : Session) (k : ReplaceKey) → k ≡ replace_key byte → k ≡ keys.ReplacesAll → 0 < length r.pattern → held ≡ searching s (told Silent (unsearched y)) → new ≡ playing_as (replacing_all held.state.player) held → IsByteStep d ks (searching s (unsearched y)) new byte befores.Plain Kept
   replace_every held k of_byte e some is all =
       let it : Session = playing_as (replacing_all y.state.player) (searching s (told Silent z)) in
-      subst (λ (w : Session). IsByteStep d ks x w byte befores.Plain Kept) (sym (all ∙ ap (λ (w : Session). playing_as (replacing_all w.state.player) w) is))
-      (record { state = refl; stays = λ bs. refl; turn = λ v sees. comes v k keys.ReplacesAll of_byte e; left = left_all x.state.player it.state.player.todo alone refl; fit = λ h. (refl, some) })
+      rw (all, is) (record { state = refl; stays = λ bs. refl; turn = λ v sees. comes v k keys.ReplacesAll of_byte e; left = left_all x.state.player it.state.player.todo alone refl; fit = λ h. (refl, some) })
 
   pub replace_ends : (k : ReplaceKey) → k ≡ replace_key byte → k ≡ keys.Ends → y ≡ unsearched y → new ≡ told (Replaced r.count) (unprompted y) → IsByteStep d ks (searching s (unsearched y)) new byte befores.Plain Kept
   replace_ends k of_byte e still is =

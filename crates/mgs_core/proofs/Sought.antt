@@ -43,10 +43,6 @@ use Rattle.mgs_core.proofs.Stepped.{acts_same, step_without_act, kept_none, kept
 
 -- WHAT A BYTE LEAVES OF WHAT IS LOOKED FOR, where it goes on with nothing
 
--- it is as it was
-same_sought : {A B : Type 0} (a c : A) (b d : B) → ◌≡◌ {A = A × B} (a, b) (c, d) → a ≡ c
-same_sought {A = A} {B = B} a c b d e = ap (λ (p : A × B). p.0) e
-
 -- no other byte ends a search, gives it up or is none of its own
 abbrev pub IsOver : SearchStep → Type 0
 IsOver step.Ends = ⊤
@@ -54,42 +50,38 @@ IsOver step.Quits = ⊤
 IsOver step.Leaves = ⊤
 IsOver _ = ⊥
 
-directed_on : (last : List ℕ) (d : Direction) (s q : Sought) (k : SearchStep) → directed last d s ≡ (q, k) → IsOver k → q ≡ s
-directed_on last d s q k e over = by (nat_lt 0 (length s.pattern)) (nat_lt 0 (length last)) e
-  where
-    by : (a b : Bool) → ◌≡◌ {A = Sought × SearchStep} (cond a (record s { direction = d }, step.PastAnchor) (cond b (record s { direction = d; pattern = last }, step.FromAnchor) (record s { direction = d }, step.Stays))) (q, k) → q ≡ s
-    by true b e = (let same : step.PastAnchor ≡ k = ap (λ (p : Sought × SearchStep). p.1) e in absurd (subst IsOver (sym same) over))
-    by false true e = (let same : step.FromAnchor ≡ k = ap (λ (p : Sought × SearchStep). p.1) e in absurd (subst IsOver (sym same) over))
-    by false false e = (let same : step.Stays ≡ k = ap (λ (p : Sought × SearchStep). p.1) e in absurd (subst IsOver (sym same) over))
+abbrev IsSame : Sought → Sought × SearchStep → Type 0
+IsSame s p = IsOver p.1 → p.0 ≡ s
 
-dropped_on : (s q : Sought) (k : SearchStep) → dropped s ≡ (q, k) → IsOver k → q ≡ s
-dropped_on s q k e over = by (nat_lt 1 (length s.pattern)) e
+directed_on : (last : List ℕ) (d : Direction) (s : Sought) → IsSame s (directed last d s)
+directed_on last d s = by (nat_lt 0 (length s.pattern)) (nat_lt 0 (length last))
   where
-    by : (a : Bool) → ◌≡◌ {A = Sought × SearchStep} (cond a (record s { pattern = shortened s.pattern }, step.FromOrigin) (record s { pattern = []; failing = false }, step.ToOrigin)) (q, k) → q ≡ s
-    by true e = (let same : step.FromOrigin ≡ k = ap (λ (p : Sought × SearchStep). p.1) e in absurd (subst IsOver (sym same) over))
-    by false e = (let same : step.ToOrigin ≡ k = ap (λ (p : Sought × SearchStep). p.1) e in absurd (subst IsOver (sym same) over))
+    by : (a b : Bool) → IsSame s (cond a (record s { direction = d }, step.PastAnchor) (cond b (record s { direction = d; pattern = last }, step.FromAnchor) (record s { direction = d }, step.Stays)))
+    by true b over = absurd over
+    by false true over = absurd over
+    by false false over = absurd over
+
+dropped_on : (s : Sought) → IsSame s (dropped s)
+dropped_on s =
+    elim (nat_lt 1 (length s.pattern)) as (λ a. IsSame s (cond a (record s { pattern = shortened s.pattern }, step.FromOrigin) (record s { pattern = []; failing = false }, step.ToOrigin))) [ true ↦ λ over. absurd over | false ↦ λ over. absurd over ]
 
 pub sought_over : (last : List ℕ) (s q : Sought) (byte : ℕ) (k : SearchStep) → read_byte last s byte ≡ (q, k) → IsOver k → q ≡ s
-sought_over last s q byte k e over = by (is_graphic byte) (byte == 19) (byte == 18) (byte == 127) (byte == 13) (byte == 7) e
+sought_over last s q byte k e = subst (IsSame s) e (by (is_graphic byte) (byte == 19) (byte == 18) (byte == 127) (byte == 13) (byte == 7))
   where
-    by : (a b c f g h : Bool) → ◌≡◌ {A = Sought × SearchStep} (cond a (record s { pattern = lengthened s.pattern byte }, step.FromAnchor) (cond b (directed last Forward s) (cond c (directed last Backward s) (cond f (dropped s) (cond g (s, step.Ends) (cond h (s, step.Quits) (s, step.Leaves))))))) (q, k) → q ≡ s
-    by true b c f g h e = (let same : step.FromAnchor ≡ k = ap (λ (p : Sought × SearchStep). p.1) e in absurd (subst IsOver (sym same) over))
-    by false true c f g h e = directed_on last Forward s q k e over
-    by false false true f g h e = directed_on last Backward s q k e over
-    by false false false true g h e = dropped_on s q k e over
-    by false false false false true h e = sym (same_sought s q step.Ends k e)
-    by false false false false false true e = sym (same_sought s q step.Quits k e)
-    by false false false false false false e = sym (same_sought s q step.Leaves k e)
+    by : (a b c f g h : Bool) → IsSame s (cond a (record s { pattern = lengthened s.pattern byte }, step.FromAnchor) (cond b (directed last Forward s) (cond c (directed last Backward s) (cond f (dropped s) (cond g (s, step.Ends) (cond h (s, step.Quits) (s, step.Leaves)))))))
+    by true b c f g h over = absurd over
+    by false true c f g h over = directed_on last Forward s over
+    by false false true f g h over = directed_on last Backward s over
+    by false false false true g h over = dropped_on s over
+    by false false false false true h over = refl
+    by false false false false false true over = refl
+    by false false false false false false over = refl
 
 -- a search that was taken out is put back
 pub searched_step : (d : Directory) (ks : List MarkedBuffer) (y taken new : Session) (s : Search) (byte : ℕ) (b : ModeBefore) (k : ByteStep) → y.state.search ≡ Some s → taken ≡ unsearched y → IsByteStep d ks (searching s taken) new byte b k → IsByteStep d ks y new byte b k
 searched_step d ks y taken new s byte b k is took t =
     subst (λ (z : Session). IsByteStep d ks z new byte b k)
     (ap (searching s) took ∙ sym (ap (λ (o : Option Search). record y { state = record y.state { search = o } }) is)) t
-
--- one that does not search
-pub unsearched_same : (y : Session) → y.state.search ≡ None → y ≡ unsearched y
-unsearched_same y none = ap (λ (o : Option Search). record y { state = record y.state { search = o } }) none
 
 -- WHAT COMES NEXT
 
@@ -170,8 +162,7 @@ module _ (d : Directory) (ks : List MarkedBuffer) (y new : Session) (place : Sea
   pub search_puts : (c : ℕ) (k : SearchStep) → is_character_byte y.state.keyboard.keys byte ≡ true → character_read y.state.keyboard.keys byte ≡ Whole c → k ≡ step.FromAnchor → g ≡ record f { pattern = lengthened f.pattern c } → new ≡ searching r (told Silent (reading nothing_held (unsearched y)))
       → IsByteStep d ks (searching s (unsearched y)) new byte b (Acts (byte_acts.Seek k))
   search_puts c k is read seeks put held =
-      subst (λ (e : SearchStep). IsByteStep d ks (searching s (unsearched y)) new byte b (Acts (byte_acts.Seek e))) (sym seeks)
-      (steps_on nothing_held step.FromAnchor (λ v. comes_past y place f byte v (Whole c) is read ∙ sym (ap (λ (q : Sought). sought_turn (used state) byte q step.FromAnchor) put)) held)
+      rw seeks (steps_on nothing_held step.FromAnchor (λ v. comes_past y place f byte v (Whole c) is read ∙ sym (ap (λ (q : Sought). sought_turn (used state) byte q step.FromAnchor) put)) held)
 
   -- more of its bytes are to come
   pub search_reads : is_character_byte y.state.keyboard.keys byte ≡ true → character_read y.state.keyboard.keys byte ≡ Begun → new ≡ searching s (told Silent (reading (held_character y.state.keyboard byte Begun) (unsearched y))) → IsByteStep d ks (searching s (unsearched y)) new byte b Kept
@@ -183,12 +174,9 @@ module _ (d : Directory) (ks : List MarkedBuffer) (y new : Session) (place : Sea
   search_breaks is read held =
       kept_none (SeesNames d ks x.user) (λ v. state_turn v x.state byte) x new (unbound (searching s (reading nothing_held z))) held refl (λ bs. refl) (λ v sees. comes_past y place f byte v Broken is read) refl
 
--- what the session has read of it, which does not search
-pub character_held : (y k : Session) (h : Held) (q e : Sequence) (byte : ℕ) → y ≡ unsearched y → k ≡ reading h y → h ≡ held_character y.state.keyboard byte q → q ≡ e → k ≡ reading (held_character y.state.keyboard byte e) (unsearched y)
-character_held y k h q e byte still is held read =
-    is
-    ∙ ap (λ (g : Held). reading g y) (held ∙ ap (held_character y.state.keyboard byte) read)
-    ∙ ap (reading (held_character y.state.keyboard byte e)) still
+-- what the session has read of it
+pub character_held : (y k : Session) (h : Held) (q e : Sequence) (byte : ℕ) → k ≡ reading h y → h ≡ held_character y.state.keyboard byte q → q ≡ e → k ≡ reading (held_character y.state.keyboard byte e) y
+character_held y k h q e byte is held read = is ∙ ap (λ (g : Held). reading g y) (held ∙ ap (held_character y.state.keyboard byte) read)
 
 -- A BYTE THAT IS NONE OF ITS OWN: the search is left, and the byte is a key
 
@@ -197,13 +185,9 @@ stays_none : (old new : State) → old.search ≡ None → SearchStays old new �
 stays_none old new none stays =
     by new.search new.prompt (stays [] ∙ ap (λ (o : Option Search). cond (is_search_mode (state_of new).mode) (search_of [] o) None) none)
   where
-    aims : (g : Search) (a : Aim) → search_of [] (Some g) ≡ cond (is_search_mode (aim_mode a)) None None → Path (Option Search) (Some g) None
-    aims g (Find f) e = cc
-    aims g (Replace r) e = cc
-
     by : (o : Option Search) (p : Option PromptInput) → search_of [] o ≡ cond (is_search_mode (mode_in o p)) None None → o ≡ None
     by None p e = refl
-    by (Some g) p e = aims g g.aim e
+    by (Some g) p e = (elim g.aim as (λ a. search_of [] (Some g) ≡ cond (is_search_mode (aim_mode a)) None None → Path (Option Search) (Some g) None) [ Find f ↦ λ h. cc | Replace r ↦ λ h. cc ]) e
 
 module _ (d : Directory) (ks : List MarkedBuffer) (y new : Session) (place : SearchPlace) (f : Sought) (last : List ℕ) (byte : ℕ) (same : last ≡ y.state.pattern) (ascii : is_character_byte y.state.keyboard.keys byte ≡ false) (read : read_byte y.state.pattern f byte ≡ (f, step.Leaves)) where
   abbrev pub was : Search
@@ -253,18 +237,12 @@ read_at pattern last s r byte k e same read is = sym (ap (λ (l : List ℕ). rea
 
 -- a byte that is none of a search's own is none of it afterwards
 pub read_again : (pattern : List ℕ) (s r : Sought) (byte : ℕ) → read_byte pattern s byte ≡ (r, step.Leaves) → read_byte pattern r byte ≡ (r, step.Leaves)
-read_again pattern s r byte read =
-    let same : r ≡ s = sought_over pattern s r byte step.Leaves read tt in
-    ap (λ (q : Sought). read_byte pattern q byte) same ∙ read
+read_again pattern s r byte read = ap (λ (q : Sought). read_byte pattern q byte) (sought_over pattern s r byte step.Leaves read tt) ∙ read
 
 -- such a byte leaves the search as it was
 pub foreign_step : (d : Directory) (ks : List MarkedBuffer) (y new : Session) (place : SearchPlace) (f g : Sought) (byte : ℕ) (b : ModeBefore) (k : ByteStep) → read_byte y.state.pattern f byte ≡ (g, step.Leaves) → IsByteStep d ks (searching (search_for place (Find g)) y) new byte b k → IsByteStep d ks (searching (search_for place (Find f)) y) new byte b k
 foreign_step d ks y new place f g byte b k read t =
     subst (λ (h : Sought). IsByteStep d ks (searching (search_for place (Find h)) y) new byte b k) (sought_over y.state.pattern f g byte step.Leaves read tt) t
-
--- a session that does not search
-pub still_search : (d : Directory) (ks : List MarkedBuffer) (y new : Session) (s : Search) (byte : ℕ) (b : ModeBefore) (k : ByteStep) → y ≡ unsearched y → IsByteStep d ks (searching s (unsearched y)) new byte b k → IsByteStep d ks (searching s y) new byte b k
-still_search d ks y new s byte b k still t = subst (λ (z : Session). IsByteStep d ks (searching s z) new byte b k) (sym still) t
 
 -- a search by its parts
 pub aimed : (d : Directory) (ks : List MarkedBuffer) (y new : Session) (s : Search) (a : Aim) (byte : ℕ) (b : ModeBefore) (k : ByteStep) → s.aim ≡ a → IsByteStep d ks (searching (record s { aim = a }) y) new byte b k → IsByteStep d ks (searching s y) new byte b k

@@ -11,11 +11,10 @@ use Rattle.mgs_model.specs.Acts.{Request, Target, acts_at, allowed, around_searc
 use Rattle.mgs_model.specs.Apply.{act, applied, apply, change_first, outcome_in, is_search_mode, session_after, session_arranged}
 use Rattle.mgs_model.specs.Events.{act_effects, effect_in, state_set, saved_by, with_state}
 use Rattle.mgs_model.specs.declared.entry.Decision.{Decision}
-use Rattle.mgs_model.specs.declared.entry.Decision.TheVariants.{Granted, DeniedBy, NotGranted}
+use Rattle.mgs_model.specs.declared.entry.Decision.TheVariants.{Granted}
 use Rattle.mgs_model.specs.declared.message.Message.TheVariants.{Denied, NoBuffer}
 use Rattle.mgs_model.specs.declared.search.Direction.{Direction}
 use Rattle.mgs_model.specs.declared.session.Command.TheVariants.{Seek}
-use Rattle.mgs_model.specs.declared.session.Seeking.{Seeking}
 use Rattle.mgs_model.specs.declared.session.Seeking.TheVariants.{StartSearch}
 use Rattle.mgs_model.proofs.Firsts.{change_first_found, change_twice, find-change_first}
 use Rattle.mgs_store.specs.Stores.{StoreTold, told_more}
@@ -79,8 +78,7 @@ module _ (w : World) (id : ℕ) (o : State) (d : Direction) (n : Option ℕ) (x 
 
   blind_permitted : (e : Decision) → IsBlind (permitted state e (allowed (seen None) c stored))
   blind_permitted Granted = blind_seeks (target (seen None))
-  blind_permitted (DeniedBy m right) = blind (failed_state (Denied (DeniedBy m right)) state) Keep_kill Stay (λ s y. refl)
-  blind_permitted (NotGranted right) = blind (failed_state (Denied (NotGranted right)) state) Keep_kill Stay (λ s y. refl)
+  blind_permitted e = blind (failed_state (Denied e) state) Keep_kill Stay (λ s y. refl)
 
   blind_outcome : IsBlind (outcome (seen None) c stored)
   unfolding outcome
@@ -102,37 +100,24 @@ module _ (w : World) (id : ℕ) (o : State) (d : Direction) (n : Option ℕ) (x 
       (change_twice (has_id id) (state_set (searching_state d)) (state_set (λ was. o)) (λ y. state_set (searching_state d) (state_set (λ was. o) y)) (λ y. refl) (λ y. refl) w.sessions
       ∙ change_first_found (has_id id) (λ y. state_set (searching_state d) (state_set (λ was. o) y)) (put (cond (is_search_mode o.mode) x.search None)) x w.sessions found refl)
 
+  started_so : {X : Type 0} (f : World → X) → ((s : Option Search) → f (world s) ≡ f (world None)) → f (with_state id (searching_state d) (with_state id (λ was. o) w)) ≡ f (with_state id (λ was. searching_state d o) w)
+  started_so f same = ap f then_put ∙ same (cond (is_search_mode o.mode) x.search None) ∙ sym (same x.search) ∙ sym (ap f at_once)
+
   pub started_act : act (with_state id (searching_state d) (with_state id (λ was. o) w)) id (Run (Seek (StartSearch d)) n []) stored ≡ act (with_state id (λ was. searching_state d o) w) id (Run (Seek (StartSearch d)) n []) stored
-  started_act =
-      ap (λ (v : World). act v id c stored) then_put
-      ∙ act_there (cond (is_search_mode o.mode) x.search None)
-      ∙ sym (act_there x.search)
-      ∙ sym (ap (λ (v : World). act v id c stored) at_once)
+  started_act = started_so (λ (v : World). act v id c stored) act_there
 
   pub started_effects : act_effects (with_state id (searching_state d) (with_state id (λ was. o) w)) id (Run (Seek (StartSearch d)) n []) stored ≡ act_effects (with_state id (λ was. searching_state d o) w) id (Run (Seek (StartSearch d)) n []) stored
-  started_effects =
-      ap (λ (v : World). act_effects v id c stored) then_put
-      ∙ effects_there (cond (is_search_mode o.mode) x.search None)
-      ∙ sym (effects_there x.search)
-      ∙ sym (ap (λ (v : World). act_effects v id c stored) at_once)
+  started_effects = started_so (λ (v : World). act_effects v id c stored) effects_there
 
 -- AN ACT OF A KEY, which may start one: it is decided with the record that it begins from
 abbrev pub IsBegun : World → ℕ → State → KeyAct → World → StoreTold → StoreTold → Type 0
 IsBegun w id o a new before after = ActedBy (started_world (started_by a) id (with_state id (λ was. o) w)) new before after id (act_of a) → ActedBy (with_state id (λ was. started_state (started_by a) o) w) new before after id (act_of a)
 
-begun_search : (w : World) (id : ℕ) (o : State) (d : Direction) (n : Option ℕ) (x : Session) (new : World) (before after : StoreTold) → find_session id w.sessions ≡ Some x → IsBegun w id o (acts.Run (Seek (StartSearch d)) n) new before after
-begun_search w id o d n x new before after found did = record {
+pub begun_act : (w : World) (id : ℕ) (o : State) (a : KeyAct) (x : Session) (new : World) (before after : StoreTold) → find_session id w.sessions ≡ Some x → IsBegun w id o a new before after
+begun_act w id o (acts.Run (Seek (StartSearch d)) n) x new before after found did = record {
   stored = did.stored;
   world = did.world ∙ started_act w id o d n x found did.stored;
   fault = did.fault;
   saves = did.saves ∙ ap (λ (es : List Effect). told_more (flat_map saved_by es) before.accepted) (started_effects w id o d n x found did.stored);
 }
-
-begun_seeking : (w : World) (id : ℕ) (o : State) (c : Seeking) (n : Option ℕ) (x : Session) (new : World) (before after : StoreTold) → find_session id w.sessions ≡ Some x → IsBegun w id o (acts.Run (Seek c) n) new before after
-begun_seeking w id o (StartSearch d) n x new before after found did = begun_search w id o d n x new before after found did
-begun_seeking w id o _ n x new before after found did = did
-
-pub begun_act : (w : World) (id : ℕ) (o : State) (a : KeyAct) (x : Session) (new : World) (before after : StoreTold) → find_session id w.sessions ≡ Some x → IsBegun w id o a new before after
-begun_act w id o acts.Unbound x new before after found did = did
-begun_act w id o (acts.Run (Seek c) n) x new before after found did = begun_seeking w id o c n x new before after found did
-begun_act w id o (acts.Run _ n) x new before after found did = did
+begun_act w id o _ x new before after found did = did

@@ -13,8 +13,8 @@ use Rattle.mgs_model.specs.World.{World, Buffer, State, Session, Window, Shows, 
 use Rattle.mgs_model.specs.Events.{Close, state_set, with_state, top_settled, window_top, session_settled, settled, new_window, new_session, opened, step}
 use Rattle.mgs_model.specs.declared.right.Right.TheVariants.{ReadData}
 use Rattle.mgs_core.specs.Calls.{closed}
-use Rattle.mgs_core.proofs.Ids.{differ, remove_none}
-use Rattle.mgs_model.proofs.Basics.{cons_head, cons_tail}
+use Rattle.mgs_core.proofs.Ids.{differ, map-remove_first, remove_none}
+use Rattle.mgs_model.proofs.Firsts.{map-change_first}
 
 pub settled_as : (v w : World) → w ≡ v → settled v ≡ v → settled w ≡ w
 settled_as v w is rests = subst (λ (u : World). settled u ≡ u) (sym is) rests
@@ -38,8 +38,7 @@ start_stays d bs u (List_of name) h some = refl
 new_stays : (d : Directory) (bs : List Buffer) (id : ℕ) (user : List ℕ) (rows cols : ℕ) → 3 ≤ rows → session_settled d bs (new_session d bs id user rows cols) ≡ new_session d bs id user rows cols
 new_stays d bs id user rows cols some =
     let x : Window = new_window d bs user rows in
-    let tall : 1 ≤ rows - 2 = omega (arith, some) in
-    ap (λ (top : ℕ). let y : Session = record (new_session d bs id user rows cols) { windows = record x { top = top } ∷ [] } in y) (start_stays d bs user x.shows (rows - 2) tall)
+    ap (λ (top : ℕ). let y : Session = record (new_session d bs id user rows cols) { windows = record x { top = top } ∷ [] } in y) (start_stays d bs user x.shows (rows - 2) (omega (arith, some)))
 
 pub opened_rests : (w : World) (id : ℕ) (user : List ℕ) (rows cols : ℕ) → 3 ≤ rows → settled w ≡ w → settled (opened w id user rows cols) ≡ opened w id user rows cols
 opened_rests w id user rows cols some rests =
@@ -51,36 +50,17 @@ opened_rests w id user rows cols some rests =
 
 -- WHAT A SESSION HOLDS CHANGES
 
-fixed_changed : {A : Type 0} (g f : A → A) (p : A → Bool) → ((x : A) → g (f x) ≡ f (g x)) → (xs : List A) → map g xs ≡ xs → map g (change_first p f xs) ≡ change_first p f xs
-fixed_changed g f p alike [] e = refl
-fixed_changed g f p alike (x ∷ xs) e =
-    let head : g x ≡ x = cons_head _ _ _ _ e in
-    let tail : map g xs ≡ xs = cons_tail _ _ _ _ e in
-    elim (p x) as (λ b. map g (cond b (f x ∷ xs) (x ∷ change_first p f xs)) ≡ cond b (f x ∷ xs) (x ∷ change_first p f xs)) [
-      | true ↦ λ i. (alike x ∙ ap f head) i ∷ tail i
-      | false ↦ λ i. head i ∷ fixed_changed g f p alike xs tail i
-    ]
-
 pub state_rests : (w : World) (id : ℕ) (f : State → State) → settled w ≡ w → settled (with_state id f w) ≡ with_state id f w
 state_rests w id f rests =
     ap (λ (ss : List Session). let v : World = record w { sessions = ss } in v)
-    (fixed_changed (session_settled w.directory w.buffers) (state_set f) (has_id id) (λ x. refl) w.sessions (ap (λ (v : World). v.sessions) rests))
+    (map-change_first (session_settled w.directory w.buffers) (has_id id) (has_id id) (state_set f) (state_set f) (λ x. refl) (λ x e. refl) w.sessions ∙ ap (λ (v : World). change_first (has_id id) (state_set f) v.sessions) rests)
 
 -- A SESSION CLOSES
 
-fixed_removed : {A : Type 0} (f : A → A) (p : A → Bool) (xs : List A) → map f xs ≡ xs → map f (remove_first p xs) ≡ remove_first p xs
-fixed_removed f p [] e = refl
-fixed_removed f p (x ∷ xs) e =
-    let head : f x ≡ x = cons_head _ _ _ _ e in
-    let tail : map f xs ≡ xs = cons_tail _ _ _ _ e in
-    elim (p x) as (λ b. map f (cond b xs (x ∷ remove_first p xs)) ≡ cond b xs (x ∷ remove_first p xs)) [
-      | true ↦ tail
-      | false ↦ λ i. head i ∷ fixed_removed f p xs tail i
-    ]
-
 pub closed_rests : (w : World) (id : ℕ) → settled w ≡ w → settled (closed w id) ≡ closed w id
 closed_rests w id rests =
-    ap (λ (ss : List Session). let v : World = record w { sessions = ss } in v) (fixed_removed (session_settled w.directory w.buffers) (has_id id) w.sessions (ap (λ (v : World). v.sessions) rests))
+    ap (λ (ss : List Session). let v : World = record w { sessions = ss } in v)
+    (map-remove_first (session_settled w.directory w.buffers) (has_id id) (has_id id) (λ x. refl) w.sessions ∙ ap (λ (v : World). remove_first (has_id id) v.sessions) rests)
 
 -- where none has the id, none goes
 pub closed_none : (w : World) (id : ℕ) → find_session id w.sessions ≡ None → w ≡ closed w id

@@ -1,11 +1,11 @@
 -- What a byte makes of a session by itself, and what a turn makes of it.
-use Rattle.std.proofs.Common.{◌≡◌, ℕ, zero, suc, ◌+◌, ◌*◌, ◌≤◌, Bool, true, false, cond, List, [], ◌∷◌, ◌++◌, map, length, Option, Some, None, refl, sym, ap, subst, ◌∙◌, arith, append-nil}
+use Rattle.std.proofs.Common.{◌≡◌, ℕ, zero, suc, ◌+◌, ◌*◌, ◌≤◌, Bool, true, false, cond, List, [], ◌∷◌, ◌++◌, map, length, Option, Some, None, refl, sym, ap, subst, ◌∙◌, arith, append-nil, length-append}
 use Rattle.std.specs.Prelude.{Result, Ok, Err, ◌||◌, ◌==◌, nat_lt, replicate}
 use Rattle.std.specs.List.{flat_map}
 use Rattle.std.proofs.lemmas.List.{map-append}
 use Rattle.std.proofs.lemmas.Bool.{ltb-false}
 use Rattle.mgs_model.specs.Access.{Directory}
-use Rattle.mgs_model.specs.World.{Todo, Typed, Played, Replace_all, Play}
+use Rattle.mgs_model.specs.World.{Todo, Played, Play}
 use Rattle.mgs_model.specs.World as model
 use Rattle.mgs_model.specs.View.{View}
 use Rattle.mgs_model.specs.Outcome.{Run}
@@ -29,12 +29,11 @@ use Rattle.mgs_plan.specs.declared.key_act.KeyAct.{KeyAct}
 use Rattle.mgs_plan.specs.declared.key_act.KeyAct.TheVariants.{Unbound as unbound}
 use Rattle.mgs_maps.specs.Held.{Held, FedBy, is_bound}
 use Rattle.mgs_maps.specs.declared.maps.Fed.TheVariants as fed
-use Rattle.mgs_mini.specs.Typing.{PromptInput}
 use Rattle.mgs_session.specs.declared.State.{State}
 use Rattle.mgs_session.specs.declared.Session.{Session}
 use Rattle.mgs_session.specs.declared.search.Search.{Search}
 use Rattle.mgs_session.specs.Playing.{Playing, are_behind, are_played, rounds}
-use Rattle.mgs_session.specs.Sessions.{failed, holding, resting}
+use Rattle.mgs_session.specs.Sessions.{failed, holding, macro_called, resting}
 use Rattle.mgs_world.specs.Worlds.{mode_in, state_of, search_of}
 use Rattle.mgs_core.specs.declared.byte_acts.ByteAct.{ByteAct}
 use Rattle.mgs_core.specs.declared.byte_acts.ByteAct.TheVariants as byte_acts
@@ -55,16 +54,12 @@ use Rattle.mgs_world.proofs.Marks.{not_both}
 pub behind_of : (todo : List Todo) → are_played todo ≡ true → are_behind todo ≡ true
 behind_of [] h = refl
 behind_of (Played byte ∷ todo) h = h
-behind_of (Typed byte ∷ todo) h = cc
-behind_of (Replace_all ∷ todo) h = cc
-behind_of (Play ∷ todo) h = cc
+behind_of _ h = cc
 
 pub none_all : (todo : List Todo) → are_played todo ≡ true → has_all todo ≡ false
 none_all [] h = refl
 none_all (Played byte ∷ todo) h = none_all todo h
-none_all (Typed byte ∷ todo) h = cc
-none_all (Replace_all ∷ todo) h = cc
-none_all (Play ∷ todo) h = cc
+none_all _ h = cc
 
 pub left_same : (old : Playing) (todo : List Todo) → IsAlone old → todo ≡ old.todo → IsLeft old todo
 left_same old todo alone same = record {
@@ -84,9 +79,6 @@ left_none old todo none = record {
 pub fit_none : (o : model.State) → has_all o.todo ≡ false → IsFit o
 fit_none o none all = not_both (has_all o.todo) all none
 
-pub fit_same : (old : Playing) (o : model.State) → IsAlone old → o.todo ≡ old.todo → IsFit o
-fit_same old o alone same = fit_none o (ap has_all same ∙ none_all old.todo alone.played)
-
 -- a step of a byte keeps none of them to be done
 pub further_same : {X : Type 0} (old : Playing) (o : model.State) → IsAlone old → o.todo ≡ old.todo → has_all o.todo ≡ true → X
 further_same old o alone same all = not_both (has_all o.todo) all (ap has_all same ∙ none_all old.todo alone.played)
@@ -94,34 +86,19 @@ further_same old o alone same all = not_both (has_all o.todo) all (ap has_all sa
 pub fit_empty : (o : model.State) → o.todo ≡ [] → IsFit o
 fit_empty o none = fit_none o (ap has_all none)
 
-played_weight : (bytes : List ℕ) → weight 1048576 (map Played bytes) ≡ length bytes * 1048579
-played_weight [] = refl
-played_weight (byte ∷ bytes) = let later = played_weight bytes in omega (arith, later)
-
-played_none : (bytes : List ℕ) → has_all (map Played bytes) ≡ false
-played_none [] = refl
-played_none (byte ∷ bytes) = played_none bytes
-
-played_all : (bytes : List ℕ) → is_played (map Played bytes) ≡ true
-played_all [] = refl
-played_all (byte ∷ bytes) = played_all bytes
-
-length_both : (xs ys : List ℕ) → length (xs ++ ys) ≡ length xs + length ys
-length_both [] ys = omega arith
-length_both (x ∷ xs) ys = let later = length_both xs ys in omega (arith, later)
+-- the bytes of a macro, as they are to be done
+played_bytes : (bytes : List ℕ) → (weight 1048576 (map Played bytes) ≡ length bytes * 1048579) × (has_all (map Played bytes) ≡ false) × (is_played (map Played bytes) ≡ true)
+played_bytes [] = (refl, refl, refl)
+played_bytes (byte ∷ bytes) = let later = played_bytes bytes in (omega (arith, later.0), later.1, later.2)
 
 rounds_within : (n : ℕ) (bytes : List ℕ) → length bytes ≤ 512 → length (rounds n bytes) ≤ n * 512
 rounds_within zero bytes h = omega arith
-rounds_within (suc n) bytes h =
-    let later = rounds_within n bytes h in
-    let both : length (rounds (suc n) bytes) ≡ length bytes + length (rounds n bytes) = length_both bytes (rounds n bytes) in
-    omega (arith, h, later, both)
+rounds_within (suc n) bytes h = omega (arith, h, rounds_within n bytes h, length-append bytes (rounds n bytes))
 
 called_within : (n : ℕ) (bytes : List ℕ) → n ≤ 100 → length bytes ≤ 512 → IsWithin 53689341957 (Play ∷ map Played (rounds n bytes))
 called_within n bytes few short =
-    let all : length (rounds n bytes) ≤ n * 512 = rounds_within n bytes short in
-    let is : weight 1048576 (map Played (rounds n bytes)) ≡ length (rounds n bytes) * 1048579 = played_weight (rounds n bytes) in
-    (omega (arith, all, is, few), played_all (rounds n bytes))
+    let played = played_bytes (rounds n bytes) in
+    (omega (arith, rounds_within n bytes short, played.0, few), played.2)
 
 -- the bytes of a macro so many times, as the model has them
 rounds_are : (n : ℕ) (bytes : List ℕ) → flat_map (λ (bs : List ℕ). map Played bs) (replicate n bytes) ≡ map Played (rounds n bytes)
@@ -133,37 +110,29 @@ rounds_are (suc n) bytes = ap (λ (todo : List Todo). map Played bytes ++ todo) 
 pub none_stays : (old new : State) → new.search ≡ None → SearchStays old new
 none_stays old new none bs =
     ap (search_of bs) none
-    ∙ sym (ap (λ (s : Option Search). cond (is_search_mode (mode_in s new.prompt)) (search_of bs old.search) None) none ∙ by new.prompt)
-  where
-    by : (p : Option PromptInput) → cond (is_search_mode (mode_in None p)) (search_of bs old.search) None ≡ None
-    by None = refl
-    by (Some p) = refl
+    ∙ sym (ap (λ (s : Option Search). cond (is_search_mode (mode_in s new.prompt)) (search_of bs old.search) None) none
+    ∙ (elim new.prompt as (λ p. cond (is_search_mode (mode_in None p)) (search_of bs old.search) None ≡ None) [ None ↦ refl | Some p ↦ refl ]))
 
 -- WHERE A MACRO IS CALLED
 
--- it cannot be played
+-- it cannot be played, which breaks a run of commands
 refused_of : (ok : model.State) (message : Message) (a b c : Bool) → cond a (Some InMacro) (cond b (Some NoMacro) (cond c (Some TooMany) None)) ≡ Some message
-    → (let r : Result model.State Message = cond a (Err InMacro) (cond b (Err NoMacro) (cond c (Err TooMany) (Ok ok))) in r ≡ Err message)
-refused_of ok message true b c e = let same : InMacro ≡ message = cc in ap (λ (m : Message). let r : Result model.State Message = Err m in r) same
-refused_of ok message false true c e = let same : NoMacro ≡ message = cc in ap (λ (m : Message). let r : Result model.State Message = Err m in r) same
-refused_of ok message false false true e = let same : TooMany ≡ message = cc in ap (λ (m : Message). let r : Result model.State Message = Err m in r) same
+    → (let r : Result model.State Message = cond a (Err InMacro) (cond b (Err NoMacro) (cond c (Err TooMany) (Ok ok))) in r ≡ Err message) × ((k : Kind) → kind_failed message k ≡ Other)
+refused_of ok message true b c e = let same : InMacro ≡ message = cc in (cc, λ k. ap (λ (m : Message). kind_failed m k) (sym same))
+refused_of ok message false true c e = let same : NoMacro ≡ message = cc in (cc, λ k. ap (λ (m : Message). kind_failed m k) (sym same))
+refused_of ok message false false true e = let same : TooMany ≡ message = cc in (cc, λ k. ap (λ (m : Message). kind_failed m k) (sym same))
 refused_of ok message false false false e = cc
 
--- or it can
-allowed_of : (ok : model.State) (a b c : Bool) → (let f : Option Message = cond a (Some InMacro) (cond b (Some NoMacro) (cond c (Some TooMany) None)) in f ≡ None)
-    → (c ≡ false) × (let r : Result model.State Message = cond a (Err InMacro) (cond b (Err NoMacro) (cond c (Err TooMany) (Ok ok))) in r ≡ Ok ok)
-allowed_of ok true b c e = cc
-allowed_of ok false true c e = cc
-allowed_of ok false false true e = cc
-allowed_of ok false false false e = (refl, refl)
+-- or it can, where none plays
+allowed_of : (ok : model.State) (r a b c : Bool) → (let f : Option Message = cond (r || a) (Some InMacro) (cond b (Some NoMacro) (cond c (Some TooMany) None)) in f ≡ None)
+    → (a ≡ false) × (c ≡ false) × (let s : Result model.State Message = cond (r || a) (Err InMacro) (cond b (Err NoMacro) (cond c (Err TooMany) (Ok ok))) in s ≡ Ok ok)
+allowed_of ok true a b c e = cc
+allowed_of ok false true b c e = cc
+allowed_of ok false false true c e = cc
+allowed_of ok false false false true e = cc
+allowed_of ok false false false false e = (refl, refl, refl)
 
-breaks_of : (message : Message) (a b c : Bool) → cond a (Some InMacro) (cond b (Some NoMacro) (cond c (Some TooMany) None)) ≡ Some message → (k : Kind) → kind_failed message k ≡ Other
-breaks_of message true b c e k = let same : InMacro ≡ message = cc in ap (λ (m : Message). kind_failed m k) (sym same)
-breaks_of message false true c e k = let same : NoMacro ≡ message = cc in ap (λ (m : Message). kind_failed m k) (sym same)
-breaks_of message false false true e k = let same : TooMany ≡ message = cc in ap (λ (m : Message). kind_failed m k) (sym same)
-breaks_of message false false false e k = cc
-
-call_refused : (o : State) (n : Option ℕ) (message : Message) → call_fault o n ≡ Some message → setting CallMacro (acted_state (state_of o)) n ≡ Err message
+call_refused : (o : State) (n : Option ℕ) (message : Message) → call_fault o n ≡ Some message → (setting CallMacro (acted_state (state_of o)) n ≡ Err message) × ((k : Kind) → kind_failed message k ≡ Other)
 call_refused o n message e =
     let state : model.State = acted_state (state_of o) in
     let more : List Todo = flat_map (λ (bytes : List ℕ). map Played bytes) (replicate (count_of n) state.macro) in
@@ -175,13 +144,11 @@ module _ (Sees : View → Type 0) (comes : View → Turn) (x new it : Session) (
   -- nothing else is left to do, or nothing at all
   pub kept_same : IsAlone x.state.player → ((v : View) → Sees v → comes v ≡ Keep (state_of it.state)) → it.state.player.todo ≡ x.state.player.todo → StepKept Sees comes (IsLeft x.state.player) x new
   kept_same alone turn todo =
-      subst (StepKept Sees comes (IsLeft x.state.player) x) (sym is)
-      (record { state = state; stays = stays; turn = turn; left = left_same x.state.player it.state.player.todo alone todo; fit = fit_same x.state.player (state_of it.state) alone todo })
+      rw is (record { state = state; stays = stays; turn = turn; left = left_same x.state.player it.state.player.todo alone todo; fit = further_same x.state.player (state_of it.state) alone todo })
 
   pub kept_none : ((v : View) → Sees v → comes v ≡ Keep (state_of it.state)) → it.state.player.todo ≡ [] → StepKept Sees comes (IsLeft x.state.player) x new
   kept_none turn none =
-      subst (StepKept Sees comes (IsLeft x.state.player) x) (sym is)
-      (record { state = state; stays = stays; turn = turn; left = left_none x.state.player it.state.player.todo none; fit = fit_empty (state_of it.state) none })
+      rw is (record { state = state; stays = stays; turn = turn; left = left_none x.state.player it.state.player.todo none; fit = fit_empty (state_of it.state) none })
 
   -- an act of a session that has the same to do, no macro plays that did not
   pub acts_same : (b : ModeBefore) (byte_act : ByteAct) → IsAlone x.state.player → IsReady byte_act it.state.search (state_of it.state) → CanDo b byte_act
@@ -191,8 +158,7 @@ module _ (Sees : View → Type 0) (comes : View → Turn) (x new it : Session) (
       → StepActs Sees comes x.state.player.playing (IsLeft x.state.player) x new b byte_act
   acts_same b byte_act alone ready here turn same again search begins =
       let todo : it.state.player.todo ≡ x.state.player.todo = ap (λ (p : Playing). p.todo) same in
-      subst (λ (w : Session). StepActs Sees comes x.state.player.playing (IsLeft x.state.player) x w b byte_act) (sym is)
-      (record {
+      rw is (record {
         state = state;
         stays = stays;
         ready = ready;
@@ -203,7 +169,7 @@ module _ (Sees : View → Type 0) (comes : View → Turn) (x new it : Session) (
         left = left_same x.state.player it.state.player.todo alone todo;
         again = again;
         search = search;
-        fit = fit_same x.state.player (state_of it.state) alone todo;
+        fit = further_same x.state.player (state_of it.state) alone todo;
         further = further_same x.state.player (state_of it.state) alone todo;
         begins = begins;
       })
@@ -240,15 +206,12 @@ step_without_act Sees comes mine a p Left Mine o x new b e same is less stay (Ac
 
 -- it fails
 module _ (Sees : View → Type 0) (comes : View → Turn) (x new : Session) (c : Command) (n : Option ℕ) (turn : (v : View) → Sees v → comes v ≡ command_turn (state_of (resting x).state) n c) where
-  state_changed : (message : Message) → new ≡ failed message (resting x) → new ≡ record x { state = new.state }
-  state_changed message told = told ∙ sym (ap (λ (s : Session). record x { state = s.state }) told)
-
   exit_failed : c ≡ Exit → x.state.player.playing ≡ true → new ≡ failed InMacro (resting x) → StepFailed Sees comes x.state.player.playing x new
   exit_failed is plays told =
       let state : model.State = state_of (resting x).state in
-      record {
-        state = state_changed InMacro told;
-        stays = none_stays x.state new.state (ap (λ (s : Session). s.state.search) told);
+      rw told (record {
+        state = refl;
+        stays = none_stays x.state (failed InMacro (resting x)).state refl;
         before = state;
         act = Run Exit n [];
         message = InMacro;
@@ -257,26 +220,26 @@ module _ (Sees : View → Type 0) (comes : View → Turn) (x new : Session) (c :
         fails = λ v k seen. exit_fails v n true (ap (λ (o : model.State). o.playing) seen ∙ plays);
         breaks = λ k. refl;
         quiet = λ w id. act_saves_none w id (Run Exit n []) true refl;
-        told = ap (λ (s : Session). state_of s.state) told;
-      }
+        told = refl;
+      })
 
   call_failed : (message : Message) → c ≡ Set CallMacro → call_fault (resting x).state n ≡ Some message → new ≡ failed message (resting x) → StepFailed Sees comes x.state.player.playing x new
   call_failed message is fault told =
       let state : model.State = state_of (resting x).state in
       let r = call_refused (resting x).state n message fault in
-      record {
-        state = state_changed message told;
-        stays = none_stays x.state new.state (ap (λ (s : Session). s.state.search) told);
+      rw told (record {
+        state = refl;
+        stays = none_stays x.state (failed message (resting x)).state refl;
         before = state;
         act = Run (Set CallMacro) n [];
         message = message;
-        turn = λ v sees. turn v sees ∙ ap (command_turn state n) is ∙ ap (plays state n) r;
+        turn = λ v sees. turn v sees ∙ ap (command_turn state n) is ∙ ap (plays state n) r.0;
         playing = refl;
-        fails = λ v k seen. call_fails v n message true (ap (λ (o : model.State). setting CallMacro (acted_state o) n) seen ∙ r);
-        breaks = breaks_of message (x.state.recorder.recording || x.state.player.playing) (length x.state.recorder.macro == 0) (nat_lt REPETITION_LIMIT (count_of n)) fault;
+        fails = λ v k seen. call_fails v n message true (ap (λ (o : model.State). setting CallMacro (acted_state o) n) seen ∙ r.0);
+        breaks = r.1;
         quiet = λ w id. act_saves_none w id (Run (Set CallMacro) n []) true refl;
-        told = ap (λ (s : Session). state_of s.state) told;
-      }
+        told = refl;
+      })
 
   -- a macro is played
   call_kept : c ≡ Set CallMacro → IsAlone x.state.player → MacroPlayed (resting x) new n → StepKept Sees comes (IsLeft x.state.player) x new
@@ -285,31 +248,24 @@ module _ (Sees : View → Type 0) (comes : View → Turn) (x new : Session) (c :
       let state : model.State = state_of o in
       let more : List Todo = flat_map (λ (bytes : List ℕ). map Played bytes) (replicate (count_of n) o.recorder.macro) in
       let ok : model.State = record (acted_state state) { todo = Play ∷ more ++ state.todo } in
-      let allowed = allowed_of ok (o.recorder.recording || o.player.playing) (length o.recorder.macro == 0) (nat_lt REPETITION_LIMIT (count_of n)) p.fault in
-      let typed : o.player.playing ≡ false = never_played o.recorder.recording o.player.playing (length o.recorder.macro == 0) (nat_lt REPETITION_LIMIT (count_of n)) p.fault in
-      let few : count_of n ≤ 100 = ltb-false REPETITION_LIMIT (count_of n) allowed.0 in
-      let left : new.state.player.todo ≡ Play ∷ map Played (rounds (count_of n) o.recorder.macro) = ap (λ (s : Session). s.state.player.todo) p.called in
-      record {
-        state = p.called ∙ sym (ap (λ (s : Session). record x { state = s.state }) p.called);
-        stays = none_stays x.state new.state (ap (λ (s : Session). s.state.search) p.called);
+      let allowed = allowed_of ok o.recorder.recording o.player.playing (length o.recorder.macro == 0) (nat_lt REPETITION_LIMIT (count_of n)) p.fault in
+      let typed : o.player.playing ≡ false = allowed.0 in
+      let it : Session = macro_called (count_of n) (resting x) in
+      rw p.called (record {
+        state = refl;
+        stays = none_stays x.state it.state refl;
         turn = λ v sees.
             turn v sees
             ∙ ap (command_turn state n) is
-            ∙ ap (plays state n) allowed.1
-            ∙ ap (λ (todo : List Todo). Keep (record state { todo = Play ∷ todo })) (ap (λ (todo : List Todo). more ++ todo) (alone.typed typed) ∙ append-nil more ∙ rounds_are (count_of n) o.recorder.macro)
-            ∙ sym (ap (λ (s : Session). Keep (state_of s.state)) p.called);
+            ∙ ap (plays state n) allowed.2
+            ∙ ap (λ (todo : List Todo). Keep (record state { todo = Play ∷ todo })) (ap (λ (todo : List Todo). more ++ todo) (alone.typed typed) ∙ append-nil more ∙ rounds_are (count_of n) o.recorder.macro);
         left = record {
           played = λ e k h. not_both x.state.player.playing e typed;
-          typed = λ e. subst (IsWithin 53689341957) (sym left) (called_within (count_of n) o.recorder.macro few p.within);
+          typed = λ e. called_within (count_of n) o.recorder.macro (ltb-false REPETITION_LIMIT (count_of n) allowed.1) p.within;
           behind = λ e. not_both x.state.player.playing e typed;
         };
-        fit = fit_none (state_of new.state) (ap has_all left ∙ played_none (rounds (count_of n) o.recorder.macro));
-      }
-    where
-      never_played : (r b e f : Bool) → (let m : Option Message = cond (r || b) (Some InMacro) (cond e (Some NoMacro) (cond f (Some TooMany) None)) in m ≡ None) → b ≡ false
-      never_played true b e f h = cc
-      never_played false true e f h = cc
-      never_played false false e f h = refl
+        fit = fit_none (state_of it.state) (played_bytes (rounds (count_of n) o.recorder.macro)).1;
+      })
 
   ended_step : c ≡ Exit → x.state.player.playing ≡ false → new ≡ resting x → StepEnds Sees comes x.state.player.playing x new
   ended_step is typed same =
@@ -340,7 +296,6 @@ is_exit_of _ h = cc
 
 is_call_of : (c : Command) → is_call c ≡ true → c ≡ Set CallMacro
 is_call_of (Set CallMacro) h = refl
-is_call_of (Set _) h = cc
 is_call_of _ h = cc
 
 pub command_step : (Sees : View → Type 0) (comes : View → Turn) (x new : Session) (c : Command) (n : Option ℕ) (b : ModeBefore) (step : ByteStep) → ((v : View) → Sees v → comes v ≡ command_turn (state_of (resting x).state) n c) → is_bound c ≡ true → IsAlone x.state.player
@@ -355,13 +310,9 @@ command_step Sees comes x new c n b Failed turn bound alone again search s = by 
     exit_told true message e = let same : InMacro ≡ message = cc in (refl, sym same)
     exit_told false message e = cc
 
-    call_told : (m : Option ℕ) → c ≡ Set CallMacro → call_fault (resting x).state n ≡ Some s.message → StepFailed Sees comes x.state.player.playing x new
-    call_told m is fault = call_failed Sees comes x new c n turn s.message is fault s.told
-
     by : (k : Command) → c ≡ k → fault_of (resting x).state k n ≡ Some s.message → StepFailed Sees comes x.state.player.playing x new
     by Exit is fault = (let known = exit_told x.state.player.playing s.message fault in exit_failed Sees comes x new c n turn is known.0 (s.told ∙ ap (λ (m : Message). failed m (resting x)) known.1))
-    by (Set CallMacro) is fault = call_told n is fault
-    by (Set _) is fault = cc
+    by (Set CallMacro) is fault = call_failed Sees comes x new c n turn s.message is fault s.told
     by _ is fault = cc
 command_step Sees comes x new c n b Ends turn bound alone again search s = ended_step Sees comes x new c n turn (is_exit_of c s.0) s.1 s.2
 command_step Sees comes x new c n b (Acts (byte_acts.Act a)) turn bound alone again search s =
@@ -391,5 +342,4 @@ key_unbound d ks x new byte k still none alone read same =
 
 pub key_command : (d : Directory) (ks : List MarkedBuffer) (x y new : Session) (byte : ℕ) (k : Held) (c : Command) (n : Option ℕ) (step : ByteStep) → x.state.search ≡ None → x.state.prompt ≡ None → IsAlone x.state.player → FedBy (fed.Run c n) (key_read x.state.keyboard.argument x.state.keyboard.keys byte) k → is_bound c ≡ true → y ≡ resting x → IsCommandStep y new c n step → IsByteStep d ks x new byte befores.Plain step
 key_command d ks x y new byte k c n step still none alone read bound rests s =
-    command_step (SeesNames d ks x.user) (λ v. state_turn v x.state byte) x new c n befores.Plain step (λ v sees. turn_command v x.state byte k c n still none read) bound alone (again_plain x still none) (λ r. sym still)
-    (subst (λ (z : Session). IsCommandStep z new c n step) rests s)
+    command_step (SeesNames d ks x.user) (λ v. state_turn v x.state byte) x new c n befores.Plain step (λ v sees. turn_command v x.state byte k c n still none read) bound alone (again_plain x still none) (λ r. sym still) (rw rests at s)

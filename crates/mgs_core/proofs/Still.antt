@@ -1,5 +1,5 @@
 -- A byte that goes on with a word changes nothing but what its session holds, and nothing of that that a screen shows.
-use Rattle.std.proofs.Common.{◌≡◌, ℕ, zero, suc, ◌<◌, cond, List, [], ◌∷◌, length, get_or, Option, None, Some, refl, sym, ap, subst, ◌∙◌, arith}
+use Rattle.std.proofs.Common.{◌≡◌, ℕ, zero, suc, ◌<◌, cond, List, [], ◌∷◌, length, get_or, Option, None, refl, sym, ap, subst, ◌∙◌, arith}
 use Rattle.std.specs.Prelude.{slice_set}
 use Rattle.std.specs.List.{position_or_len}
 use Rattle.mgs_model.specs.Access.{Directory}
@@ -17,6 +17,7 @@ use Rattle.mgs_world.specs.Worlds.{buffers_of, input_in, mode_in, state_of, sear
 use Rattle.mgs_world.proofs.Sessions.{session_some}
 use Rattle.mgs_core.specs.AtPlace.{IsBare, StateAlone, state_put}
 use Rattle.mgs_core.specs.Calls.{IsStill}
+use Rattle.mgs_core.proofs.Ids.{same_some}
 use Rattle.mgs_core.proofs.Begun.{Begins, begun_same}
 use Rattle.mgs_core.proofs.Steps.{world_changed}
 
@@ -83,13 +84,12 @@ face_is ks h o was now x is = (
   now.echo ∙ sym was.echo ∙ ap (λ (y : model.Session). y.state.echo) is,
 )
 
-some_is : {A : Type 0} (a b : A) → Some a ≡ Some b → a ≡ b
-some_is a b e = cc
-
--- the session shows the same
-still_so : (d : Directory) (ks ls : List MarkedBuffer) (xs zs : List Session) (next : Option ℕ) (id at : ℕ) (h : Session) → at ≡ position_or_len (session_id id) xs → at < length xs → h ≡ get_or xs at h → (a : StateAlone at ks ls xs zs) → IsBare h.state → IsBare a.state
+-- it shows nothing again
+pub still_again : (d : Directory) (ks ls : List MarkedBuffer) (xs zs : List Session) (next : Option ℕ) (id at : ℕ) (h z : Session) → at ≡ position_or_len (session_id id) xs → at < length xs → h ≡ get_or xs at h → StateAlone at ks ls xs zs → z ≡ get_or zs at z → IsBare h.state → IsBare z.state
     → IsStill id (world_of d ks xs next) (world_of d ls zs next)
-still_so d ks ls xs zs next id at h place within is a was now =
+still_again d ks ls xs zs next id at h z place within is a there was bare =
+    let state : z.state ≡ a.state = ap (λ (s : Session). s.state) there ∙ ap (λ (ss : List Session). (get_or ss at z).state) a.is ∙ got_put at a.state xs z within in
+    let now = subst IsBare state bare in
     let y : Session = record h { state = a.state } in
     record {
       state = state_of a.state;
@@ -97,12 +97,5 @@ still_so d ks ls xs zs next id at h place within is a was now =
           ap (λ (bs : List MarkedBuffer). world_of d bs zs next) a.buffers
           ∙ ap (λ (ss : List Session). world_of d ks ss next) (a.is ∙ sym (written_put xs at h y is refl))
           ∙ world_changed (λ old. state_of a.state) d ks xs next id at h y place within is (state_is ks h a.state now);
-      face = λ x found. face_is ks h a.state was now x (some_is (session_of ks h) x (sym (session_some d ks xs next id at h place within is) ∙ found));
+      face = λ x found. face_is ks h a.state was now x (same_some (session_of ks h) x (sym (session_some d ks xs next id at h place within is) ∙ found));
     }
-
--- it shows nothing again
-pub still_again : (d : Directory) (ks ls : List MarkedBuffer) (xs zs : List Session) (next : Option ℕ) (id at : ℕ) (h z : Session) → at ≡ position_or_len (session_id id) xs → at < length xs → h ≡ get_or xs at h → StateAlone at ks ls xs zs → z ≡ get_or zs at z → IsBare h.state → IsBare z.state
-    → IsStill id (world_of d ks xs next) (world_of d ls zs next)
-still_again d ks ls xs zs next id at h z place within is a there was now =
-    let state : z.state ≡ a.state = ap (λ (s : Session). s.state) there ∙ ap (λ (ss : List Session). (get_or ss at z).state) a.is ∙ got_put at a.state xs z within in
-    still_so d ks ls xs zs next id at h place within is a was (subst IsBare state now)

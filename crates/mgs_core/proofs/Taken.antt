@@ -1,12 +1,12 @@
 -- A turn of the session at a place, in the world.
-use Rattle.std.proofs.Common.{◌≡◌, ℕ, zero, suc, ◌<◌, Bool, true, false, List, [], ◌∷◌, get_or, length, map, cond, Option, Some, None, refl, sym, ap, subst, ◌∙◌, arith}
+use Rattle.std.proofs.Common.{◌≡◌, ℕ, ◌<◌, Bool, true, false, List, [], ◌∷◌, get_or, length, map, cond, Option, Some, None, refl, sym, ap, subst, ◌∙◌, arith}
 use Rattle.std.specs.Prelude.{slice_get, slice_set, is_some, not, ◌≤◌}
 use Rattle.std.specs.List.{flat_map, position_or_len}
 use Rattle.std.specs.Option.{option_map}
-use Rattle.std.proofs.lemmas.List.{length-map, map-set}
+use Rattle.std.proofs.lemmas.List.{map-set}
 use Rattle.std.proofs.lemmas.Option.{slice_get-map}
 use Rattle.mgs_model.specs.Access.{Directory}
-use Rattle.mgs_model.specs.World.{World, Buffer, Todo, find_buffer, find_session, has_id, is_named}
+use Rattle.mgs_model.specs.World.{World, Todo, find_buffer, find_session, has_id, is_named}
 use Rattle.mgs_model.specs.World as model
 use Rattle.mgs_model.specs.Outcome.{Act, Run}
 use Rattle.mgs_laws.specs.Apart.{Apart}
@@ -16,7 +16,6 @@ use Rattle.mgs_model.specs.View.{View, view}
 use Rattle.mgs_model.specs.Turns.{Turn, Keep, Do, todo_turn}
 use Rattle.mgs_model.specs.Events.{act_effects, state_set, refused_state, saved_by, settled, turn_in, with_state}
 use Rattle.mgs_laws.specs.Refusals.{may_be_refused}
-use Rattle.mgs_model.specs.declared.search.Direction.{Direction}
 use Rattle.mgs_model.specs.declared.search.SearchStep.{SearchStep}
 use Rattle.mgs_model.specs.declared.session.Command.TheVariants as commands
 use Rattle.mgs_model.specs.declared.session.Command.TheVariants.{Exit, LeaveSearch, Seek}
@@ -41,8 +40,6 @@ use Rattle.mgs_model.proofs.Firsts.{change_first_found, change_twice}
 use Rattle.mgs_laws.proofs.LeftToDo.{is_single, single_brief, todo_acted}
 use Rattle.mgs_laws.proofs.Turned.{turn_todo}
 use Rattle.mgs_seek.specs.Beginning.{search_held, search_or_none}
-use Rattle.mgs_plan.specs.Actions.{act_of}
-use Rattle.mgs_plan.specs.declared.key_act.KeyAct.{KeyAct}
 use Rattle.mgs_plan.specs.Tells.{touched_in}
 use Rattle.mgs_plan.proofs.Deeds.{set_twice}
 use Rattle.mgs_plan.proofs.Quiet.{quiet_leaving, quiet_seeking}
@@ -63,16 +60,16 @@ use Rattle.mgs_core.specs.declared.byte_acts.ModeBefore.TheVariants as befores
 use Rattle.mgs_core.specs.declared.keying.ByteStep.{ByteStep}
 use Rattle.mgs_core.specs.declared.keying.ByteStep.TheVariants.{Kept, Failed, Ends, Acts}
 use Rattle.mgs_act.specs.Doing.{ActedBy, DoneBy}
-use Rattle.mgs_core.specs.KeyActs.{started_by, started_state, started_world}
+use Rattle.mgs_core.specs.KeyActs.{started_by, started_state}
 use Rattle.mgs_core.specs.Calls.{closed}
 use Rattle.mgs_core.specs.ByteActs.{CanDo, IsReady, asked_of, before_turn, model_act, deciding_state, deciding_world, finds, is_finding, is_replacement, is_replacing, may_want_memory, refused, seek_act, starts_replacing}
 use Rattle.mgs_core.specs.AtPlace.{IsRefusedIn}
-use Rattle.mgs_core.specs.ByteSteps.{IsTurnStep, SearchStays, SeesNames, TurnLeft, keyed_without_act}
+use Rattle.mgs_core.specs.ByteSteps.{IsTurnStep, SearchStays, SeesNames, keyed_without_act}
 use Rattle.mgs_core.specs.Turns.{IsLess, IsWithin, TurnDone, TurnRefused, TurnedBy, IsFit, has_all, is_played, is_quiet, weight}
 use Rattle.mgs_core.proofs.Begun.{closed_state, search_still}
 use Rattle.mgs_core.proofs.Commanded.{acted_single}
 use Rattle.mgs_core.proofs.Prompted.{answered_single}
-use Rattle.mgs_core.proofs.Sizes.{place_same}
+use Rattle.mgs_core.proofs.Sizes.{place_same, some_at, within_still}
 use Rattle.mgs_core.proofs.Started.{begun_act}
 use Rattle.mgs_core.proofs.Stays.{state_rests, settled_as}
 use Rattle.mgs_core.proofs.Steps.{session_there, set_there, world_changed}
@@ -82,24 +79,14 @@ use Rattle.mgs_core.proofs.Stepped.{fit_empty, fit_none}
 use Rattle.mgs_core.proofs.Told.{quietly}
 use Rattle.mgs_core.proofs.Turns.{mode_replacing}
 
-there : (xs : List Session) (at : ℕ) → at < length xs → (h : Session) × (h ≡ get_or xs at h) × (slice_get xs at ≡ Some h)
-there [] at within = absurd (omega (arith, within))
-there (x ∷ xs) zero within = (x, refl, refl)
-there (x ∷ xs) (suc at) within = there xs at (omega (arith, within))
-
-pub open_at : (d : Directory) (ks : List MarkedBuffer) (xs : List Session) (next : Option ℕ) (id at : ℕ) → at ≡ position_or_len (session_id id) xs → at < length xs → (x : model.Session) × (find_session id (world_of d ks xs next).sessions ≡ Some x) × (x.state.todo ≡ (state_at at xs).todo)
-open_at d ks xs next id at place within =
-    let h = there xs at within in
-    (session_of ks h.0, session_some d ks xs next id at h.0 place within h.1, sym (ap (λ (o : Option Session). (state_or_first o).todo) h.2))
-
 -- what the session at a place holds
 state_there : (xs : List Session) (at : ℕ) (h : Session) → at < length xs → h ≡ get_or xs at h → state_at at xs ≡ state_of h.state
 state_there xs at h within is = ap state_or_first (session_there xs at h within is)
 
 pub open_state : (d : Directory) (ks : List MarkedBuffer) (xs : List Session) (next : Option ℕ) (id at : ℕ) → at ≡ position_or_len (session_id id) xs → at < length xs → (x : model.Session) × (find_session id (world_of d ks xs next).sessions ≡ Some x) × (x.state ≡ state_at at xs)
 open_state d ks xs next id at place within =
-    let h = there xs at within in
-    (session_of ks h.0, session_some d ks xs next id at h.0 place within h.1, sym (ap state_or_first h.2))
+    let h = some_at xs at within in
+    (session_of ks h.0, session_some d ks xs next id at h.0 place within h.1, sym (state_there xs at h.0 within h.1))
 
 state_put : (xs : List Session) (at : ℕ) (y : Session) → at < length xs → state_at at (slice_set xs at y) ≡ state_of y.state
 state_put xs at y within = ap state_or_first (set_there xs at y within)
@@ -108,121 +95,85 @@ search_put : (xs : List Session) (at : ℕ) (y : Session) → at < length xs →
 search_put xs at y within = ap search_or_none (set_there xs at y within)
 
 pub ready_put : (xs : List Session) (at : ℕ) (y : Session) (byte_act : ByteAct) → at < length xs → IsReady byte_act y.state.search (state_of y.state) → IsReady byte_act (search_held at (slice_set xs at y)) (state_at at (slice_set xs at y))
-ready_put xs at y byte_act within ready =
-    subst (λ (s : Option Search). IsReady byte_act s (state_at at (slice_set xs at y))) (sym (search_put xs at y within))
-    (subst (IsReady byte_act y.state.search) (sym (state_put xs at y within)) ready)
-
-pub some_there : (xs : List Session) (at : ℕ) (h : Session) → at < length xs → h ≡ get_or xs at h → ((state_at at xs).todo ≡ [] → ⊥) → h.state.player.todo ≡ [] → ⊥
-some_there xs at h within is some none = some (ap (λ (o : model.State). o.todo) (state_there xs at h within is) ∙ none)
-
-pub within_still : (at : ℕ) (xs ys : List Session) → at < length xs → sizes_in ys ≡ sizes_in xs → at < length ys
-within_still at xs ys within same = omega (arith, within, sym (length-map xs size_in) ∙ sym (ap length same) ∙ length-map ys size_in)
+ready_put xs at y byte_act within ready = rw (search_put xs at y within, state_put xs at y within) ready
 
 -- no more is left of a text than it may have
 size_within : (name : List ℕ) (ks : List MarkedBuffer) → AreWithinLimit ks → size_named name (buffers_of ks) ≤ 1048576
 size_within name [] h = omega arith
-size_within name (k ∷ ks) h = by (is_named name k.buffer) (size_within name ks h.1)
-  where
-    by : (b : Bool) → size_named name (buffers_of ks) ≤ 1048576 → size_found (cond b (Some k.buffer) (find_buffer name (buffers_of ks))) ≤ 1048576
-    by true later = h.0
-    by false later = later
+size_within name (k ∷ ks) h = elim (is_named name k.buffer) as (λ b. size_found (cond b (Some k.buffer) (find_buffer name (buffers_of ks))) ≤ 1048576) [ true ↦ h.0 | false ↦ size_within name ks h.1 ]
 
 pub left_within : (at : ℕ) (ks : List MarkedBuffer) (xs : List Session) → AreWithinLimit ks → remaining_at at ks xs ≤ 1048576
-left_within at ks xs h = by (search_held at xs)
-  where
-    by : (o : Option Search) → remaining_in ks o ≤ 1048576
-    by None = omega arith
-    by (Some s) = let small = size_within s.name ks h in omega (arith, small)
+left_within at ks xs h = elim (search_held at xs) as (λ o. remaining_in ks o ≤ 1048576) [ None ↦ omega arith | Some s ↦ (let small = size_within s.name ks h in omega (arith, small)) ]
 
 -- A STEP OF A SEARCH
 
-seek_found : (o : Option Session) (step : SearchStep) → is_finding (search_or_none o) ≡ true → (s : Search) × (f : Sought) × (search_or_none o ≡ Some s) × (s.aim ≡ Find f) × (seek_act (state_or_first o).mode step (state_or_first o).input ≡ Run (Seek (SearchOn f.direction step)) None f.pattern)
-seek_found None step h = cc
-seek_found (Some x) step h = by x.state.search refl h
+-- what a search looks for, or replaces
+find_aim : (o : Option Search) → is_finding o ≡ true → (s : Search) × (f : Sought) × (o ≡ Some s) × (s.aim ≡ Find f)
+find_aim None h = cc
+find_aim (Some s) h = by s.aim refl h
   where
-    aims : (s : Search) (a : Aim) → x.state.search ≡ Some s → s.aim ≡ a → finds a ≡ true → (s : Search) × (f : Sought) × (x.state.search ≡ Some s) × (s.aim ≡ Find f) × (seek_act (state_of x.state).mode step (state_of x.state).input ≡ Run (Seek (SearchOn f.direction step)) None f.pattern)
-    aims s (Find f) is of_s h = (s, f, is, of_s, ap (λ (o : Option Search). seek_act (mode_in o x.state.prompt) step (input_in o x.state.prompt)) is ∙ ap (λ (a : Aim). seek_act (aim_mode a) step (aim_input a)) of_s)
-    aims s (Replace r) is of_s h = cc
+    by : (a : Aim) → s.aim ≡ a → finds a ≡ true → (t : Search) × (f : Sought) × (Path (Option Search) (Some s) (Some t)) × (t.aim ≡ Find f)
+    by (Find f) is h = (s, f, refl, is)
+    by (Replace r) is h = cc
 
-    by : (o : Option Search) → x.state.search ≡ o → is_finding o ≡ true → (s : Search) × (f : Sought) × (x.state.search ≡ Some s) × (s.aim ≡ Find f) × (seek_act (state_of x.state).mode step (state_of x.state).input ≡ Run (Seek (SearchOn f.direction step)) None f.pattern)
-    by None is h = cc
-    by (Some s) is h = aims s s.aim is refl h
+replace_aim : (o : Option Search) → is_replacing o ≡ true → (s : Search) × (r : Replacing) × (o ≡ Some s) × (s.aim ≡ Replace r)
+replace_aim None h = cc
+replace_aim (Some s) h = by s.aim refl h
+  where
+    by : (a : Aim) → s.aim ≡ a → not (finds a) ≡ true → (t : Search) × (r : Replacing) × (Path (Option Search) (Some s) (Some t)) × (t.aim ≡ Replace r)
+    by (Find f) is h = cc
+    by (Replace r) is h = (s, r, refl, is)
 
 -- it is what the session at a place looks for
-pub seek_there : (xs : List Session) (at : ℕ) (step : SearchStep) → is_finding (search_held at xs) ≡ true → (s : Search) × (f : Sought) × (search_held at xs ≡ Some s) × (s.aim ≡ Find f) × (seek_act (state_at at xs).mode step (state_at at xs).input ≡ Run (Seek (SearchOn f.direction step)) None f.pattern)
-seek_there xs at step h = seek_found (slice_get xs at) step h
+seek_there : (o : Option Session) (step : SearchStep) → is_finding (search_or_none o) ≡ true → (s : Search) × (f : Sought) × (search_or_none o ≡ Some s) × (s.aim ≡ Find f) × (seek_act (state_or_first o).mode step (state_or_first o).input ≡ Run (Seek (SearchOn f.direction step)) None f.pattern)
+seek_there None step h = cc
+seek_there (Some x) step h =
+    let a = find_aim x.state.search h in
+    (a.0, a.1, a.2, a.3, ap (λ (o : Option Search). seek_act (mode_in o x.state.prompt) step (input_in o x.state.prompt)) a.2 ∙ ap (λ (a : Aim). seek_act (aim_mode a) step (aim_input a)) a.3)
 
 -- or what it replaces
-replace_found : (o : Option Session) → is_replacing (search_or_none o) ≡ true → (s : Search) × (r : Replacing) × (search_or_none o ≡ Some s) × (s.aim ≡ Replace r) × ((state_or_first o).input ≡ r.put)
-replace_found None h = cc
-replace_found (Some x) h = by x.state.search refl h
-  where
-    aims : (s : Search) (a : Aim) → x.state.search ≡ Some s → s.aim ≡ a → not (finds a) ≡ true → (s : Search) × (r : Replacing) × (x.state.search ≡ Some s) × (s.aim ≡ Replace r) × ((state_of x.state).input ≡ r.put)
-    aims s (Find f) is of_s h = cc
-    aims s (Replace r) is of_s h = (s, r, is, of_s, ap (λ (o : Option Search). input_in o x.state.prompt) is ∙ ap aim_input of_s)
+replace_there : (o : Option Session) → is_replacing (search_or_none o) ≡ true → (s : Search) × (r : Replacing) × (search_or_none o ≡ Some s) × (s.aim ≡ Replace r) × ((state_or_first o).input ≡ r.put)
+replace_there None h = cc
+replace_there (Some x) h = let a = replace_aim x.state.search h in (a.0, a.1, a.2, a.3, ap (λ (o : Option Search). input_in o x.state.prompt) a.2 ∙ ap aim_input a.3)
 
-    by : (o : Option Search) → x.state.search ≡ o → is_replacing o ≡ true → (s : Search) × (r : Replacing) × (x.state.search ≡ Some s) × (s.aim ≡ Replace r) × ((state_of x.state).input ≡ r.put)
-    by None is h = cc
-    by (Some s) is h = aims s s.aim is refl h
+pub skipped_quietly : (old new : World) (t : StoreTold) (id : ℕ) (xs : List Session) (at : ℕ) → is_replacing (search_held at xs) ≡ true
+    → ((s : Search) (r : Replacing) → search_held at xs ≡ Some s → s.aim ≡ Replace r → new ≡ act old id (Run (Seek SkipMatch) None r.put) true) → DoneBy Nowhere old new t t id (Run (Seek SkipMatch) None (state_at at xs).input)
+skipped_quietly old new t id xs at ready world =
+    let there = replace_there (slice_get xs at) ready in
+    rw there.4 (quietly Nowhere old new t id (Run (Seek SkipMatch) None there.1.put) refl (world there.0 there.1 there.2 there.3) (sym (quiet_seeking old id None there.1.put true SkipMatch)))
 
-pub replace_there : (xs : List Session) (at : ℕ) → is_replacing (search_held at xs) ≡ true → (s : Search) × (r : Replacing) × (search_held at xs ≡ Some s) × (s.aim ≡ Replace r) × ((state_at at xs).input ≡ r.put)
-replace_there xs at h = replace_found (slice_get xs at) h
-
--- an act of a key is done as it is
-pub acted_byte_act : (touched : Touched) (old new : World) (before after : StoreTold) (id : ℕ) (state : model.State) (b : ModeBefore) (byte_act : ByteAct) (a : KeyAct) → byte_act ≡ byte_acts.Act a
-    → DoneBy touched (started_world (started_by a) id old) new before after id (act_of a) → DoneBy touched (deciding_world b byte_act id old) new before after id (model_act state b byte_act)
-acted_byte_act touched old new before after id state b byte_act a is did = subst (λ (e : ByteAct). DoneBy touched (deciding_world b e id old) new before after id (model_act state b e)) (sym is) did
-
-pub skipped_quietly : (old new : World) (t : StoreTold) (id : ℕ) (xs : List Session) (at : ℕ) (b : ModeBefore) (byte_act : ByteAct) → byte_act ≡ byte_acts.Skip → IsReady byte_act (search_held at xs) (state_at at xs)
-    → ((s : Search) (r : Replacing) → search_held at xs ≡ Some s → s.aim ≡ Replace r → new ≡ act old id (Run (Seek SkipMatch) None r.put) true) → DoneBy Nowhere (deciding_world b byte_act id old) new t t id (model_act (state_at at xs) b byte_act)
-skipped_quietly old new t id xs at b byte_act is ready world =
-    let there = replace_there xs at (subst (λ (e : ByteAct). IsReady e (search_held at xs) (state_at at xs)) is ready) in
-    let put = there.1.put in
-    subst (λ (e : ByteAct). DoneBy Nowhere (deciding_world b e id old) new t t id (model_act (state_at at xs) b e)) (sym is)
-    (subst (λ (put : List ℕ). DoneBy Nowhere old new t t id (Run (Seek SkipMatch) None put)) (sym there.4)
-    (quietly Nowhere old new t id (Run (Seek SkipMatch) None put) refl (world there.0 there.1 there.2 there.3) (sym (quiet_seeking old id None put true SkipMatch))))
-
-pub replaced_quietly : (touched : Touched) (old new : World) (t : StoreTold) (id : ℕ) (xs : List Session) (at : ℕ) (b : ModeBefore) (byte_act : ByteAct) (last : Bool) → byte_act ≡ byte_acts.Replace last → IsReady byte_act (search_held at xs) (state_at at xs)
+pub replaced_quietly : (touched : Touched) (old new : World) (t : StoreTold) (id : ℕ) (xs : List Session) (at : ℕ) (last : Bool) → is_replacing (search_held at xs) ≡ true
     → ((s : Search) (r : Replacing) → search_held at xs ≡ Some s → s.aim ≡ Replace r → new ≡ act old id (Run (commands.Replace (replacement last)) None r.put) true)
     → ((s : Search) (r : Replacing) → search_held at xs ≡ Some s → s.aim ≡ Replace r → touched ≡ touched_in (outcome_in old id (Run (commands.Replace (replacement last)) None r.put) true))
-    → DoneBy touched (deciding_world b byte_act id old) new t t id (model_act (state_at at xs) b byte_act)
-replaced_quietly touched old new t id xs at b byte_act last is ready world tells =
-    let there = replace_there xs at (subst (λ (e : ByteAct). IsReady e (search_held at xs) (state_at at xs)) is ready) in
-    subst (λ (e : ByteAct). DoneBy touched (deciding_world b e id old) new t t id (model_act (state_at at xs) b e)) (sym is)
-    (subst (λ (put : List ℕ). DoneBy touched old new t t id (Run (commands.Replace (replacement last)) None put)) (sym there.4)
-    (quietly touched old new t id (Run (commands.Replace (replacement last)) None there.1.put) refl (world there.0 there.1 there.2 there.3) (tells there.0 there.1 there.2 there.3)))
+    → DoneBy touched old new t t id (Run (commands.Replace (replacement last)) None (state_at at xs).input)
+replaced_quietly touched old new t id xs at last ready world tells =
+    let there = replace_there (slice_get xs at) ready in
+    rw there.4 (quietly touched old new t id (Run (commands.Replace (replacement last)) None there.1.put) refl (world there.0 there.1 there.2 there.3) (tells there.0 there.1 there.2 there.3))
 
-pub replaced_may : (w : World) (id : ℕ) (xs : List Session) (at : ℕ) (b : ModeBefore) (byte_act : ByteAct) (last : Bool) → byte_act ≡ byte_acts.Replace last → IsReady byte_act (search_held at xs) (state_at at xs)
-    → ((s : Search) (r : Replacing) → search_held at xs ≡ Some s → s.aim ≡ Replace r → may_be_refused (outcome_in w id (Run (commands.Replace (replacement last)) None r.put) true) ≡ true) → may_be_refused (outcome_in w id (model_act (state_at at xs) b byte_act) true) ≡ true
-replaced_may w id xs at b byte_act last is ready may =
-    let there = replace_there xs at (subst (λ (e : ByteAct). IsReady e (search_held at xs) (state_at at xs)) is ready) in
-    ap (λ (e : ByteAct). may_be_refused (outcome_in w id (model_act (state_at at xs) b e) true)) is
-    ∙ ap (λ (put : List ℕ). may_be_refused (outcome_in w id (Run (commands.Replace (replacement last)) None put) true)) there.4
-    ∙ may there.0 there.1 there.2 there.3
+pub replaced_may : (w : World) (id : ℕ) (xs : List Session) (at : ℕ) (last : Bool) → is_replacing (search_held at xs) ≡ true
+    → ((s : Search) (r : Replacing) → search_held at xs ≡ Some s → s.aim ≡ Replace r → may_be_refused (outcome_in w id (Run (commands.Replace (replacement last)) None r.put) true) ≡ true)
+    → may_be_refused (outcome_in w id (Run (commands.Replace (replacement last)) None (state_at at xs).input) true) ≡ true
+replaced_may w id xs at last ready may =
+    let there = replace_there (slice_get xs at) ready in
+    ap (λ (put : List ℕ). may_be_refused (outcome_in w id (Run (commands.Replace (replacement last)) None put) true)) there.4 ∙ may there.0 there.1 there.2 there.3
 
-pub started_replacing : (old new : World) (t : StoreTold) (id : ℕ) (state : model.State) (b : ModeBefore) (byte_act : ByteAct) (p : PromptInput) (pattern put : List ℕ) → byte_act ≡ byte_acts.StartReplacing → p ≡ asked_of b → pattern ≡ p.first → put ≡ p.input
-    → new ≡ act (with_state id (replacing_state pattern put) old) id (Run (Seek StartReplace) None put) true → DoneBy Nowhere (deciding_world b byte_act id old) new t t id (model_act state b byte_act)
-started_replacing old new t id state b byte_act p pattern put is asked first input world =
-    let f : List ℕ = (asked_of b).first in
+pub started_replacing : (old new : World) (t : StoreTold) (id : ℕ) (b : ModeBefore) (p : PromptInput) (pattern put : List ℕ) → p ≡ asked_of b → pattern ≡ p.first → put ≡ p.input
+    → new ≡ act (with_state id (replacing_state pattern put) old) id (Run (Seek StartReplace) None put) true → DoneBy Nowhere (with_state id (replacing_state (asked_of b).first (asked_of b).input) old) new t t id (Run (Seek StartReplace) None (asked_of b).input)
+started_replacing old new t id b p pattern put asked first input world =
     let v : World = with_state id (replacing_state pattern put) old in
-    subst (λ (e : ByteAct). DoneBy Nowhere (deciding_world b e id old) new t t id (model_act state b e)) (sym is)
-    (subst (λ (xs : List ℕ). DoneBy Nowhere (with_state id (replacing_state f xs) old) new t t id (Run (Seek StartReplace) None xs)) (input ∙ ap (λ (q : PromptInput). q.input) asked)
+    subst (λ (xs : List ℕ). DoneBy Nowhere (with_state id (replacing_state (asked_of b).first xs) old) new t t id (Run (Seek StartReplace) None xs)) (input ∙ ap (λ (q : PromptInput). q.input) asked)
     (subst (λ (xs : List ℕ). DoneBy Nowhere (with_state id (replacing_state xs put) old) new t t id (Run (Seek StartReplace) None put)) (first ∙ ap (λ (q : PromptInput). q.first) asked)
-    (quietly Nowhere v new t id (Run (Seek StartReplace) None put) refl world (sym (quiet_seeking v id None put true StartReplace)))))
+    (quietly Nowhere v new t id (Run (Seek StartReplace) None put) refl world (sym (quiet_seeking v id None put true StartReplace))))
 
-pub sought_quietly : (old new : World) (t : StoreTold) (id : ℕ) (xs : List Session) (at : ℕ) (b : ModeBefore) (byte_act : ByteAct) (step : SearchStep) → byte_act ≡ byte_acts.Seek step → IsReady byte_act (search_held at xs) (state_at at xs)
-    → ((s : Search) (f : Sought) → search_held at xs ≡ Some s → s.aim ≡ Find f → new ≡ act old id (Run (Seek (SearchOn f.direction step)) None f.pattern) true) → DoneBy Nowhere (deciding_world b byte_act id old) new t t id (model_act (state_at at xs) b byte_act)
-sought_quietly old new t id xs at b byte_act step is ready world =
-    let there = seek_there xs at step (subst (λ (e : ByteAct). IsReady e (search_held at xs) (state_at at xs)) is ready) in
+pub sought_quietly : (old new : World) (t : StoreTold) (id : ℕ) (xs : List Session) (at : ℕ) (step : SearchStep) → is_finding (search_held at xs) ≡ true
+    → ((s : Search) (f : Sought) → search_held at xs ≡ Some s → s.aim ≡ Find f → new ≡ act old id (Run (Seek (SearchOn f.direction step)) None f.pattern) true) → DoneBy Nowhere old new t t id (seek_act (state_at at xs).mode step (state_at at xs).input)
+sought_quietly old new t id xs at step ready world =
+    let there = seek_there (slice_get xs at) step ready in
     let f = there.1 in
-    subst (λ (e : ByteAct). DoneBy Nowhere (deciding_world b e id old) new t t id (model_act (state_at at xs) b e)) (sym is)
-    (subst (DoneBy Nowhere old new t t id) (sym there.4)
-    (quietly Nowhere old new t id (Run (Seek (SearchOn f.direction step)) None f.pattern) refl (world there.0 f there.2 there.3) (sym (quiet_seeking old id None f.pattern true (SearchOn f.direction step)))))
+    rw there.4 (quietly Nowhere old new t id (Run (Seek (SearchOn f.direction step)) None f.pattern) refl (world there.0 f there.2 there.3) (sym (quiet_seeking old id None f.pattern true (SearchOn f.direction step))))
 
-pub quit_quietly : (old new : World) (t : StoreTold) (id : ℕ) (state : model.State) (b : ModeBefore) (byte_act : ByteAct) → byte_act ≡ byte_acts.QuitSearch → new ≡ act old id (Run LeaveSearch None []) true → DoneBy Nowhere (deciding_world b byte_act id old) new t t id (model_act state b byte_act)
-quit_quietly old new t id state b byte_act is world =
-    subst (λ (e : ByteAct). DoneBy Nowhere (deciding_world b e id old) new t t id (model_act state b e)) (sym is)
-    (quietly Nowhere old new t id (Run LeaveSearch None []) refl world (sym (quiet_leaving old id None [] true)))
+pub quit_quietly : (old new : World) (t : StoreTold) (id : ℕ) → new ≡ act old id (Run LeaveSearch None []) true → DoneBy Nowhere old new t t id (Run LeaveSearch None [])
+quit_quietly old new t id world = quietly Nowhere old new t id (Run LeaveSearch None []) refl world (sym (quiet_leaving old id None [] true))
 
 -- AN ACT THAT IS REFUSED
 
@@ -234,11 +185,7 @@ keys_left _ keys = []
 left_of : (s : Option Search) (p : Option PromptInput) (keys : List ℕ) → keys_in s [] p ≡ keys_left (mode_in s p) (keys_in s keys p)
 left_of None None keys = refl
 left_of None (Some p) keys = refl
-left_of (Some s) p keys = by s.aim
-  where
-    by : (a : Aim) → [] ≡ keys_left (aim_mode a) keys
-    by (Find f) = refl
-    by (Replace r) = refl
+left_of (Some s) p keys = elim s.aim as (λ a. [] ≡ keys_left (aim_mode a) keys) [ Find f ↦ refl | Replace r ↦ refl ]
 
 -- where memory is refused, sessions that the model cannot tell apart are left so
 module _ (ks ls : List MarkedBuffer) (kind : Kind) (playing : Bool) (x z : Session) (texts : buffers_of ls ≡ buffers_of ks) (same : session_of ls z ≡ session_of ks x) where
@@ -282,11 +229,6 @@ refused_in_world d ks ls xs zs next at x z r b within is_x is_z does same =
 
 -- A TURN
 
--- the search of the session at a place, where all further matches are to be replaced
-search_is : (o : Option Search) → is_replacing o ≡ true → (s : Search) × (o ≡ Some s)
-search_is None h = cc
-search_is (Some s) h = (s, refl)
-
 replacing_held : (o : Option Session) → (state_or_first o).mode ≡ replacing_mode → is_replacing (search_or_none o) ≡ true
 replacing_held None h = cc
 replacing_held (Some x) h = mode_replacing x.state.search x.state.prompt h
@@ -316,31 +258,13 @@ byte_act_single state b (byte_acts.Seek step) here = seek_single state.mode step
 byte_act_single state b _ here = refl
 
 -- the record with which an act is decided plays as much, and has as much to do
-started_playing : (d : Option Direction) (state : model.State) → (started_state d state).playing ≡ state.playing
-started_playing None state = refl
-started_playing (Some d) state = refl
-
-byte_act_todo : (b : ModeBefore) (byte_act : ByteAct) (state : model.State) → (deciding_state b byte_act state).todo ≡ state.todo
-byte_act_todo b (byte_acts.Act a) state = by (started_by a)
-  where
-    by : (d : Option Direction) → (started_state d state).todo ≡ state.todo
-    by None = refl
-    by (Some d) = refl
-byte_act_todo b _ state = refl
-
-byte_act_playing : (b : ModeBefore) (byte_act : ByteAct) (state : model.State) → (deciding_state b byte_act state).playing ≡ state.playing
-byte_act_playing b (byte_acts.Act a) state = started_playing (started_by a) state
-byte_act_playing b _ state = refl
+byte_act_same : (b : ModeBefore) (byte_act : ByteAct) (state : model.State) → ((deciding_state b byte_act state).todo ≡ state.todo) × ((deciding_state b byte_act state).playing ≡ state.playing)
+byte_act_same b (byte_acts.Act a) state = elim (started_by a) as (λ d. ((started_state d state).todo ≡ state.todo) × ((started_state d state).playing ≡ state.playing)) [ None ↦ (refl, refl) | Some d ↦ (refl, refl) ]
+byte_act_same b _ state = (refl, refl)
 
 -- one that takes memory starts nothing
 unstarted : (b : ModeBefore) (byte_act : ByteAct) (state : model.State) → may_want_memory byte_act ≡ true → deciding_state b byte_act state ≡ state
-unstarted b (byte_acts.Act a) state wants = by (started_by a) wants
-  where
-    by : (d : Option Direction) → not (is_some d) ≡ true → started_state d state ≡ state
-    by None h = refl
-    by (Some d) h = cc
-unstarted b (byte_acts.Answer n) state wants = refl
-unstarted b (byte_acts.Replace last) state wants = refl
+unstarted b (byte_acts.Act a) state wants = (elim (started_by a) as (λ d. not (is_some d) ≡ true → started_state d state ≡ state) [ None ↦ λ h. refl | Some d ↦ λ h. cc ]) wants
 unstarted b _ state wants = cc
 
 -- a query-replace begins in a session that does not search
@@ -352,11 +276,7 @@ begun_replacing w id o pattern put x found none =
     (λ i. record x { search = both o.mode x.search none i; state = replacing_state pattern put o }))
   where
     both : (m : Mode) (s : Option model.Search) → s ≡ None → cond (is_search_mode m) s None ≡ s
-    both m s e = ap (λ (t : Option model.Search). cond (is_search_mode m) t None) e ∙ by (is_search_mode m) ∙ sym e
-      where
-        by : (b : Bool) → Path (Option model.Search) (cond b None None) None
-        by true = refl
-        by false = refl
+    both m s e = ap (λ (t : Option model.Search). cond (is_search_mode m) t None) e ∙ (elim (is_search_mode m) as (λ b. Path (Option model.Search) (cond b None None) None) [ true ↦ refl | false ↦ refl ]) ∙ sym e
 
 begun_byte_act : (w : World) (id : ℕ) (o : model.State) (b : ModeBefore) (byte_act : ByteAct) (state : model.State) (x : model.Session) (new : World) (before after : StoreTold) → find_session id w.sessions ≡ Some x → (starts_replacing byte_act ≡ true → x.search ≡ None)
     → ActedBy (deciding_world b byte_act id (with_state id (λ was. o) w)) new before after id (model_act state b byte_act) → ActedBy (with_state id (λ was. deciding_state b byte_act o) w) new before after id (model_act state b byte_act)
@@ -396,17 +316,10 @@ module _ (d : Directory) (ks : List MarkedBuffer) (xs : List Session) (next : Op
       let x : model.Session = session_of ks h in
       turn_todo w id x (session_some d ks xs next id at h place within is_h) ∙ turn (view w x) (shown_names_of w x)
 
-  -- where no further replacements are to be done
-  turn_less : (m n : ℕ) (replaces : Bool) (left : List Todo) → n ≤ 1048576 → TurnLeft replaces h.state.player.todo left → has_all h.state.player.todo ≡ false → weight n left < weight m h.state.player.todo
-  turn_less m n replaces left within s none =
-      omega (arith, s.less none, more_weight n 1048576 left within, none_weight m 1048576 h.state.player.todo none)
-
   -- what the session holds changed alone
   pub step_state : (b : ModeBefore) (step : ByteStep) → IsTurnStep d ks h y b step → (y ≡ record h { state = y.state }) × SearchStays h.state y.state
-  step_state b Kept s = (s.state, s.stays)
-  step_state b Failed s = (s.state, s.stays)
-  step_state b Ends s = (s.state, s.stays)
   step_state b (Acts byte_act) s = (s.state, s.stays)
+  step_state b _ s = (s.state, s.stays)
 
   failed_none : (b : ModeBefore) → IsTurnStep d ks h y b Failed → (state_at at (slice_set xs at y)).todo ≡ []
   failed_none b s = todo_put ∙ ap (λ (o : model.State). o.todo) s.told
@@ -414,8 +327,8 @@ module _ (d : Directory) (ks : List MarkedBuffer) (xs : List Session) (next : Op
   -- where no act is asked for, with what is answered then
   pub less_without_act : (b : ModeBefore) (step : ByteStep) (m n : ℕ) → n ≤ 1048576 → ((state_at at xs).todo ≡ [] → ⊥) → ((byte_act : ByteAct) → step ≡ Acts byte_act → ⊥) → IsTurnStep d ks h y b step → keyed_without_act step ≡ keyed.Done → IsLess m n (state_at at xs).todo (state_at at (slice_set xs at y)).todo
   less_without_act b Kept m n within some none s done =
-      subst (λ (todo : List Todo). IsLess m n todo (state_at at (slice_set xs at y)).todo) (sym todo_there)
-      (subst (IsLess m n h.state.player.todo) (sym todo_put) (turn_less m n false y.state.player.todo within s.left (by (has_all h.state.player.todo) refl), s.left.played))
+      let none_left = by (has_all h.state.player.todo) refl in
+      rw (todo_there, todo_put) (omega (arith, s.left.less none_left, more_weight n 1048576 y.state.player.todo within, none_weight m 1048576 h.state.player.todo none_left), s.left.played)
     where
       by : (all : Bool) → has_all h.state.player.todo ≡ all → has_all h.state.player.todo ≡ false
       by true e = (let replaces = (s.left.same e).0 in cc)
@@ -487,63 +400,39 @@ module _ (d : Directory) (ks : List MarkedBuffer) (xs : List Session) (next : Op
     done_from : (new : World) (before after : StoreTold) → ActedBy (deciding_world b byte_act id begun) new before after id (model_act (state_at at (slice_set xs at y)) b byte_act) → ActedBy (with_state id (λ was. state) old) new before after id act_done
     done_from new before after did =
         begun_byte_act old id (state_of y.state) b byte_act (state_of y.state) (session_of ks h) new before after (session_some d ks xs next id at h place within is_h) (λ starts. ap (search_of (buffers_of ks)) (s.begins starts))
-        (subst (λ (v : World). ActedBy (deciding_world b byte_act id v) new before after id act_done) (changed s.state s.stays)
-        (subst (λ (o : model.State). ActedBy (deciding_world b byte_act id begun) new before after id (model_act o b byte_act)) put did))
+        (rw (put, changed s.state s.stays) at did)
 
     -- what holds of what is to be done, and of nothing, holds of what the act leaves
     byte_act_leaves : (P : List Todo → Type 0) → P [] → ((todo : List Todo) → P todo → P (without_all todo)) → P y.state.player.todo → (K : List MarkedBuffer) (ys : List Session) (before after : StoreTold) → sizes_in ys ≡ sizes_in xs
-        → ActedBy (with_state id (λ was. state) old) (world_of d K ys next) before after id act_done → P (state_at at ys).todo
-    byte_act_leaves P none rest holds K ys before after same did =
+        → IsDoneBy K ys before after → P (state_at at ys).todo
+    byte_act_leaves P none rest holds K ys before after same by =
+        let did = done_from (world_of d K ys next) before after by in
         let w : World = world_of d ks xs next in
-        let z = open_at d K ys next id at (place_same id at xs ys place same) (within_still at xs ys within same) in
-        subst P z.2
-        (todo_acted P none rest w id state act_done did.stored (session_of ks h) z.0 (session_some d ks xs next id at h place within is_h) (single_brief state act_done (byte_act_single (state_of y.state) b byte_act s.here)) (subst P (sym (byte_act_todo b byte_act (state_of y.state))) holds)
+        let z = open_state d K ys next id at (place_same id at xs ys place same) (within_still at xs ys within same) in
+        subst P (ap (λ (o : model.State). o.todo) z.2)
+        (todo_acted P none rest w id state act_done did.stored (session_of ks h) z.0 (session_some d ks xs next id at h place within is_h) (single_brief state act_done (byte_act_single (state_of y.state) b byte_act s.here)) (subst P (sym (byte_act_same b byte_act (state_of y.state)).0) holds)
         (ap (λ (v : World). find_session id v.sessions) (sym did.world) ∙ z.1))
-
-    -- what further replacements leave: all that was to be done, or none of them
-    pub acted_less : (m n : ℕ) (K : List MarkedBuffer) (ys : List Session) (before after : StoreTold) → n ≤ 1048576 → sizes_in ys ≡ sizes_in xs
-        → IsDoneBy K ys before after
-        → has_all h.state.player.todo ≡ false
-        → IsLess m n (state_at at xs).todo (state_at at ys).todo
-    acted_less m n K ys before after small same by none =
-        let did = done_from (world_of d K ys next) before after by in
-        let left = byte_act_leaves (IsWithin (weight 1048576 y.state.player.todo)) (omega arith, refl) (without_within (weight 1048576 y.state.player.todo)) (omega arith, s.left.played) K ys before after same did in
-        let most = more_weight n 1048576 (state_at at ys).todo small in
-        let first = s.left.less none in
-        let alike = none_weight m 1048576 h.state.player.todo none in
-        subst (λ (todo : List Todo). IsLess m n todo (state_at at ys).todo) (sym todo_there) (omega (arith, left.0, first, most, alike), left.1)
-
-    -- or by one of all further replacements
-    pub replaced_less : (m n : ℕ) (K : List MarkedBuffer) (ys : List Session) (before after : StoreTold) → sizes_in ys ≡ sizes_in xs
-        → IsDoneBy K ys before after
-        → has_all h.state.player.todo ≡ true → (has_all (state_at at ys).todo ≡ true → n < m)
-        → IsLess m n (state_at at xs).todo (state_at at ys).todo
-    replaced_less m n K ys before after same by all further =
-        let todo : List Todo = h.state.player.todo in
-        let did = done_from (world_of d K ys next) before after by in
-        let stays = s.left.same all in
-        let left = byte_act_leaves (AllLeft m todo) (all_none m todo all) (all_without m todo all stays.2) (subst (AllLeft m todo) (sym stays.1) (all_same m todo all (ap is_played (sym stays.1) ∙ s.left.played))) K ys before after same did in
-        subst (λ (ts : List Todo). IsLess m n ts (state_at at ys).todo) (sym todo_there) (all_less m n todo (state_at at ys).todo all left further)
 
     -- further replacements are left only where the session goes on to replace
     pub acted_fit : (K : List MarkedBuffer) (ys : List Session) (before after : StoreTold) → sizes_in ys ≡ sizes_in xs
         → IsDoneBy K ys before after
         → IsFit (state_at at ys)
     acted_fit K ys before after same by =
-        either (has_all y.state.player.todo) refl (done_from (world_of d K ys next) before after by)
+        either (has_all y.state.player.todo) refl
       where
-        either : (all : Bool) → has_all y.state.player.todo ≡ all → ActedBy (with_state id (λ was. state) old) (world_of d K ys next) before after id act_done → IsFit (state_at at ys)
-        either true e did =
+        either : (all : Bool) → has_all y.state.player.todo ≡ all → IsFit (state_at at ys)
+        either true e =
+            let did = done_from (world_of d K ys next) before after by in
             let r = s.further e in
             let z = open_state d K ys next id at (place_same id at xs ys place same) (within_still at xs ys within same) in
             subst IsFit z.2
             (replaced_fits (world_of d ks xs next) id (state_of y.state) b byte_act did.stored (session_of ks h) z.0 (session_some d ks xs next id at h place within is_h) r.0 s.fit e r.1
             (ap (λ (v : World). find_session id v.sessions) (sym did.world) ∙ z.1))
-        either false e did =
+        either false e =
             fit_none (state_at at ys)
-            (byte_act_leaves (λ (todo : List Todo). has_all todo ≡ false) refl (λ todo f. ap has_all (without_same todo f) ∙ f) e K ys before after same did)
+            (byte_act_leaves (λ (todo : List Todo). has_all todo ≡ false) refl (λ todo f. ap has_all (without_same todo f) ∙ f) e K ys before after same by)
 
-    -- less is left in any case
+    -- less is left in any case: all further replacements and less of the text, or none of them
     pub acts_less : (K : List MarkedBuffer) (ys : List Session) (before after : StoreTold) → AreWithinLimit K → sizes_in ys ≡ sizes_in xs
         → IsDoneBy K ys before after
         → ((s t : Search) → is_replacement byte_act ≡ true → search_held at (slice_set xs at y) ≡ Some s → search_held at ys ≡ Some t → 0 < length (aim_old s.aim) → remaining_at at K ys < remaining_at at ks (slice_set xs at y))
@@ -553,28 +442,38 @@ module _ (d : Directory) (ks : List MarkedBuffer) (xs : List Session) (next : Op
         fewer : has_all h.state.player.todo ≡ true → has_all (state_at at ys).todo ≡ true → remaining_at at K ys < remaining_at at ks xs
         fewer e all =
             let stays = s.left.same e in
-            let now = search_is y.state.search (replacing_ready byte_act y.state.search (state_of y.state) stays.0 s.ready) in
-            let then = search_is (search_held at ys) (replacing_held (slice_get ys at) (acted_fit K ys before after same by all).0) in
-            let some = subst (λ (o : Option Search). 0 < length (old_in o y.state.prompt)) now.1 (s.fit (ap has_all stays.1 ∙ e)).1 in
-            let less = further now.0 then.0 stays.0 (search_put xs at y within ∙ now.1) then.1 some in
+            let now = replace_aim y.state.search (replacing_ready byte_act y.state.search (state_of y.state) stays.0 s.ready) in
+            let then = replace_aim (search_held at ys) (replacing_held (slice_get ys at) (acted_fit K ys before after same by all).0) in
+            let some = subst (λ (o : Option Search). 0 < length (old_in o y.state.prompt)) now.2 (s.fit (ap has_all stays.1 ∙ e)).1 in
+            let less = further now.0 then.0 stays.0 (search_put xs at y within ∙ now.2) then.2 some in
             let stay = left_stays ks y.state.search h.state.search (is_search_mode (state_of y.state).mode) (s.stays (buffers_of ks)) in
             omega (arith, less, stay, ap (remaining_in ks) (search_put xs at y within), ap (λ (o : Option Session). remaining_in ks (search_or_none o)) (session_there xs at h within is_h))
 
         either : (all : Bool) → has_all h.state.player.todo ≡ all → IsLess (remaining_at at ks xs) (remaining_at at K ys) (state_at at xs).todo (state_at at ys).todo
-        either true e = replaced_less (remaining_at at ks xs) (remaining_at at K ys) K ys before after same by e (fewer e)
-        either false e = acted_less (remaining_at at ks xs) (remaining_at at K ys) K ys before after (left_within at K ys limits) same by e
+        either true e =
+            let m = remaining_at at ks xs in
+            let n = remaining_at at K ys in
+            let todo : List Todo = h.state.player.todo in
+            let stays = s.left.same e in
+            let left = byte_act_leaves (AllLeft m todo) (all_none m todo e) (all_without m todo e stays.2) (subst (AllLeft m todo) (sym stays.1) (all_same m todo e (ap is_played (sym stays.1) ∙ s.left.played))) K ys before after same by in
+            subst (λ (ts : List Todo). IsLess m n ts (state_at at ys).todo) (sym todo_there) (all_less m n todo (state_at at ys).todo e left (fewer e))
+        either false e =
+            let m = remaining_at at ks xs in
+            let n = remaining_at at K ys in
+            let left = byte_act_leaves (IsWithin (weight 1048576 y.state.player.todo)) (omega arith, refl) (without_within (weight 1048576 y.state.player.todo)) (omega arith, s.left.played) K ys before after same by in
+            let most = more_weight n 1048576 (state_at at ys).todo (left_within at K ys limits) in
+            subst (λ (todo : List Todo). IsLess m n todo (state_at at ys).todo) (sym todo_there) (omega (arith, left.0, most, s.left.less e, none_weight m 1048576 h.state.player.todo e), left.1)
 
     pub acted_turn : (K : List MarkedBuffer) (ys : List Session) (before after : StoreTold) → sizes_in ys ≡ sizes_in xs → IsDoneBy K ys before after → TurnDone (is_played (state_at at xs).todo) (state_at at ys).todo old (world_of d K ys next) before after id
     acted_turn K ys before after same by =
-        let did = done_from (world_of d K ys next) before after by in
         record {
           state = state;
           act = Some act_done;
           turn = byte_act_turn;
           done = (
-            λ plays. ap (λ (p : Bool). is_quiet p act_done) (byte_act_playing b byte_act (state_of y.state)) ∙ s.playing (sym (ap is_played todo_there) ∙ plays),
-            λ typed. byte_act_leaves (λ (todo : List Todo). todo ≡ []) refl (λ todo e. ap without_all e) (s.typed (sym (ap is_played todo_there) ∙ typed)) K ys before after same did,
-            did,
+            λ plays. ap (λ (p : Bool). is_quiet p act_done) (byte_act_same b byte_act (state_of y.state)).1 ∙ s.playing (sym (ap is_played todo_there) ∙ plays),
+            λ typed. byte_act_leaves (λ (todo : List Todo). todo ≡ []) refl (λ todo e. ap without_all e) (s.typed (sym (ap is_played todo_there) ∙ typed)) K ys before after same by,
+            done_from (world_of d K ys next) before after by,
           );
         }
 
@@ -591,7 +490,6 @@ module _ (d : Directory) (ks : List MarkedBuffer) (xs : List Session) (next : Op
         → TurnRefused old (world_of d K ys next) before after id
     refused_turn K ys before after was of_was did stays =
         let r = subst (λ (e : Before). IsRefusedIn d at e byte_act ks K (slice_set xs at y) ys) of_was did in
-        let still : at ≡ position_or_len (session_id id) (slice_set xs at y) = place_same id at xs (slice_set xs at y) place (sizes_set xs at h y is_h (ap size_in s.state)) in
         record {
           state = state;
           act = act_done;
@@ -604,6 +502,6 @@ module _ (d : Directory) (ks : List MarkedBuffer) (xs : List Session) (next : Op
               ap (λ (o : model.State). may_be_refused (outcome_in (with_state id (λ was. o) old) id act_done true)) (unstarted b byte_act (state_of y.state) r.wants)
               ∙ sym (ap (λ (v : World). may_be_refused (outcome_in v id act_done true)) (changed s.state s.stays))
               ∙ sym (ap (λ (o : model.State). may_be_refused (outcome_in begun id (model_act o b byte_act) true)) put)
-              ∙ r.may id next still;
+              ∙ r.may id next (place_same id at xs (slice_set xs at y) place (sizes_set xs at h y is_h (ap size_in s.state)));
           left = stays;
         }

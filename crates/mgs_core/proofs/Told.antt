@@ -9,7 +9,6 @@ use Rattle.mgs_model.specs.Events.{act_effects, saved_by, with_state}
 use Rattle.mgs_model.specs.declared.errors.Keyed.{Keyed}
 use Rattle.mgs_model.specs.declared.search.Direction.{Direction}
 use Rattle.mgs_model.specs.declared.session.Command.TheVariants.{Seek}
-use Rattle.mgs_model.specs.declared.session.Seeking.{Seeking}
 use Rattle.mgs_model.specs.declared.session.Seeking.TheVariants.{StartSearch}
 use Rattle.mgs_model.specs.declared.touched.Touched.{Touched}
 use Rattle.mgs_model.specs.declared.touched.Touched.TheVariants.{Nowhere}
@@ -17,14 +16,14 @@ use Rattle.mgs_laws.proofs.Saves.{is_save, act_saves_none}
 use Rattle.mgs_store.specs.Stores.{StoreTold}
 use Rattle.mgs_store.proofs.Told.{told_none}
 use Rattle.mgs_plan.specs.declared.key_act.KeyAct.{KeyAct}
-use Rattle.mgs_plan.specs.declared.key_act.KeyAct.TheVariants.{Unbound, Run}
+use Rattle.mgs_plan.specs.declared.key_act.KeyAct.TheVariants.{Run}
 use Rattle.mgs_plan.specs.Actions.{act_of}
 use Rattle.mgs_seek.specs.Beginning.{searching_state}
 use Rattle.mgs_plan.specs.Tells.{touched_in}
 use Rattle.mgs_plan.proofs.Quiet.{quiet_seeking}
 use Rattle.mgs_core.specs.Kept.{Kept}
 use Rattle.mgs_act.specs.Doing.{DoneBy}
-use Rattle.mgs_core.specs.KeyActs.{started_by, started_in, started_world}
+use Rattle.mgs_core.specs.KeyActs.{started_by, started_world}
 use Rattle.mgs_core.specs.Calls.{KeyedBy}
 
 -- an act that is no save leaves the store
@@ -35,20 +34,13 @@ quietly touched old new t id c other world tells = record {
 }
 
 -- a search that starts, whatever the argument of its act
-started_seeking : (old new : World) (t : StoreTold) (id : ℕ) (c : Seeking) (n : Option ℕ) (d : Direction) → started_in c ≡ Some d
-    → ((m : Option ℕ) → new ≡ act (with_state id (searching_state d) old) id (outcomes.Run (Seek (StartSearch d)) m []) true) → DoneBy Nowhere (started_world (started_in c) id old) new t t id (outcomes.Run (Seek c) n [])
-started_seeking old new t id (StartSearch e) n d is world =
-    let same : e ≡ d = cc in
-    let v : World = with_state id (searching_state d) old in
-    subst (λ (k : Direction). DoneBy Nowhere (with_state id (searching_state k) old) new t t id (outcomes.Run (Seek (StartSearch k)) n [])) (sym same)
-    (quietly Nowhere v new t id (outcomes.Run (Seek (StartSearch d)) n []) refl (world n) (sym (quiet_seeking v id n [] true (StartSearch d))))
-started_seeking old new t id _ n d is world = cc
-
 pub started_quietly : (old new : World) (t : StoreTold) (id : ℕ) (a : KeyAct) (d : Direction) → started_by a ≡ Some d
     → ((m : Option ℕ) → new ≡ act (with_state id (searching_state d) old) id (outcomes.Run (Seek (StartSearch d)) m []) true) → DoneBy Nowhere (started_world (started_by a) id old) new t t id (act_of a)
-started_quietly old new t id Unbound d is world = cc
-started_quietly old new t id (Run (Seek c) n) d is world = started_seeking old new t id c n d is world
-started_quietly old new t id (Run _ n) d is world = cc
+started_quietly old new t id (Run (Seek (StartSearch e)) n) d is world =
+    let same : e ≡ d = cc in
+    let v : World = with_state id (searching_state d) old in
+    rw same (quietly Nowhere v new t id (outcomes.Run (Seek (StartSearch d)) n []) refl (world n) (sym (quiet_seeking v id n [] true (StartSearch d))))
+started_quietly old new t id _ d is world = cc
 
 -- what is seen of a server
 pub keyed_seen : (k l : Kept) (v : World) (t : StoreTold) (id byte : ℕ) (result : Keyed) → k ≡ l → KeyedBy k.world v k.store t id byte result → KeyedBy l.world v l.store t id byte result

@@ -1,5 +1,5 @@
 -- What a turn makes of a session by itself: the next of what it has to do.
-use Rattle.std.proofs.Common.{◌≡◌, ℕ, ◌+◌, ◌<◌, length, Bool, true, false, cond, List, [], ◌∷◌, Option, Some, None, refl, sym, ap, subst, ◌∙◌, arith}
+use Rattle.std.proofs.Common.{◌≡◌, ℕ, ◌+◌, ◌<◌, Bool, true, false, List, [], ◌∷◌, Option, Some, None, refl, sym, ap, ◌∙◌, arith}
 use Rattle.std.specs.Prelude.{not}
 use Rattle.mgs_model.specs.Access.{Directory}
 use Rattle.mgs_model.specs.World.{Todo, Typed, Played, Replace_all, Play}
@@ -11,8 +11,6 @@ use Rattle.mgs_model.specs.Events.{refused_state}
 use Rattle.mgs_model.specs.declared.session.Replacement.TheVariants.{ReplaceMatch}
 use Rattle.mgs_model.specs.declared.session.Command.TheVariants as commands
 use Rattle.mgs_model.specs.declared.session.Mode.TheVariants.{Replacing}
-use Rattle.mgs_model.specs.Apply.{is_search_mode}
-use Rattle.mgs_model.specs.declared.search.Direction.{Direction}
 use Rattle.mgs_model.specs.Plans.{failed_state}
 use Rattle.mgs_model.specs.Turns.{Turn, Keep, Do, byte_turn, first_played, todo_turn}
 use Rattle.mgs_model.specs.declared.message.Message.TheVariants.{Silent}
@@ -20,14 +18,13 @@ use Rattle.mgs_model.specs.declared.session.Kind.{Kind}
 use Rattle.mgs_model.specs.declared.session.Kind.TheVariants.{Other}
 use Rattle.mgs_buffers.specs.MarkedBuffer.{MarkedBuffer}
 use Rattle.mgs_mini.specs.Typing.{PromptInput}
-use Rattle.mgs_session.specs.declared.search.Aim.{Aim}
 use Rattle.mgs_session.specs.declared.search.Aim.TheVariants.{Find, Replace}
 use Rattle.mgs_session.specs.declared.Session.{Session}
 use Rattle.mgs_session.specs.declared.search.Search.{Search}
 use Rattle.mgs_session.specs.declared.playing.Pending.TheVariants as tasks
 use Rattle.mgs_session.specs.Playing.{IsNext, Playing, are_played}
 use Rattle.mgs_session.specs.Sessions.{acted, playing_as}
-use Rattle.mgs_world.specs.Worlds.{aim_mode, mode_in, state_of, search_of}
+use Rattle.mgs_world.specs.Worlds.{aim_mode, mode_in, state_of}
 use Rattle.mgs_core.specs.declared.byte_acts.ByteAct.{ByteAct}
 use Rattle.mgs_core.specs.declared.byte_acts.ByteAct.TheVariants as byte_acts
 use Rattle.mgs_core.specs.declared.byte_acts.ModeBefore.{ModeBefore}
@@ -35,8 +32,8 @@ use Rattle.mgs_core.specs.declared.byte_acts.ModeBefore.TheVariants as befores
 use Rattle.mgs_core.specs.declared.keying.ByteStep.{ByteStep}
 use Rattle.mgs_core.specs.declared.keying.ByteStep.TheVariants.{Kept, Failed, Ends, Acts}
 use Rattle.mgs_core.specs.Prompted.{state_turn}
-use Rattle.mgs_core.specs.ByteActs.{IsReady, before_turn, model_act, deciding_state, finds, is_replacing, refused, search_before}
-use Rattle.mgs_core.specs.ByteSteps.{IsByteStep, IsFirstStep, IsFurther, IsLeft, IsStep, IsTurnStep, SearchStays, SeesNames, TurnLeft, replaces}
+use Rattle.mgs_core.specs.ByteActs.{IsReady, before_turn, model_act, deciding_state, finds, is_replacing, refused}
+use Rattle.mgs_core.specs.ByteSteps.{IsByteStep, IsFirstStep, IsLeft, IsStep, IsTurnStep, SeesNames, TurnLeft, replaces}
 use Rattle.mgs_core.specs.KeyActs.{started_by, started_state}
 use Rattle.mgs_core.proofs.Begun.{search_still}
 use Rattle.mgs_core.specs.Turns.{IsFit, IsWithin, has_all, is_played, is_quiet, weight}
@@ -46,19 +43,13 @@ use Rattle.mgs_world.proofs.Marks.{not_both}
 pub played_of : (todo : List Todo) → are_played todo ≡ true → is_played todo ≡ true
 played_of [] h = refl
 played_of (Played byte ∷ todo) h = played_of todo h
-played_of (Typed byte ∷ todo) h = cc
-played_of (Replace_all ∷ todo) h = cc
-played_of (Play ∷ todo) h = cc
+played_of _ h = cc
 
 -- a session in this mode replaces
 pub mode_replacing : (s : Option Search) (p : Option PromptInput) → mode_in s p ≡ Replacing → is_replacing s ≡ true
 mode_replacing None None e = cc
 mode_replacing None (Some p) e = cc
-mode_replacing (Some s) p e = by s.aim e
-  where
-    by : (a : Aim) → aim_mode a ≡ Replacing → not (finds a) ≡ true
-    by (Find f) h = cc
-    by (Replace r) h = refl
+mode_replacing (Some s) p e = (elim s.aim as (λ a. aim_mode a ≡ Replacing → not (finds a) ≡ true) [ Find f ↦ λ h. cc | Replace r ↦ λ h. refl ]) e
 
 -- THE KIND OF THE LAST COMMAND is no part of what an act is
 ready_other : (byte_act : ByteAct) (s : Option Search) (o : model.State) → IsReady byte_act s o → IsReady byte_act s (record o { kind = Other })
@@ -67,15 +58,8 @@ ready_other (byte_acts.Answer n) s o h = ap (λ (p : model.State). record p { ki
 ready_other byte_acts.StartReplacing s o h = ap (λ (p : model.State). record p { kind = Other }) h
 ready_other _ s o h = h
 
-act_other : (b : ModeBefore) (byte_act : ByteAct) (o : model.State) → model_act o b byte_act ≡ model_act (record o { kind = Other }) b byte_act
-act_other b _ o = refl
-
-started_other : (d : Option Direction) (o : model.State) → record (started_state d o) { kind = Other } ≡ started_state d (record o { kind = Other })
-started_other None o = refl
-started_other (Some d) o = refl
-
 byte_act_other : (b : ModeBefore) (byte_act : ByteAct) (o : model.State) → record (deciding_state b byte_act o) { kind = Other } ≡ deciding_state b byte_act (record o { kind = Other })
-byte_act_other b (byte_acts.Act a) o = started_other (started_by a) o
+byte_act_other b (byte_acts.Act a) o = elim (started_by a) as (λ d. record (started_state d o) { kind = Other } ≡ started_state d (record o { kind = Other })) [ None ↦ refl | Some d ↦ refl ]
 byte_act_other b _ o = refl
 
 -- THE FIRST BYTE of a play
@@ -87,52 +71,37 @@ module _ (d : Directory) (ks : List MarkedBuffer) (state : model.State) (x y new
   pub first_kept : (p : Playing) → IsByteStep d ks x y byte b Kept → p ≡ record y.state.player { todo = Play ∷ y.state.player.todo } → new ≡ playing_as p y → IsFirstStep d ks state x new byte b Kept
   first_kept p s begins is =
       let within = at_most y.state.player.todo s.left in
-      record {
-        state =
-            is
-            ∙ ap (playing_as p) s.state
-            ∙ sym (ap (λ (z : Session). record x { state = z.state }) is);
-        stays = subst (λ (z : Session). SearchStays x.state z.state) (sym is) s.stays;
-        turn = λ v sees.
-            ap (first_played state) (s.turn v sees)
-            ∙ sym (ap (λ (q : Playing). Keep (state_of (record y.state { player = q }))) begins)
-            ∙ sym (ap (λ (z : Session). Keep (state_of z.state)) is);
-        left = subst (IsWithin (1048578 + weight 1048576 x.state.player.todo)) (sym (ap (λ (z : Session). z.state.player.todo) is ∙ ap (λ (q : Playing). q.todo) begins)) (omega (arith, within.0), within.1);
-        fit = λ h. subst (λ (z : Session). ((state_of z.state).mode ≡ Replacing) × (0 < length (state_of z.state).old)) (sym is)
-            (s.fit (sym (ap (λ (z : Session). has_all z.state.player.todo) is ∙ ap (λ (q : Playing). has_all q.todo) begins) ∙ h));
-      }
+      rw (is, begins) (record {
+        state = ap (playing_as (record y.state.player { todo = Play ∷ y.state.player.todo })) s.state;
+        stays = s.stays;
+        turn = λ v sees. ap (first_played state) (s.turn v sees);
+        left = (omega (arith, within.0), within.1);
+        fit = s.fit;
+      })
 
   pub first_acts : (byte_act : ByteAct) → IsByteStep d ks x y byte b (Acts byte_act) → new ≡ acted Other y → IsFirstStep d ks state x new byte b (Acts byte_act)
   first_acts byte_act s is =
       let within = at_most y.state.player.todo s.left in
-      record {
-        state =
-            is
-            ∙ ap (acted Other) s.state
-            ∙ sym (ap (λ (z : Session). record x { state = z.state }) is);
-        stays = subst (λ (z : Session). SearchStays x.state z.state) (sym is) s.stays;
-        ready = subst (λ (z : Session). IsReady byte_act z.state.search (state_of z.state)) (sym is) (ready_other byte_act y.state.search (state_of y.state) s.ready);
+      rw is (record {
+        state = ap (acted Other) s.state;
+        stays = s.stays;
+        ready = ready_other byte_act y.state.search (state_of y.state) s.ready;
         here = s.here;
-        turn = λ v sees.
-            ap (first_played state) (s.turn v sees)
-            ∙ ap (λ (o : model.State). Do o (model_act (state_of y.state) b byte_act)) (byte_act_other b byte_act (state_of y.state))
-            ∙ ap (λ (a : Act). Do (deciding_state b byte_act (record (state_of y.state) { kind = Other })) a) (act_other b byte_act (state_of y.state))
-            ∙ sym (ap (λ (z : Session). Do (deciding_state b byte_act (state_of z.state)) (model_act (state_of z.state) b byte_act)) is);
-        playing = λ e.
-            ap (λ (z : Session). is_quiet z.state.player.playing (model_act (state_of z.state) b byte_act)) is
-            ∙ sym (ap (is_quiet y.state.player.playing) (act_other b byte_act (state_of y.state)))
-            ∙ s.playing plays;
+        turn = λ v sees. ap (first_played state) (s.turn v sees) ∙ ap (λ (o : model.State). Do o (model_act (state_of y.state) b byte_act)) (byte_act_other b byte_act (state_of y.state));
+        playing = λ e. s.playing plays;
         typed = λ e. cc;
-        left = subst (IsWithin (1048578 + weight 1048576 x.state.player.todo)) (sym (ap (λ (z : Session). z.state.player.todo) is)) (omega (arith, within.0), within.1);
-        again = λ wants. ap (λ (z : Session). state_of (refused (before_turn b x.state) z).state) is ∙ s.again wants;
-        search = λ wants. ap (λ (z : Session). search_before b z.state.search) is ∙ s.search wants;
-        fit = subst (λ (z : Session). IsFit (state_of z.state)) (sym is) s.fit;
+        left = (omega (arith, within.0), within.1);
+        again = s.again;
+        search = s.search;
+        fit = s.fit;
         begins = s.begins;
-        further = subst (λ (z : Session). IsFurther byte_act z.state.player.todo) (sym is) s.further;
-      }
+        further = s.further;
+      })
 
-  first_failed : IsByteStep d ks x new byte b Failed → IsFirstStep d ks state x new byte b Failed
-  first_failed s = record {
+  -- what is neither kept nor an act
+  pub first_other : (step : ByteStep) → (step ≡ Kept → ⊥) → ((byte_act : ByteAct) → step ≡ Acts byte_act → ⊥) → IsByteStep d ks x new byte b step → IsFirstStep d ks state x new byte b step
+  first_other Kept none acts s = absurd (none refl)
+  first_other Failed none acts s = record {
     state = s.state;
     stays = s.stays;
     before = record s.before { kind = Other };
@@ -145,11 +114,6 @@ module _ (d : Directory) (ks : List MarkedBuffer) (state : model.State) (x y new
     quiet = s.quiet;
     told = s.told ∙ ap (λ (k : Kind). record (failed_state s.message s.before) { kind = k }) (s.breaks s.before.kind ∙ sym (s.breaks Other));
   }
-
-  -- what is neither kept nor an act
-  pub first_other : (step : ByteStep) → (step ≡ Kept → ⊥) → ((byte_act : ByteAct) → step ≡ Acts byte_act → ⊥) → IsByteStep d ks x new byte b step → IsFirstStep d ks state x new byte b step
-  first_other Kept none acts s = absurd (none refl)
-  first_other Failed none acts s = first_failed s
   first_other Ends none acts s = not_both x.state.player.playing plays s.typed
   first_other (Acts byte_act) none acts s = absurd (acts byte_act refl)
 
@@ -194,8 +158,7 @@ module _ (d : Directory) (ks : List MarkedBuffer) (x y new : Session) (taken : y
       (λ v. ap (todo_turn v (state_of x.state)) next.todo ∙ byte_comes byte false v next.playing)
       (ap is_played next.todo ∙ sym next.playing)
       (λ todo left. let within = left.typed next.playing in let is = ap (weight 1048576) next.todo in below (replaces step) x.state.player.todo todo (ap has_all next.todo ∙ ap has_all next.taken) within.1 (omega (arith, within.0, is)))
-      step
-      (subst (λ (z : Session). IsByteStep d ks z new byte b step) taken s)
+      step (rw taken at s)
 
   pub played_turn : (byte : ℕ) (b : ModeBefore) (step : ByteStep) → IsNext (tasks.Played byte) x.state.player y.state.player → IsByteStep d ks y new byte b step → IsTurnStep d ks x new b step
   played_turn byte b step next s =
@@ -204,61 +167,48 @@ module _ (d : Directory) (ks : List MarkedBuffer) (x y new : Session) (taken : y
       (λ v. ap (todo_turn v (state_of x.state)) next.todo ∙ byte_comes byte true v next.playing)
       (ap is_played next.todo ∙ all ∙ sym next.playing)
       (λ todo left. let within = left.played next.playing (weight 1048576 y.state.player.todo) (omega arith, all) in let is = ap (weight 1048576) next.todo in below (replaces step) x.state.player.todo todo (ap has_all next.todo ∙ none_all y.state.player.todo next.taken) within.1 (omega (arith, within.0, is)))
-      step
-      (subst (λ (z : Session). IsByteStep d ks z new byte b step) taken s)
+      step (rw taken at s)
 
   pub first_turn : (byte : ℕ) (b : ModeBefore) (step : ByteStep) → IsNext (tasks.First byte) x.state.player y.state.player → IsFirstStep d ks (state_of x.state) y new byte b step → IsTurnStep d ks x new b step
   first_turn byte b step next s =
-      let all : is_played y.state.player.todo ≡ true = played_of y.state.player.todo next.taken in
       step_from (SeesNames d ks x.user) (λ v. first_played (state_of x.state) (comes_of byte v)) mine true (is_played x.state.player.todo) (IsWithin (1048578 + weight 1048576 y.state.player.todo)) (TurnLeft (replaces step) x.state.player.todo) y.state.player x new b
       (λ v. ap (todo_turn v (state_of x.state)) next.todo ∙ ap (first_played (state_of x.state)) (byte_comes byte true v next.playing))
-      (ap is_played next.todo ∙ all)
+      (ap is_played next.todo ∙ played_of y.state.player.todo next.taken)
       (λ todo within. let is = ap (weight 1048576) next.todo in below (replaces step) x.state.player.todo todo (ap has_all next.todo ∙ none_all y.state.player.todo next.taken) within.1 (omega (arith, within.0, is)))
-      step
-      (subst (λ (z : Session). IsFirstStep d ks (state_of x.state) z new byte b step) taken s)
+      step (rw taken at s)
 
   pub end_turn : IsNext tasks.End x.state.player y.state.player → new ≡ acted Other y → IsTurnStep d ks x new befores.Plain Kept
   end_turn next is =
-      let done : new ≡ acted Other (playing_as y.state.player x) = is ∙ ap (acted Other) taken in
       let all : x.state.player.todo ≡ Play ∷ [] = next.todo ∙ ap (λ (todo : List Todo). Play ∷ todo) next.taken in
-      let none : new.state.player.todo ≡ [] = ap (λ (z : Session). z.state.player.todo) done ∙ next.taken in
-      record {
-        state = done ∙ sym (ap (λ (z : Session). record x { state = z.state }) done);
-        stays = λ bs. ap (λ (z : Session). search_of bs z.state.search) done ∙ search_still bs x.state.search x.state.prompt ∙ sym (ap (λ (z : Session). cond (is_search_mode (state_of z.state).mode) (search_of bs x.state.search) None) done);
-        turn = λ v sees.
-            ap (todo_turn v (state_of x.state)) all
-            ∙ (λ i. Keep (record (state_of x.state) { kind = Other; playing = sym next.playing i; todo = sym next.taken i }))
-            ∙ sym (ap (λ (z : Session). Keep (state_of z.state)) done);
-        left = subst (λ (todo : List Todo). TurnLeft false todo new.state.player.todo) (sym all) (subst (TurnLeft false (Play ∷ [])) (sym none) (below false (Play ∷ []) [] refl refl (omega arith)));
-        fit = fit_empty (state_of new.state) none;
-      }
+      rw (is ∙ ap (acted Other) taken) (record {
+        state = refl;
+        stays = λ bs. search_still bs x.state.search x.state.prompt;
+        turn = λ v sees. ap (todo_turn v (state_of x.state)) all ∙ (λ i. Keep (record (state_of x.state) { kind = Other; playing = sym next.playing i; todo = sym next.taken i }));
+        left = rw (all, next.taken) (below false (Play ∷ []) [] refl refl (omega arith));
+        fit = fit_empty (state_of (acted Other (playing_as y.state.player x)).state) next.taken;
+      })
 
   -- a further replacement, whose session is as it was but for the last command's kind
   replacement_turn : (k : Kind) (task : List Todo) (more : List Todo) → x.state.player.todo ≡ task → has_all task ≡ true → is_played task ≡ true → has_all (without_all task) ≡ false → new ≡ acted k x
       → ((v : View) → mine v ≡ Do (record (state_of x.state) { kind = k }) (model_act (state_of x.state) befores.Held (byte_acts.Replace false))) → IsFit (state_of x.state) → is_replacing x.state.search ≡ true → IsTurnStep d ks x new befores.Held (Acts (byte_acts.Replace false))
   replacement_turn k task more todo all played rest is turn fit replaces =
-      let left : new.state.player.todo ≡ x.state.player.todo = ap (λ (z : Session). z.state.player.todo) is in
       let typed : is_played x.state.player.todo ≡ true = ap is_played todo ∙ played in
-      record {
-        state = is ∙ sym (ap (λ (z : Session). record x { state = z.state }) is);
-        stays = λ bs. ap (λ (z : Session). search_of bs z.state.search) is ∙ search_still bs x.state.search x.state.prompt ∙ sym (ap (λ (z : Session). cond (is_search_mode (state_of z.state).mode) (search_of bs x.state.search) None) is);
-        ready = ap (λ (z : Session). is_replacing z.state.search) is ∙ replaces;
+      rw is (record {
+        state = refl;
+        stays = λ bs. search_still bs x.state.search x.state.prompt;
+        ready = replaces;
         here = tt;
-        turn = λ v sees. turn v ∙ sym (ap (λ (z : Session). Do (state_of z.state) (model_act (state_of z.state) befores.Held (byte_acts.Replace false))) is);
-        playing = λ e. or_true new.state.player.playing;
+        turn = λ v sees. turn v;
+        playing = λ e. elim x.state.player.playing as (λ plays. is_quiet plays (Run (commands.Replace ReplaceMatch) None (state_of x.state).input) ≡ true) [ true ↦ refl | false ↦ refl ];
         typed = λ e. not_both (is_played x.state.player.todo) typed e;
-        left = record { played = ap is_played left ∙ typed; less = λ e. not_both (has_all x.state.player.todo) (ap has_all todo ∙ all) e; same = λ e. (refl, left, ap (λ (ts : List Todo). has_all (without_all ts)) todo ∙ rest) };
-        again = λ wants. ap (λ (z : Session). state_of (refused (before_turn befores.Held x.state) z).state) is ∙ held_again x.state.search replaces;
-        search = λ wants. ap (λ (z : Session). z.state.search) is;
-        fit = subst (λ (z : Session). IsFit (state_of z.state)) (sym is) fit;
+        left = record { played = typed; less = λ e. not_both (has_all x.state.player.todo) (ap has_all todo ∙ all) e; same = λ e. (refl, refl, ap (λ (ts : List Todo). has_all (without_all ts)) todo ∙ rest) };
+        again = λ wants. held_again x.state.search replaces;
+        search = λ wants. refl;
+        fit = fit;
         begins = λ h. cc;
-        further = λ e. (refl, ap (λ (ts : List Todo). has_all (without_all ts)) (left ∙ todo) ∙ rest);
-      }
+        further = λ e. (refl, ap (λ (ts : List Todo). has_all (without_all ts)) todo ∙ rest);
+      })
     where
-      or_true : (plays : Bool) → is_quiet plays (Run (commands.Replace ReplaceMatch) None (state_of new.state).input) ≡ true
-      or_true true = refl
-      or_true false = refl
-
       held_again : (g : Option Search) → is_replacing g ≡ true → (let o : Session = record x { state = record x.state { search = g } } in state_of (refused (before_turn befores.Held x.state) o).state ≡ refused_state (state_of o.state))
       held_again None e = cc
       held_again (Some g) e = refl

@@ -1,5 +1,5 @@
 // Of what a session has still to do in an event, one after another is done until nothing is left.
-ghost use Rattle.std.specs.Prelude.{◌≡◌, ℕ, ◌<◌, ◌≤◌, [], Some, IfOk, OnOk, OnErr, length, slice_get, slice_set, false, true};
+ghost use Rattle.std.specs.Prelude.{◌≡◌, ◌<◌, ◌≤◌, [], Some, IfOk, OnOk, OnErr, length, slice_get, slice_set, false, true};
 ghost use Rattle.std.specs.List.{position_or_len};
 ghost use Rattle.mgs_model.specs.World as model;
 ghost use Rattle.mgs_model.specs.declared.errors.Keyed.TheVariants.{Done, Quit};
@@ -241,8 +241,8 @@ fn take_turn<T: Marked + Drop, S: Store>(
     ensures alone { result.2 ≡ true → StateAlone at world.old.buffers world.new.buffers world.old.sessions.items world.new.sessions.items }
     ensures touched { AreApartAt result.1 at world.old world.new }
 {
-    // Tells the prover that each text is within the limit.
-    let _count = world.buffers.len();
+    // Each text is within the limit, before the act and after it.
+    prove!(world.buffers.len() <= usize::MAX);
     let session = &world.sessions[at];
     let is_playing = session.state.player.is_playing();
     let mut was = Before {
@@ -260,7 +260,7 @@ fn take_turn<T: Marked + Drop, S: Store>(
     match step {
         ByteStep::Acts(act) => {
             let done = act_turn(world, judge, at, store, act, &mut was);
-            let _later = world.buffers.len();
+            prove!(world.buffers.len() <= usize::MAX);
             match done {
                 Ok(touched) => (Keyed::Done, touched, false),
                 Err(Short) => (Keyed::Short, Touched::Nowhere, false),

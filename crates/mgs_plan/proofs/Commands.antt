@@ -47,10 +47,6 @@ outcome_known directory ks xs next id at h c place within is = outcome_answered 
 
 -- A SETTING
 
--- what is set of a session at rest
-acted_as : (f : model.State → model.State) → ((state : model.State) → f (record (idle state) { kind = Other }) ≡ f (acted_state (idle state))) → (o : State) → state_of o ≡ idle (state_of o) → f (record (state_of o) { kind = Other }) ≡ f (acted_state (state_of o))
-acted_as f same o fresh = at_rest (λ state. f (record state { kind = Other })) (λ state. f (acted_state state)) same (state_of o) fresh
-
 module _ (directory : Directory) (ks : List MarkedBuffer) (xs : List Session) (next : Option ℕ) (id at : ℕ) (h : Session) (place : at ≡ position_or_len (session_id id) xs) (within : at < length xs) (found : slice_get xs at ≡ Some h) (fresh : state_at at xs ≡ idle (state_at at xs)) where
   rests : state_of h.state ≡ idle (state_of h.state)
   rests = fresh_state xs at h found fresh
@@ -75,7 +71,7 @@ module _ (directory : Directory) (ks : List MarkedBuffer) (xs : List Session) (n
       → world_of directory ks (slice_set xs at y) next ≡ apply (world_of directory ks xs next) id (owns (f (acted_state (state_of h.state))))
   acted_so y f same does still =
       owned_so y (f (acted_state (state_of h.state)))
-      (does ∙ (λ i. record (session_of ks h) { state = acted_as f same h.state rests i; search = still i }))
+      (does ∙ (λ i. record (session_of ks h) { state = at_rest (λ state. f (record state { kind = Other })) (λ state. f (acted_state state)) same (state_of h.state) rests i; search = still i }))
 
   -- a command that is done or fails, by what the session records
   recorded_so : (y : Session) (f : model.State → model.State) (message : Message)
@@ -112,27 +108,13 @@ module _ (directory : Directory) (ks : List MarkedBuffer) (xs : List Session) (n
       ended_so h.state.recorder.recording (recorded_so (macro_ended h) ends NotInMacro (acted_so (macro_ended h) ends (λ state. refl) refl kept) h.state.recorder.recording) h.state.player.playing
   set_so CallMacro n here = cc
 
-  set_known : (s : Setting) (n : Option ℕ) (stored : Bool) → outcome (view (world_of directory ks xs next) (session_of ks h)) (outcomes.Run (Set s) n []) stored ≡ sets (state_of h.state) (setting s (acted_state (state_of h.state)) n)
-  unfolding outcome
-  set_known s n stored = refl
-
   pub set_done : (s : Setting) (n : Option ℕ) (stored : Bool) → is_setting_done s ≡ true → world_of directory ks (slice_set xs at (session_set s n h)) next ≡ apply (world_of directory ks xs next) id (outcome (view (world_of directory ks xs next) (session_of ks h)) (outcomes.Run (Set s) n []) stored)
-  set_done s n stored here = set_so s n here ∙ ap (apply (world_of directory ks xs next) id) (sym (set_known s n stored))
-
--- A QUESTION
-
-module _ (directory : Directory) (ks : List MarkedBuffer) (xs : List Session) (next : Option ℕ) (id at : ℕ) (h : Session) (place : at ≡ position_or_len (session_id id) xs) (within : at < length xs) (found : slice_get xs at ≡ Some h) (fresh : state_at at xs ≡ idle (state_at at xs)) where
-  asked_so : (c : Question) (n : Option ℕ) → world_of directory ks (slice_set xs at (asking c n h)) next ≡ apply (world_of directory ks xs next) id (owns (asks c n (state_of h.state)))
-  asked_so c n =
-      let f = session_arranged (owns (asks c n (state_of h.state))) in
-      same_world directory _ _ _ _ (id_after next) refl
-      (written_first (session_of ks) (has_id id) f xs at h (asking c n h) (place ∙ sym (position_or_len-map (session_of ks) (has_id id) xs)) within (sym (get_or_from_slice_get xs at h h found))
-      (λ i. record (session_of ks h) { state = state_asking c n h (search_at_rest h.state (fresh_state xs at h found fresh)) (fresh_state xs at h found fresh) i; search = no_search_at_rest ks h (fresh_state xs at h found fresh) i })
-      ∙ ap (change_first (has_id id) f) (sym (map-id (map (session_of ks) xs))))
-
-  ask_known : (c : Question) (n : Option ℕ) (stored : Bool) → outcome (view (world_of directory ks xs next) (session_of ks h)) (outcomes.Run (Ask c) n []) stored ≡ owns (asks c n (state_of h.state))
   unfolding outcome
-  ask_known c n stored = refl
+  set_done s n stored here = set_so s n here
+
+  -- A QUESTION
 
   pub asked_done : (c : Question) (n : Option ℕ) (stored : Bool) → world_of directory ks (slice_set xs at (asking c n h)) next ≡ apply (world_of directory ks xs next) id (outcome (view (world_of directory ks xs next) (session_of ks h)) (outcomes.Run (Ask c) n []) stored)
-  asked_done c n stored = asked_so c n ∙ ap (apply (world_of directory ks xs next) id) (sym (ask_known c n stored))
+  unfolding outcome
+  asked_done c n stored =
+      owned_so (asking c n h) (asks c n (state_of h.state)) (λ i. record (session_of ks h) { state = state_asking c n h (search_at_rest h.state rests) rests i; search = no_search_at_rest ks h rests i })

@@ -10,7 +10,7 @@ use Rattle.mgs_model.specs.Outcome.{Outcome, Run}
 use Rattle.mgs_model.specs.Acts.{Target, acts_at, around, copy_needs, deciders_found, edits, fails, here, insertion_right, judged, or_else, outcome, permitted, target}
 use Rattle.mgs_model.specs.Plans.{inserted}
 use Rattle.mgs_model.specs.declared.entry.Decision.{Decision}
-use Rattle.mgs_model.specs.declared.entry.Decision.TheVariants.{Granted, DeniedBy, NotGranted}
+use Rattle.mgs_model.specs.declared.entry.Decision.TheVariants.{Granted}
 use Rattle.mgs_model.specs.declared.message.Message.{Message}
 use Rattle.mgs_model.specs.declared.right.Right.{Right}
 use Rattle.mgs_model.specs.declared.right.Right.TheVariants.{AppendData, ReadData}
@@ -38,13 +38,11 @@ use Rattle.mgs_plan.proofs.Stored.{unstored}
 
 pub granted_both : (d e : Decision) → or_else d e ≡ Granted → (d ≡ Granted) × (e ≡ Granted)
 granted_both Granted e h = (refl, h)
-granted_both (DeniedBy n right) e h = cc
-granted_both (NotGranted right) e h = cc
+granted_both _ e h = cc
 
 pub denied_first : (state : State) (d e : Decision) (message : Message) → ((o : Outcome) → permitted state d o ≡ fails state message) → (o : Outcome) → permitted state (or_else d e) o ≡ fails state message
 denied_first state Granted e message told o = told (permitted state e o)
-denied_first state (DeniedBy n right) e message told o = told o
-denied_first state (NotGranted right) e message told o = told o
+denied_first state _ e message told o = told o
 
 -- WHAT IS TOLD SUFFICES
 

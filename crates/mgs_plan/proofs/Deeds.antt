@@ -12,7 +12,7 @@ use Rattle.mgs_model.specs.Outcome.{Adjust, Effect, No_effect, Edit, Unmodified,
 use Rattle.mgs_model.specs.Plans as plans
 use Rattle.mgs_model.specs.Plans.{acted_state}
 use Rattle.mgs_model.specs.Acts.{edit_of, effects, fails, finished, finished_state, is_too_large}
-use Rattle.mgs_model.specs.Apply.{after_quit, apply, buffers_after, change_at, change_first, kill_after, is_search_mode, session_after, session_arranged, window_adjusted}
+use Rattle.mgs_model.specs.Apply.{after_quit, apply, buffers_after, change_at, change_first, kill_after, is_search_mode, session_arranged, window_adjusted}
 use Rattle.mgs_model.specs.Text.{is_edit}
 use Rattle.mgs_model.specs.declared.message.Message.{Message}
 use Rattle.mgs_model.specs.declared.message.Message.TheVariants.{KillTooLarge, Silent}
@@ -38,7 +38,7 @@ use Rattle.mgs_world.proofs.Soundness.{acting_mark, mark_is_kept, one_if_most, p
 use Rattle.mgs_world.proofs.Worlds.{buffers_edited, buffers_placed, mark_used_once, point_places, point_to, same_world, selected_at, sessions_placed, top_places, top_to, top_used_once}
 use Rattle.mgs_world.proofs.Unmodified.{buffers_unmodified, sessions_unmodified, sound_unmodified}
 use Rattle.mgs_plan.proofs.Followed.{get_followed, once_followed, place_followed, sessions_went, set_followed, within_followed}
-use Rattle.mgs_plan.proofs.Leaving.{mark_edited_by, mark_still}
+use Rattle.mgs_plan.proofs.Leaving.{edit_or_none, mark_edited_by, mark_still}
 
 -- LISTS
 
@@ -48,10 +48,8 @@ at_same f same zero (x ∷ xs) = ap (λ y. y ∷ xs) (same x)
 at_same f same (suc n) (x ∷ xs) = ap (λ ys. x ∷ ys) (at_same f same n xs)
 
 pub set_twice : {A : Type 0} (xs : List A) (at : ℕ) (x y : A) → slice_set (slice_set xs at x) at y ≡ slice_set xs at y
-set_twice [] zero x y = refl
-set_twice [] (suc at) x y = refl
-set_twice (z ∷ zs) zero x y = refl
 set_twice (z ∷ zs) (suc at) x y = ap (λ ys. z ∷ ys) (set_twice zs at x y)
+set_twice _ _ x y = refl
 
 pub at_twice : {A : Type 0} (f g : A → A) (n : ℕ) (xs : List A) → change_at n g (change_at n f xs) ≡ change_at n (λ x. g (f x)) xs
 at_twice f g n [] = refl
@@ -91,48 +89,36 @@ point_by to x = window_adjusted None to Keep_mark Keep_position None x
 abbrev top_by : PointPlan → model.Window → model.Window
 top_by to x = window_adjusted None Keep_position Keep_mark to None x
 
-selected_same : (f : model.Window → model.Window) → ((w : model.Window) → f w ≡ w) → (x : model.Session) → selected_at f x ≡ x
-selected_same f same x = ap (λ ws. record x { windows = ws }) (at_same f same x.selected x.windows)
+unmoved : (f : model.Window → model.Window) → ((w : model.Window) → f w ≡ w) → (id : ℕ) (xs : List model.Session) → xs ≡ change_first (has_id id) (selected_at f) xs
+unmoved f same id xs = sym (first_same (has_id id) (selected_at f) (λ x. ap (λ ws. record x { windows = ws }) (at_same f same x.selected x.windows)) xs)
 
 pub once_used : (ks : List MarkedBuffer) (xs : List Session) (n : List ℕ) (i : ℕ) → IsSound ks xs → uses n i xs ≤ 1
 once_used ks xs n i sound = omega (arith, sound.once n i, one_if_most (is_some (mark_in (marked_at n ks).marks i)))
 
 pub points_gone : (to : PointPlan) (ks : List MarkedBuffer) (xs : List Session) (id : ℕ) (h : Session) (x : WindowMarks) → find (session_id id) xs ≡ Some h → window_marks_of h ≡ Some x → IsMark x.name x.point ks → uses x.name x.point xs ≤ 1 → map (session_of (mark_gone x.name x.point to ks)) xs ≡ change_first (has_id id) (selected_at (point_by to)) (map (session_of ks) xs)
-points_gone Keep_position ks xs id h x found sel mark once = sym (first_same (has_id id) (selected_at (point_by Keep_position)) (selected_same (point_by Keep_position) (λ w. refl)) (map (session_of ks) xs))
+points_gone Keep_position ks xs id h x found sel mark once = unmoved (point_by Keep_position) (λ w. refl) id (map (session_of ks) xs)
 points_gone (At p) ks xs id h x found sel mark once = sessions_placed x.point p (point_to p) ks xs id h x found sel (point_used x) (point_places p ks x mark) once
-points_gone At_origin ks xs id h x found sel mark once = sym (first_same (has_id id) (selected_at (point_by At_origin)) (selected_same (point_by At_origin) origin) (map (session_of ks) xs))
-  where
-    origin : (w : model.Window) → point_by At_origin w ≡ w
-    origin w = refl
+points_gone At_origin ks xs id h x found sel mark once = unmoved (point_by At_origin) (λ w. refl) id (map (session_of ks) xs)
 
 tops_gone : (to : PointPlan) (ks : List MarkedBuffer) (xs : List Session) (id : ℕ) (h : Session) (x : WindowMarks) → find (session_id id) xs ≡ Some h → window_marks_of h ≡ Some x → IsMark x.name x.top ks → uses x.name x.top xs ≤ 1 → map (session_of (mark_gone x.name x.top to ks)) xs ≡ change_first (has_id id) (selected_at (top_by to)) (map (session_of ks) xs)
-tops_gone Keep_position ks xs id h x found sel mark once = sym (first_same (has_id id) (selected_at (top_by Keep_position)) (selected_same (top_by Keep_position) (λ w. refl)) (map (session_of ks) xs))
+tops_gone Keep_position ks xs id h x found sel mark once = unmoved (top_by Keep_position) (λ w. refl) id (map (session_of ks) xs)
 tops_gone (At p) ks xs id h x found sel mark once = sessions_placed x.top p (top_to p) ks xs id h x found sel (top_used_once x) (top_places p ks x mark) once
-tops_gone At_origin ks xs id h x found sel mark once = sym (first_same (has_id id) (selected_at (top_by At_origin)) (selected_same (top_by At_origin) origin) (map (session_of ks) xs))
-  where
-    origin : (w : model.Window) → top_by At_origin w ≡ w
-    origin w = refl
+tops_gone At_origin ks xs id h x found sel mark once = unmoved (top_by At_origin) (λ w. refl) id (map (session_of ks) xs)
 
 -- SOUNDNESS
 
 pub gone_sound : (name : List ℕ) (id : ℕ) (to : PointPlan) (ks : List MarkedBuffer) (xs : List Session) → IsMark name id ks → IsSound ks xs → IsSound (mark_gone name id to ks) xs
-gone_sound name id Keep_position ks xs mark sound = sound
 gone_sound name id (At p) ks xs mark sound = sound_placed name id p ks xs mark sound
-gone_sound name id At_origin ks xs mark sound = sound
+gone_sound name id _ ks xs mark sound = sound
 
 pub edited_sound : (name : List ℕ) (c : plans.Change) (ks : List MarkedBuffer) (xs : List Session) → IsSound ks xs → IsSound (edited_by name c ks) xs
-edited_sound name c ks xs sound = go (is_edit c.a c.b c.put)
-  where
-    go : (f : Bool) → IsSound (cond f (change_first (marked_named name) (marked_edited c.a c.b c.put) ks) ks) xs
-    go true = sound_edited name c.a c.b c.put ks xs sound
-    go false = sound
+edited_sound name c ks xs sound = edit_or_none (λ ls. IsSound ls xs) name c ks (sound_edited name c.a c.b c.put ks xs sound) sound
 
 -- WHAT IS DONE
 
 pub gone_buffers : (name : List ℕ) (id : ℕ) (to : PointPlan) (ks : List MarkedBuffer) → buffers_of (mark_gone name id to ks) ≡ buffers_of ks
-gone_buffers name id Keep_position ks = refl
 gone_buffers name id (At p) ks = buffers_placed name id p ks
-gone_buffers name id At_origin ks = refl
+gone_buffers name id _ ks = refl
 
 pub edited_buffers : (name : List ℕ) (c : plans.Change) (ks : List MarkedBuffer) → buffers_of (edited_by name c ks) ≡ buffers_after (edit_of name c.a c.b c.put) (buffers_of ks)
 edited_buffers name c ks = go (is_edit c.a c.b c.put)
@@ -149,9 +135,6 @@ ends f state x = record x { kill = kill_after f.kill x.kill; state = finished_st
 abbrev pub ended : plans.Finish → Effect → model.State → Outcome
 ended f e state = record { state = finished_state f state; kill = f.kill; arrange = Adjust f.point f.mark f.top None Keep_search; effect = e }
 
-windows_end : (point top : PointPlan) (x : model.Session) → change_at x.selected (top_by top) (change_at x.selected (point_by point) x.windows) ≡ change_at x.selected (window_adjusted None point Keep_mark top None) x.windows
-windows_end point top x = at_twice (point_by point) (top_by top) x.selected x.windows
-
 -- a finish but for the mark
 abbrev pub unmarked : plans.Finish → plans.Finish
 unmarked f = record f { mark = Keep_mark }
@@ -162,15 +145,8 @@ one_ends : (behind : ℕ) (text kill : List ℕ) (f : Finish) (e : Effect) (ks :
 one_ends behind text kill f e ks h fresh =
     let left = finish_read text kill behind f in
     let s = session_of ks h in
-    (λ i. record (ends left (state_of h.state) s) { windows = windows_end left.point left.top s i; search = search_kept ks h fresh i })
+    (λ i. record (ends left (state_of h.state) s) { windows = at_twice (point_by left.point) (top_by left.top) s.selected s.windows i; search = search_kept ks h fresh i })
     ∙ ap (λ (o : Option model.Search). let y : model.Session = record (ends left (state_of h.state) s) { windows = change_at s.selected (window_adjusted o left.point Keep_mark left.top None) s.windows; search = cond (is_search_mode (state_of h.state).mode) s.search None } in y) (sym (no_search_at_rest ks h fresh))
-
--- the session's own record
-state_ends : (behind : ℕ) (text kill : List ℕ) (f : Finish) (ks : List MarkedBuffer) (h : Session) → state_of h.state ≡ idle (state_of h.state)
-    → (let left = finish_read text kill behind f in session_of ks (session_finished left h) ≡ ends left (state_of h.state) (session_of ks h))
-state_ends behind text kill f ks h fresh =
-    let left = finish_read text kill behind f in
-    λ i. record (session_of ks (session_finished left h)) { state = at_rest (λ (state : model.State). record state { echo = f.told; kind = f.kind }) (finished_state left) (λ state. refl) (state_of h.state) fresh i }
 
 pub no_quit : (name : List ℕ) (c : plans.Change) (id : ℕ) (xs : List model.Session) → after_quit (edit_of name c.a c.b c.put) id xs ≡ xs
 no_quit name c id xs = go (is_edit c.a c.b c.put)
@@ -194,7 +170,8 @@ finished_there ks xs id at h x c behind text f once place within is sel marks fr
     let points : model.Session → model.Session = selected_at (point_by left.point) in
     let tops : model.Session → model.Session = selected_at (top_by left.top) in
     let zs = map (session_of ks1) xs in
-    written_first (session_of ks3) (has_id id) (ends left state) xs at h (session_finished left h) (place ∙ sym (position_or_len-map (session_of ks3) (has_id id) xs)) within (sym (get_or_from_slice_get xs at h h is)) (state_ends behind text h.kill f ks3 h fresh)
+    written_first (session_of ks3) (has_id id) (ends left state) xs at h (session_finished left h) (place ∙ sym (position_or_len-map (session_of ks3) (has_id id) xs)) within (sym (get_or_from_slice_get xs at h h is))
+    (λ i. record (session_of ks3 (session_finished left h)) { state = at_rest (λ (state : model.State). record state { echo = f.told; kind = f.kind }) (finished_state left) (λ state. refl) state fresh i })
     ∙ ap (change_first (has_id id) (ends left state)) (tops_gone left.top ks2 xs id h x found sel top (once x.name x.top))
     ∙ ap (λ ys. change_first (has_id id) (ends left state) (change_first (has_id id) tops ys)) (points_gone left.point ks1 xs id h x found sel point (once x.name x.point))
     ∙ ap (change_first (has_id id) (ends left state)) (first_twice (has_id id) points tops (λ z. refl) zs)
@@ -204,16 +181,6 @@ finished_there ks xs id at h x c behind text f once place within is sel marks fr
     (one_ends behind text h.kill f (edit_of x.name c.a c.b c.put) ks1 h fresh)
 
 -- and the searches of all sessions went by it
-finished_sessions : (ks : List MarkedBuffer) (xs : List Session) (id at : ℕ) (h : Session) (x : WindowMarks) (c : plans.Change) (behind : ℕ) (text : List ℕ) (f : Finish) → c.a ≤ c.b → c.b ≤ length (marked_at x.name ks).buffer.text → ((n : List ℕ) (i : ℕ) → uses n i xs ≤ 1) → at ≡ position_or_len (session_id id) xs → at < length xs → slice_get xs at ≡ Some h → window_marks_of h ≡ Some x → AreMarks ks x → state_of h.state ≡ idle (state_of h.state)
-    → (let left = finish_read text h.kill behind f in map (session_of (marks_gone x left (edited_by x.name c ks))) (followed x.name (edit_told (length (marked_at x.name ks).buffer.text) c) (slice_set xs at (session_finished left h))) ≡ change_first (has_id id) (session_arranged (ended (unmarked left) (edit_of x.name c.a c.b c.put) (state_of h.state))) (map (session_after (edit_of x.name c.a c.b c.put)) (map (session_of ks) xs)))
-finished_sessions ks xs id at h x c behind text f order room once place within is sel marks fresh =
-    let left = finish_read text h.kill behind f in
-    let o = edit_told (length (marked_at x.name ks).buffer.text) c in
-    let none = search_at_rest h.state fresh in
-    ap (map (session_of (marks_gone x left (edited_by x.name c ks)))) (set_followed x.name o xs at (session_finished left h) none)
-    ∙ finished_there ks (followed x.name o xs) id at h x c behind text f (once_followed x.name o xs once) (place_followed x.name o xs id at place) (within_followed x.name o xs at within) (get_followed x.name o xs at h none is) sel marks fresh
-    ∙ ap (change_first (has_id id) (session_arranged (ended (unmarked left) (edit_of x.name c.a c.b c.put) (state_of h.state)))) (sessions_went x.name c ks xs order room (mark_is_kept x.name x.point ks marks.point))
-
 finished_so : (directory : Directory) (ks : List MarkedBuffer) (xs : List Session) (next : Option ℕ) (id at : ℕ) (h : Session) (x : WindowMarks) (c : plans.Change) (behind : ℕ) (text : List ℕ) (f : Finish) → c.a ≤ c.b → c.b ≤ length (marked_at x.name ks).buffer.text → IsSound ks xs → at ≡ position_or_len (session_id id) xs → at < length xs → slice_get xs at ≡ Some h → window_marks_of h ≡ Some x → AreMarks ks x → state_of h.state ≡ idle (state_of h.state) → f.mark ≡ None → is_too_large (kill_read text h.kill f.kill) ≡ false
     → (let left = finish_read text h.kill behind f in world_of directory (marks_gone x left (edited_by x.name c ks)) (followed x.name (edit_told (length (marked_at x.name ks).buffer.text) c) (slice_set xs at (session_finished left h))) next ≡ apply (world_of directory ks xs next) id (finished (state_of h.state) left (edit_of x.name c.a c.b c.put)))
 finished_so directory ks xs next id at h x c behind text f order room sound place within is sel marks fresh none small =
@@ -221,9 +188,14 @@ finished_so directory ks xs next id at h x c behind text f order room sound plac
     let state = state_of h.state in
     let ks1 = edited_by x.name c ks in
     let ks2 = mark_gone x.name x.point left.point ks1 in
+    let o = edit_told (length (marked_at x.name ks).buffer.text) c in
+    let quiet = search_at_rest h.state fresh in
     same_world directory _ _ _ _ (id_after next)
     (gone_buffers x.name x.top left.top ks2 ∙ gone_buffers x.name x.point left.point ks1 ∙ edited_buffers x.name c ks)
-    (finished_sessions ks xs id at h x c behind text f order room (λ n i. once_used ks xs n i sound) place within is sel marks fresh ∙ sym (no_quit x.name c id _))
+    (ap (map (session_of (marks_gone x left ks1))) (set_followed x.name o xs at (session_finished left h) quiet)
+    ∙ finished_there ks (followed x.name o xs) id at h x c behind text f (once_followed x.name o xs (λ n i. once_used ks xs n i sound)) (place_followed x.name o xs id at place) (within_followed x.name o xs at within) (get_followed x.name o xs at h quiet is) sel marks fresh
+    ∙ ap (change_first (has_id id) (session_arranged (ended (unmarked left) (edit_of x.name c.a c.b c.put) state))) (sessions_went x.name c ks xs order room (mark_is_kept x.name x.point ks marks.point))
+    ∙ sym (no_quit x.name c id _))
     ∙ ap (λ m. apply (world_of directory ks xs next) id (ended (record left { mark = mark_read m }) (edit_of x.name c.a c.b c.put) state)) (sym none)
     ∙ ap (λ b. apply (world_of directory ks xs next) id (cond b (fails state KillTooLarge) (ended left (edit_of x.name c.a c.b c.put) state))) (sym small)
 
@@ -237,16 +209,13 @@ failed_so directory ks xs next id at h message place within is fresh =
     ∙ ap (change_first (has_id id) f) (sym (map-id (map (session_of ks) xs))))
 
 -- a flag is cleared
-fresh_cleared : (o : State) → state_of o ≡ idle (state_of o) → state_of (record o { echo = Silent; kind = Other }) ≡ acted_state (state_of o)
-fresh_cleared o fresh = at_rest (λ (state : model.State). record state { echo = Silent; kind = Other }) acted_state (λ state. refl) (state_of o) fresh
-
 cleared_so : (directory : Directory) (ks : List MarkedBuffer) (xs : List Session) (next : Option ℕ) (id at : ℕ) (h : Session) (name : List ℕ) → at ≡ position_or_len (session_id id) xs → at < length xs → slice_get xs at ≡ Some h → state_of h.state ≡ idle (state_of h.state) → world_of directory (change_first (marked_named name) marked_unmodified ks) (slice_set xs at (told Silent (acted Other h))) next ≡ apply (world_of directory ks xs next) id (effects (state_of h.state) (Ok (Unmodified name)))
 cleared_so directory ks xs next id at h name place within is fresh =
     let f = session_arranged (effects (state_of h.state) (Ok (Unmodified name))) in
     let ls = change_first (marked_named name) marked_unmodified ks in
     same_world directory _ _ _ _ (id_after next) (buffers_unmodified name ks)
     (written_first (session_of ls) (has_id id) f xs at h (told Silent (acted Other h)) (place ∙ sym (position_or_len-map (session_of ls) (has_id id) xs)) within (sym (get_or_from_slice_get xs at h h is))
-    (λ i. record (session_of ls h) { state = fresh_cleared h.state fresh i; search = search_kept ls h fresh i })
+    (λ i. record (session_of ls h) { state = at_rest (λ (state : model.State). record state { echo = Silent; kind = Other }) acted_state (λ state. refl) (state_of h.state) fresh i; search = search_kept ls h fresh i })
     ∙ ap (change_first (has_id id) f) (sessions_unmodified name ks xs ∙ sym (map-id (map (session_of ks) xs))))
 
 -- ANY ACTION
@@ -268,31 +237,23 @@ done_so directory ks xs next id at x h (Moves f) sound place within is sel marks
 done_so directory ks xs next id at x h Clears sound place within is sel marks fresh can none =
     cleared_so directory ks xs next id at h x.name place within is fresh
 
+left_sound : (ks : List MarkedBuffer) (xs : List Session) (x : WindowMarks) (c : plans.Change) → AreMarks ks x → IsSound ks xs → IsSound (marks_gone x c.finish (edited_by x.name c ks)) xs
+left_sound ks xs x c marks sound =
+    let ks1 = edited_by x.name c ks in
+    let point = mark_edited_by x.name c ks x.point marks.point in
+    let top = mark_still x.name x.point x.top c.finish.point ks1 point (mark_edited_by x.name c ks x.top marks.top) in
+    gone_sound x.name x.top c.finish.top _ xs top (gone_sound x.name x.point c.finish.point ks1 xs point (edited_sound x.name c ks xs sound))
+
 pub kept_sound : (ks : List MarkedBuffer) (xs : List Session) (x : WindowMarks) (text : List ℕ) (items : List Item) (kill : List ℕ) (action : Action) → AreMarks ks x → IsSound ks xs → IsSound (marked_after x text items kill action ks) xs
 kept_sound ks xs x text items kill (Fails message) marks sound = sound
-kept_sound ks xs x text items kill (Edits mask c) marks sound =
-    let change = change_read text kill c in
-    let ks1 = edited_by x.name change ks in
-    let point = mark_edited_by x.name change ks x.point marks.point in
-    let top = mark_still x.name x.point x.top change.finish.point ks1 point (mark_edited_by x.name change ks x.top marks.top) in
-    gone_sound x.name x.top change.finish.top _ xs top (gone_sound x.name x.point change.finish.point ks1 xs point (edited_sound x.name change ks xs sound))
-kept_sound ks xs x text items kill (Undoes u) marks sound =
-    let change = undone_read text kill (removed_by u.serial items) u in
-    let ks1 = edited_by x.name change ks in
-    let point = mark_edited_by x.name change ks x.point marks.point in
-    let top = mark_still x.name x.point x.top change.finish.point ks1 point (mark_edited_by x.name change ks x.top marks.top) in
-    gone_sound x.name x.top change.finish.top _ xs top (gone_sound x.name x.point change.finish.point ks1 xs point (edited_sound x.name change ks xs sound))
-kept_sound ks xs x text items kill (Moves f) marks sound =
-    let left = finish_read text kill 0 f in
-    gone_sound x.name x.top left.top _ xs (mark_still x.name x.point x.top left.point ks marks.point marks.top) (gone_sound x.name x.point left.point ks xs marks.point sound)
+kept_sound ks xs x text items kill (Edits mask c) marks sound = left_sound ks xs x (change_read text kill c) marks sound
+kept_sound ks xs x text items kill (Undoes u) marks sound = left_sound ks xs x (undone_read text kill (removed_by u.serial items) u) marks sound
+kept_sound ks xs x text items kill (Moves f) marks sound = left_sound ks xs x (record { a = 0; b = 0; put = []; finish = finish_read text kill 0 f }) marks sound
 kept_sound ks xs x text items kill Clears marks sound = sound_unmodified x.name ks xs sound
 
 pub uses_after : (text : List ℕ) (action : Action) (h : Session) (n : List ℕ) (i : ℕ) → session_uses n i (session_acted text action h) ≡ session_uses n i h
 uses_after text (Fails message) h n i = refl
-uses_after text (Edits mask c) h n i = refl
-uses_after text (Undoes u) h n i = refl
-uses_after text (Moves f) h n i = refl
-uses_after text Clears h n i = refl
+uses_after text _ h n i = refl
 
 pub set_back : (xs : List Session) (at : ℕ) (h : Session) → slice_get xs at ≡ Some h → slice_set xs at h ≡ xs
 set_back xs at h is = ap (slice_set xs at) (sym (get_or_from_slice_get xs at h h is)) ∙ set-get_or xs at h
@@ -318,7 +279,3 @@ after_ok (Ok o) ks ls xs at x h y action is ok acts sound within sel fresh can n
     ∙ rw (ok, acts) (done_so directory ks xs next id at x h action sound place within is sel_h (acting_marks ks xs at x sound sel) (fresh_state xs at h is fresh) (subst (λ o. CanBeDone ks x (kill_or_none o) action) is can) none
     ∙ ap (λ o. apply (world_of directory ks xs next) id (outcome_through (state_or_first o) x ks (kill_or_none o) action)) (sym is))
 after_ok (Err e) ks ls xs at x h y action is ok acts sound within sel fresh can none = tt
-
-pub after_err : {T E : Type 0} (r : Result T E) (ks ls : List MarkedBuffer) (xs : List Session) (at : ℕ) (h y : Session) → slice_get xs at ≡ Some h → OnErr r (ls ≡ ks) → OnErr r (y ≡ h) → OnErr r ((directory : Directory) (next : Option ℕ) → world_of directory ls (slice_set xs at y) next ≡ world_of directory ks xs next)
-after_err (Ok o) ks ls xs at h y is err same = tt
-after_err (Err e) ks ls xs at h y is err same = λ directory next. rw (err, same) (ap (λ (ys : List Session). world_of directory ks ys next) (set_back xs at h is))

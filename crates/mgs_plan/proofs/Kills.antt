@@ -20,7 +20,7 @@ use Rattle.mgs_buffers.specs.MarkedBuffer.{HasBuffer, MarkedBuffer, marked_named
 use Rattle.mgs_windows.specs.declared.WindowMarks.{WindowMarks}
 use Rattle.mgs_windows.specs.declared.Window.{Window}
 use Rattle.mgs_windows.specs.declared.RowPane.{RowPane}
-use Rattle.mgs_windows.specs.declared.RowPane.TheVariants.{NoRows, Buffers, Entries}
+use Rattle.mgs_windows.specs.declared.RowPane.TheVariants.{NoRows}
 use Rattle.mgs_session.specs.Sessions.{subject_in, subject_of}
 use Rattle.mgs_session.specs.declared.Session.{Session}
 use Rattle.mgs_plan.specs.Deciding.{IsJudged, IsOutcome, view_at}
@@ -41,9 +41,7 @@ name_seen can ks (Some w) = by w.height w.shows w.rows
   where
     by : (height : ℕ) (o : Option WindowMarks) (rows : RowPane) → name_shown (window_shown ks height o rows).shows ≡ name_in (subject_in o rows)
     by height None NoRows = refl
-    by height None (Buffers row) = refl
-    by height None (Entries name row) = refl
-    by height (Some x) rows = refl
+    by height _ _ = refl
 
 meant_seen : (directory : Directory) (ks : List MarkedBuffer) (xs : List Session) (next : Option ℕ) (h : Session) (typed : List ℕ) → acts.name_meant (view (world_of directory ks xs next) (session_of ks h)) typed ≡ name_meant (subject_of h) typed
 meant_seen directory ks xs next h typed =

@@ -6,7 +6,7 @@ use Rattle.std.proofs.lemmas.List.Folds.{list_any_at}
 use Rattle.std.proofs.lemmas.Option.{slice_get-map}
 use Rattle.mgs_model.specs.Access.{Directory, Decider, decider, decision_by, allows, any_right}
 use Rattle.mgs_model.specs.Rights.{all_rights, rights_in}
-use Rattle.mgs_model.specs.World.{Item, Buffer, State, Shows, Nothing, Buffer_of, Listing, List_of}
+use Rattle.mgs_model.specs.World.{Item, Buffer, State, Shows, Listing, List_of}
 use Rattle.mgs_model.specs.World as model
 use Rattle.mgs_model.specs.View.{View, BufferSeen, WindowSeen, find_seen, view, reads, reads_found, buffer_seen, window_seen, positions_if, told_if, full_if, size_told, serial_told, text_in}
 use Rattle.mgs_model.specs.Outcome.{Effect, Outcome, Unmodified}
@@ -17,7 +17,7 @@ use Rattle.mgs_model.specs.Acts.{Target, about, acts_at, around, around_search, 
 use Rattle.mgs_model.specs.declared.right.Right.{Right}
 use Rattle.mgs_model.specs.declared.right.Right.TheVariants.{ReadData, WriteData, AppendData}
 use Rattle.mgs_model.specs.declared.entry.Decision.{Decision}
-use Rattle.mgs_model.specs.declared.entry.Decision.TheVariants.{Granted, DeniedBy, NotGranted}
+use Rattle.mgs_model.specs.declared.entry.Decision.TheVariants.{Granted}
 use Rattle.mgs_model.specs.declared.message.Message.{Message}
 use Rattle.mgs_model.specs.declared.message.Message.TheVariants.{NoBuffer}
 use Rattle.mgs_model.specs.declared.session.Command.{Command}
@@ -29,7 +29,7 @@ use Rattle.mgs_buffers.specs.MarkedBuffer.{MarkedBuffer, HasBuffer, marked_at, m
 use Rattle.mgs_windows.specs.declared.WindowMarks.{WindowMarks}
 use Rattle.mgs_windows.specs.declared.Window.{Window}
 use Rattle.mgs_windows.specs.declared.RowPane.{RowPane}
-use Rattle.mgs_windows.specs.declared.RowPane.TheVariants.{NoRows, Buffers, Entries}
+use Rattle.mgs_windows.specs.declared.RowPane.TheVariants.{NoRows}
 use Rattle.mgs_session.specs.Sessions.{window_marks_of}
 use Rattle.mgs_session.specs.declared.Session.{Session}
 use Rattle.mgs_model.specs.declared.session.Scrolling.{Scrolling}
@@ -44,8 +44,7 @@ use Rattle.mgs_world.proofs.Worlds.{selected_window}
 
 pub permitted_same : (state : State) (d : Decision) (a b : Outcome) → (d ≡ Granted → a ≡ b) → permitted state d a ≡ permitted state d b
 permitted_same state Granted a b h = h refl
-permitted_same state (DeniedBy n right) a b h = refl
-permitted_same state (NotGranted right) a b h = refl
+permitted_same state _ a b h = refl
 
 -- reading is granted where all of these rights are
 pub first_granted : (d : Right → Decider) (rights : List Right) → decision_by d (ReadData ∷ rights) ≡ Granted → allows (d ReadData) ≡ true
@@ -121,33 +120,26 @@ reading_rights state d false o p none = unread state d (WriteData ∷ []) o p no
 text_unread : (state : State) (c : Command) (d : Right → Decider) (text : List ℕ) (items : List Item) (a : Around) → allows (d ReadData) ≡ false → outcome_at state c d [] [] a ≡ outcome_at state c d text items a
 text_unread state (Insert i) d text items a none = refl
 text_unread state (InsertReading i) d text items a none = reading_rights state d (a.place == a.size) _ _ none
-text_unread state (Move m) d text items a none = unread state d [] _ _ none
 text_unread state (Alter k) d text items a none = unread state d (WriteData ∷ []) _ _ none
-text_unread state (Scroll s) d text items a none = unread state d [] _ _ none
 text_unread state UndoEdit d text items a none = unread state d (WriteData ∷ []) _ _ none
 text_unread state NotModified d text items a none = refl
-text_unread state _ d text items a none = refl
+text_unread state _ d text items a none = unread state d [] _ _ none
 
 -- nothing is told: nothing is granted
 nothing_granted : (d : Right → Decider) (rights : List Right) → any_right d ≡ false → decision_by d (ReadData ∷ rights) ≡ Granted → ⊥
 nothing_granted d rights none e = not_both (any_right d) (any_read d (first_granted d rights e)) none
-
-nothing_appended : (d : Right → Decider) → any_right d ≡ false → decision_by d (AppendData ∷ []) ≡ Granted → ⊥
-nothing_appended d none e = not_both (any_right d) (any_append d (granted_each d (AppendData ∷ []) e).0) none
 
 at_its_end : (state : State) (d : Right → Decider) (n : ℕ) (mask : ℕ → ℕ) (o : Outcome) → permitted state (decision_by d (rights_in (mask 4))) o ≡ permitted state (decision_by d (rights_in (mask (cond (n == n) 4 2)))) o
 at_its_end state d n mask o = sym (ap (λ (e : Bool). permitted state (decision_by d (rights_in (mask (cond e 4 2)))) o) (eq-eqb n n refl))
 
 none_told : (state : State) (c : Command) (d : Right → Decider) (b : Buffer) (name : List ℕ) (point : ℕ) (mark : Option ℕ) (top height : ℕ) (n : Option ℕ) (typed kill : List ℕ) → any_right d ≡ false → outcome_at state c d [] [] (surroundings false false b name point mark top height n typed kill state) ≡ outcome_at state c d b.text b.items (all_told b false name point mark height n typed kill state)
 none_told state (Insert i) d b name point mark top height n typed kill none =
-    permitted_same state (decision_by d (AppendData ∷ [])) _ _ (λ e. absurd (nothing_appended d none e))
+    permitted_same state (decision_by d (AppendData ∷ [])) _ _ (λ e. not_both (any_right d) (any_append d (granted_each d (AppendData ∷ []) e).0) none)
     ∙ at_its_end state d (length b.text) (λ m. m) (granted_outcome state (Insert i) b.text b.items (all_told b false name point mark height n typed kill state))
 none_told state (InsertReading i) d b name point mark top height n typed kill none =
     permitted_same state (decision_by d (ReadData ∷ AppendData ∷ [])) _ _ (λ e. absurd (nothing_granted d (AppendData ∷ []) none e))
     ∙ at_its_end state d (length b.text) (λ m. 1 + m) (granted_outcome state (InsertReading i) b.text b.items (all_told b false name point mark height n typed kill state))
-none_told state (Move m) d b name point mark top height n typed kill none = permitted_same state (decision_by d (ReadData ∷ [])) _ _ (λ e. absurd (nothing_granted d [] none e))
 none_told state (Alter k) d b name point mark top height n typed kill none = permitted_same state (decision_by d (ReadData ∷ WriteData ∷ [])) _ _ (λ e. absurd (nothing_granted d (WriteData ∷ []) none e))
-none_told state (Scroll s) d b name point mark top height n typed kill none = permitted_same state (decision_by d (ReadData ∷ [])) _ _ (λ e. absurd (nothing_granted d [] none e))
 none_told state UndoEdit d b name point mark top height n typed kill none = permitted_same state (decision_by d (ReadData ∷ WriteData ∷ [])) _ _ (λ e. absurd (nothing_granted d (WriteData ∷ []) none e))
 none_told state NotModified d b name point mark top height n typed kill none = permitted_same state (decision_by d (ReadData ∷ WriteData ∷ [])) _ _ (λ e. absurd (nothing_granted d (WriteData ∷ []) none e))
 none_told state _ d b name point mark top height n typed kill none = permitted_same state (decision_by d (ReadData ∷ [])) _ _ (λ e. absurd (nothing_granted d [] none e))
@@ -186,8 +178,7 @@ none_shown bs can ks (Some w) e =
   where
     rows_shown_none : (height : ℕ) (rows : RowPane) → target_in bs (window_seen can (window_shown ks height None rows)) (window_shown ks height None rows).shows ≡ None
     rows_shown_none height NoRows = refl
-    rows_shown_none height (Buffers row) = refl
-    rows_shown_none height (Entries name row) = refl
+    rows_shown_none height _ = refl
 
 pub selected_none : (directory : Directory) (ks : List MarkedBuffer) (xs : List Session) (next : Option ℕ) (h : Session) → window_marks_of h ≡ None → target (view (world_of directory ks xs next) (session_of ks h)) ≡ None
 selected_none directory ks xs next h none =
@@ -229,17 +220,15 @@ text_shown bs None t e = refl
 text_shown bs (Some x) t e = go x.shows e
   where
     go : (s : Shows) → target_in bs x s ≡ Some t → is_rows s ≡ false
-    go Nothing h = refl
-    go (Buffer_of name) h = refl
     go Listing h = cc
     go (List_of name) h = cc
+    go _ h = refl
 
 -- THE OUTCOME
 
 pub only_one : (d : Decision) → or_else d Granted ≡ d
 only_one Granted = refl
-only_one (DeniedBy n right) = refl
-only_one (NotGranted right) = refl
+only_one _ = refl
 
 -- one request on the target is judged by its deciders
 pub judged_here : (v : View) (t : Target) (rights : Target → ℕ) → find_seen t.buffer.name v.buffers ≡ Some t.buffer → judged v (here (Some t) rights) ≡ decision_by t.buffer.deciders (rights_in (rights t))
@@ -404,8 +393,7 @@ rows_off state s can ks (Some w) none =
   where
     by : (height : ℕ) (rows : RowPane) → (let seen : Option WindowSeen = Some (window_seen can (window_shown ks height None rows)) in cond (has_rows seen) (scrolls_rows state (row_in s seen)) (fails state NoBuffer)) ≡ outcome_without state (pane_scrolled s height rows)
     by height NoRows = refl
-    by height (Buffers row) = refl
-    by height (Entries name row) = refl
+    by height _ = refl
 
 off_seen : (directory : Directory) (ks : List MarkedBuffer) (xs : List Session) (next : Option ℕ) (h : Session) (s : Option Scrolling) → window_marks_of h ≡ None → off_outcome (view (world_of directory ks xs next) (session_of ks h)) s ≡ outcome_without (state_of h.state) (rows_scrolled s (slice_get h.windows.windows h.windows.selected))
 off_seen directory ks xs next h None none = refl

@@ -16,11 +16,24 @@ use Rattle.mgs_edit.specs.declared.plan.Around.{Around}
 use Rattle.mgs_plan.specs.declared.action.Action.{Action}
 use Rattle.mgs_plan.specs.declared.action.Action.TheVariants.{Fails}
 use Rattle.mgs_plan.specs.declared.given.Given.{Given}
-use Rattle.mgs_plan.specs.Actions.{action_outcome, around_given, around_in, given_state, granted_outcome, mask_at, outcome_through, plan_in}
+use Rattle.mgs_plan.specs.Actions.{CanDo, CanDoIn, IsGrantedIn, action_outcome, around_given, around_in, given_state, granted_outcome, mask_at, outcome_through, plan_in}
 
 -- what holds of a text and a serial holds of the buffer's, which are the same
 pub at_buffer : (holds : List ℕ → ℕ → Type 0) (text kept : List ℕ) (serial last : ℕ) → text ≡ kept → serial ≡ last → holds text serial → holds kept last
 at_buffer holds text kept serial last same_text same_serial h = subst (λ n. holds kept n) same_serial (subst (λ t. holds t serial) same_text h)
+
+-- what is planned in an arm of a command, and that it can be done, over the text and the serial that were read
+pub planned_here : (ks : List MarkedBuffer) (name kill : List ℕ) (around : Around) (c k : Command) (action : Action) (text : List ℕ) (serial : ℕ)
+    → text ≡ (marked_at name ks).buffer.text → serial ≡ (marked_at name ks).buffer.serial → c ≡ k
+    → (let items = (marked_at name ks).buffer.items in (state : model.State) (rest : plans.Around) → action_outcome state name text items kill action ≡ granted_outcome state k text items (surrounded around (length text) (record rest { name = name; kill = kill; serial = serial })))
+    → ((items : List model.Item) → CanDo text items kill serial action) → IsGrantedIn ks name kill around c action × CanDoIn ks name kill action
+planned_here ks name kill around c k action text serial same_text same_serial is value can =
+    let b = (marked_at name ks).buffer in (
+      λ state rest.
+          at_buffer (λ t n. action_outcome state name t b.items kill action ≡ granted_outcome state c t b.items (surrounded around (length t) (record rest { name = name; kill = kill; serial = n }))) text b.text serial b.serial same_text same_serial
+          (value state rest ∙ sym (ap (λ (k : Command). granted_outcome state k text b.items (surrounded around (length text) (record rest { name = name; kill = kill; serial = serial }))) is)),
+      at_buffer (λ t n. CanDo t b.items kill n action) text b.text serial b.serial same_text same_serial (can b.items),
+    )
 
 -- what is decided on the rights that a command needs
 abbrev pub needed : Directory → List MarkedBuffer → List ℕ → WindowMarks → Given → Command → ℕ → Decision

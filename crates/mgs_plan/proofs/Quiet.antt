@@ -11,7 +11,7 @@ use Rattle.mgs_model.specs.Plans.{acted_state, arrangement, setting}
 use Rattle.mgs_model.specs.View.{View, text_in, view_of}
 use Rattle.mgs_model.specs.World.{State, World}
 use Rattle.mgs_model.specs.declared.entry.Decision.{Decision}
-use Rattle.mgs_model.specs.declared.entry.Decision.TheVariants.{Granted, DeniedBy, NotGranted}
+use Rattle.mgs_model.specs.declared.entry.Decision.TheVariants.{Granted}
 use Rattle.mgs_model.specs.declared.message.Message.{Message}
 use Rattle.mgs_model.specs.declared.session.Arrangement.{Arrangement}
 use Rattle.mgs_model.specs.declared.session.Command.TheVariants.{Ask, LeaveSearch, Rearrange, Seek, Set}
@@ -28,8 +28,7 @@ touched_of o = touched_by o.effect
 -- a denial touches nothing
 permitted_quiet : (state : State) (d : Decision) (o : Outcome) → touched_of o ≡ Nowhere → touched_of (permitted state d o) ≡ Nowhere
 permitted_quiet state Granted o h = h
-permitted_quiet state (DeniedBy n right) o h = refl
-permitted_quiet state (NotGranted right) o h = refl
+permitted_quiet state _ o h = refl
 
 seeks_quiet : (state : State) (o : Option Target) (plan : Target → Result SearchFinish Message) → touched_of (seeks state o plan) ≡ Nowhere
 seeks_quiet state None plan = refl

@@ -3,7 +3,7 @@ use Rattle.std.proofs.Common.{◌≡◌, ℕ, Bool, true, false, true≢false, c
 use Rattle.std.specs.Prelude.{find, is_some, IfSome, Result, Ok, Err}
 use Rattle.std.proofs.lemmas.Bool.{eqb-true}
 use Rattle.std.proofs.lemmas.List.Folds.{list_any_at}
-use Rattle.mgs_model.specs.Access.{Decider, Directory, UserGroup, allows, any_right, decision_by, group_answered, is_among, is_group_answer, is_group_named}
+use Rattle.mgs_model.specs.Access.{Decider, Directory, decider, UserGroup, allows, any_right, decision_by, group_answered, is_among, is_group_answer, is_group_named}
 use Rattle.mgs_model.specs.Names.{IsName, same_name}
 use Rattle.mgs_model.specs.Rights.{all_rights, rights_in}
 use Rattle.mgs_model.specs.World.{Buffer, State}
@@ -12,7 +12,6 @@ use Rattle.mgs_model.specs.Outcome.{Effect, SetOwners, Run}
 use Rattle.mgs_model.specs.declared.owners.NewOwner.TheVariants.{ToUser, ToGroup}
 use Rattle.mgs_model.specs.Plans.{entries_changed}
 use Rattle.mgs_model.specs.Acts.{about, effects, entries_told, fails, judged, outcome, permitted, list_set, rules, subject}
-use Rattle.mgs_model.specs.declared.entry.Decision.TheVariants.{Granted}
 use Rattle.mgs_model.specs.declared.message.Message.{Message}
 use Rattle.mgs_model.specs.declared.message.Message.TheVariants.{NoBuffer, NoSuchUser, NoSuchGroup}
 use Rattle.mgs_model.specs.declared.right.Right.{Right}
@@ -104,43 +103,34 @@ group_empty directory state name (c ∷ cs) none = absurd (omega (arith, eqb-tru
 none_ruled : (v : View) (rights : ℕ) (plan : BufferSeen → Result Effect Message) → subject v ≡ None → permitted v.session.state (judged v (about (subject v) rights)) (rules v.session.state (subject v) plan) ≡ fails v.session.state NoBuffer
 none_ruled v rights plan none = about_none v rights (λ o. rules v.session.state o plan) none
 
--- in the buffer that is shown
-one_ruled : (v : View) (b : BufferSeen) (rights : ℕ) (plan : BufferSeen → Result Effect Message) → subject v ≡ Some b → find_seen b.name v.buffers ≡ Some b → permitted v.session.state (judged v (about (subject v) rights)) (rules v.session.state (subject v) plan) ≡ permitted v.session.state (decision_by b.deciders (rights_in rights)) (effects v.session.state (plan b))
-one_ruled v b rights plan is found = about_one v rights (λ o. rules v.session.state o plan) b is found
-
-any_write_acl : (d : Right → Decider) → decision_by d (rights_in 262144) ≡ Granted → any_right d ≡ true
-any_write_acl d e = list_any_at (λ right. allows (d right)) all_rights 6 ReadData (omega arith) (granted_each d (WriteAcl ∷ []) e).0
-
 -- whoever may write the list is told of it
 list_told : (state : State) (d : Right → Decider) (b : Buffer) (c : EntryChange) (n : Option ℕ) (typed : List ℕ) → permitted state (decision_by d (rights_in 262144)) (effects state (list_set b.name (entries_changed c (entries_told (told_if (any_right d) b)) n typed))) ≡ permitted state (decision_by d (rights_in 262144)) (effects state (list_set b.name (entries_changed c b.entries n typed)))
 list_told state d b c n typed =
-    permitted_same state (decision_by d (rights_in 262144)) _ _ (λ e. ap (λ (a : Bool). effects state (list_set b.name (entries_changed c (entries_told (told_if a b)) n typed))) (any_write_acl d e))
+    permitted_same state (decision_by d (rights_in 262144)) _ _ (λ e. ap (λ (a : Bool). effects state (list_set b.name (entries_changed c (entries_told (told_if a b)) n typed))) (list_any_at (λ right. allows (d right)) all_rights 6 ReadData (omega arith) (granted_each d (WriteAcl ∷ []) e).0))
+
+-- in the buffer that is shown, under its name
+shown_by : (directory : Directory) (ks : List MarkedBuffer) (xs : List Session) (next : Option ℕ) (h : Session) (rights : ℕ) (plan : BufferSeen → Result Effect Message) (does : List ℕ → Result Effect Message) (name : List ℕ) → HasBuffer name ks
+    → (let v = view (world_of directory ks xs next) (session_of ks h) in let b = (marked_at name ks).buffer in let seen = buffer_seen directory h.user b in
+    subject v ≡ Some seen → permitted v.session.state (decision_by seen.deciders (rights_in rights)) (effects v.session.state (plan seen)) ≡ permitted v.session.state (decision_by seen.deciders (rights_in rights)) (effects v.session.state (does b.name))
+    → permitted v.session.state (judged v (about (subject v) rights)) (rules v.session.state (subject v) plan) ≡ permitted v.session.state (decision_by seen.deciders (rights_in rights)) (effects v.session.state (does name)))
+shown_by directory ks xs next h rights plan does name kept is same =
+    let v = view (world_of directory ks xs next) (session_of ks h) in
+    let seen = buffer_seen directory h.user (marked_at name ks).buffer in
+    about_one v rights (λ o. rules v.session.state o plan) seen is (ap (λ m. find_seen m (map (buffer_seen directory h.user) (buffers_of ks))) (name_kept name ks kept) ∙ found_seen directory h.user name ks kept)
+    ∙ same
+    ∙ ap (λ (m : List ℕ). permitted v.session.state (decision_by seen.deciders (rights_in rights)) (effects v.session.state (does m))) (name_kept name ks kept)
 
 shown_ruled : (directory : Directory) (ks : List MarkedBuffer) (xs : List Session) (next : Option ℕ) (h : Session) (c : Ruling) (n : Option ℕ) (typed name : List ℕ) → HasBuffer name ks
     → (let v = view (world_of directory ks xs next) (session_of ks h) in subject v ≡ Some (buffer_seen directory h.user (marked_at name ks).buffer) → outcome v (Run (command_of c) n typed) true ≡ ruling_in directory ks (state_of h.state) h.user name c n typed)
 unfolding outcome
 shown_ruled directory ks xs next h Owner n typed name kept is =
-    let v = view (world_of directory ks xs next) (session_of ks h) in
-    let b = (marked_at name ks).buffer in
-    let seen = buffer_seen directory h.user b in
-    one_ruled v seen 524288 (λ (k : BufferSeen). cond (is_among typed v.directory.users) (Ok (SetOwners k.name (ToUser typed))) (Err NoSuchUser)) is
-    (ap (λ m. find_seen m (map (buffer_seen directory h.user) (buffers_of ks))) (name_kept name ks kept) ∙ found_seen directory h.user name ks kept)
-    ∙ ap (λ (m : List ℕ). permitted v.session.state (decision_by seen.deciders (rights_in 524288)) (effects v.session.state (ruling_plan directory m b.entries Owner n typed))) (name_kept name ks kept)
+    shown_by directory ks xs next h 524288 (λ (k : BufferSeen). cond (is_among typed directory.users) (Ok (SetOwners k.name (ToUser typed))) (Err NoSuchUser)) (λ m. ruling_plan directory m (marked_at name ks).buffer.entries Owner n typed) name kept is refl
 shown_ruled directory ks xs next h Group n typed name kept is =
-    let v = view (world_of directory ks xs next) (session_of ks h) in
-    let b = (marked_at name ks).buffer in
-    let seen = buffer_seen directory h.user b in
-    one_ruled v seen 524288 (λ (k : BufferSeen). cond (is_group_answer v.directory.groups typed) (Ok (SetOwners k.name (ToGroup (group_answered typed)))) (Err NoSuchGroup)) is
-    (ap (λ m. find_seen m (map (buffer_seen directory h.user) (buffers_of ks))) (name_kept name ks kept) ∙ found_seen directory h.user name ks kept)
-    ∙ ap (λ (m : List ℕ). permitted v.session.state (decision_by seen.deciders (rights_in 524288)) (effects v.session.state (ruling_plan directory m b.entries Group n typed))) (name_kept name ks kept)
+    shown_by directory ks xs next h 524288 (λ (k : BufferSeen). cond (is_group_answer directory.groups typed) (Ok (SetOwners k.name (ToGroup (group_answered typed)))) (Err NoSuchGroup)) (λ m. ruling_plan directory m (marked_at name ks).buffer.entries Group n typed) name kept is refl
 shown_ruled directory ks xs next h (Entries c) n typed name kept is =
-    let v = view (world_of directory ks xs next) (session_of ks h) in
     let b = (marked_at name ks).buffer in
-    let seen = buffer_seen directory h.user b in
-    one_ruled v seen 262144 (λ (k : BufferSeen). list_set k.name (entries_changed c (entries_told k.told) n typed)) is
-    (ap (λ m. find_seen m (map (buffer_seen directory h.user) (buffers_of ks))) (name_kept name ks kept) ∙ found_seen directory h.user name ks kept)
-    ∙ list_told v.session.state seen.deciders b c n typed
-    ∙ ap (λ (m : List ℕ). permitted v.session.state (decision_by seen.deciders (rights_in 262144)) (effects v.session.state (ruling_plan directory m b.entries (Entries c) n typed))) (name_kept name ks kept)
+    shown_by directory ks xs next h 262144 (λ (k : BufferSeen). list_set k.name (entries_changed c (entries_told k.told) n typed)) (λ m. ruling_plan directory m b.entries (Entries c) n typed) name kept is
+    (list_told (state_of h.state) (decider directory b.owners h.user b.entries) b c n typed)
 
 unshown_ruled : (v : View) (c : Ruling) (n : Option ℕ) (typed : List ℕ) → subject v ≡ None → outcome v (Run (command_of c) n typed) true ≡ fails v.session.state NoBuffer
 unfolding outcome
@@ -160,8 +150,7 @@ ruling_known directory ks xs next h c n typed unnamed = go (subject_kept ks (sub
 
 no_save : (c : Ruling) (n : Option ℕ) (typed : List ℕ) → is_save (Run (command_of c) n typed) ≡ false
 no_save Owner n typed = refl
-no_save Group n typed = refl
-no_save (Entries c) n typed = refl
+no_save _ n typed = refl
 
 module _ (directory : Directory) (ks : List MarkedBuffer) (xs : List Session) (next : Option ℕ) (h : Session) (c : Ruling) (n : Option ℕ) (typed : List ℕ) (unnamed : has_buffer [] ks ≡ false) where
   pub rule_unshown : None ≡ subject_kept ks (subject_of h) → IsOutcome directory ks xs next h (Run (command_of c) n typed) (Fails NoBuffer)

@@ -21,7 +21,7 @@ use Rattle.mgs_session.specs.Sessions.{window_marks_of}
 use Rattle.mgs_session.specs.declared.Session.{Session}
 use Rattle.mgs_world.specs.Worlds.{buffers_of, state_of, session_of, world_of}
 use Rattle.mgs_world.proofs.Found.{found_seen, name_kept}
-use Rattle.mgs_plan.specs.Deciding.{IsOutcome}
+use Rattle.mgs_plan.specs.Deciding.{IsOutcome, view_at}
 use Rattle.mgs_plan.specs.Saving.{IsSaveLeft, IsSaveRefused, save_answered, save_outcome}
 use Rattle.mgs_plan.specs.declared.outcome.Outcome.TheVariants as coded
 use Rattle.mgs_plan.proofs.Outcomes.{any_read, first_granted, judged_here, permitted_same, selected_none, selected_some, target_at}
@@ -60,17 +60,12 @@ save_known directory ks xs next h x n stored sel kept =
     ∙ permitted_same (state_of h.state) (decision_by d (rights_in 3)) _ _ (λ e. saves_granted (state_of h.state) d b b.name stored e)
     ∙ ap (λ (m : List ℕ). permitted (state_of h.state) (decision_by d (rights_in 3)) (cond h.state.player.playing (fails (state_of h.state) InMacro) (cond (not b.file) (fails (state_of h.state) NoFile) (save_answered (state_of h.state) m b.text stored)))) (name_kept x.name ks kept)
 
-save_nowhere : (directory : Directory) (ks : List MarkedBuffer) (xs : List Session) (next : Option ℕ) (h : Session) (n : Option ℕ) (stored : Bool) → window_marks_of h ≡ None → outcome (view (world_of directory ks xs next) (session_of ks h)) (Run SaveBuffer n []) stored ≡ fails (state_of h.state) NoBuffer
-unfolding outcome
-save_nowhere directory ks xs next h n stored none =
-    let v = view (world_of directory ks xs next) (session_of ks h) in
-    ap (λ o. permitted v.session.state (judged v (here o (λ t. 3))) (saves v.session.state o stored)) (selected_none directory ks xs next h none)
-
 -- FOR A SESSION
 
 module _ (directory : Directory) (ks : List MarkedBuffer) (xs : List Session) (next n : Option ℕ) (h : Session) where
   pub save_unshown : window_marks_of h ≡ None → IsOutcome directory ks xs next h (Run SaveBuffer n []) (coded.Fails NoBuffer)
-  save_unshown none = λ stored. save_nowhere directory ks xs next h n stored none
+  unfolding outcome
+  save_unshown none = λ stored. let v = view_at directory ks xs next h in ap (λ o. permitted v.session.state (judged v (here o (λ t. 3))) (saves v.session.state o stored)) (selected_none directory ks xs next h none)
 
   module _ (x : WindowMarks) (playing : Bool) (sel : window_marks_of h ≡ Some x) (kept : HasBuffer x.name ks) (plays : playing ≡ h.state.player.playing) where
     pub save_refused : (message : Message) → IsSaveRefused directory h.user x.name ks playing message → IsOutcome directory ks xs next h (Run SaveBuffer n []) (coded.Fails message)

@@ -5,8 +5,8 @@ ghost use Rattle.mgs_plan.specs.Actions.{AreMarks, act_of, is_done_here};
 ghost use Rattle.mgs_plan.specs.Deciding.{CanPerform, IsPlanned};
 ghost use Rattle.mgs_world.specs.Worlds.{idle, state_of};
 
+use crate::entry_list::plan_list;
 use crate::key_act::{KeyAct, counted};
-use crate::listing::plan_list;
 use crate::on_text::plan_text;
 use crate::outcome::Outcome;
 use crate::ruling::{Ruling, plan_rule};

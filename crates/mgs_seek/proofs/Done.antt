@@ -43,7 +43,7 @@ use Rattle.mgs_plan.proofs.Followed.{place_followed, sessions_went, sound_kept, 
 use Rattle.mgs_plan.proofs.Leaving.{length_edited_by, mark_edited_by, place_edited_by}
 use Rattle.mgs_seek.specs.Planning.{CanPerform, IsDone, IsPlanned, buffers_edited, change_planned, counted_if, edit_planned_in, left_at, old_of, one_met, search_after, session_after, size_then, IsTyped, ReplacementFails, IsLeft, touched_edit}
 use Rattle.mgs_seek.specs.Replacing.{point_met, remaining_at, remaining_in, replacement, session_met}
-use Rattle.mgs_seek.specs.declared.replacing.Planned.{Planned}
+use Rattle.mgs_seek.specs.declared.query_replace.Planned.{Planned}
 use Rattle.mgs_seek.proofs.Lifts.{acts_sound, found_at, in_this, acts, does_fail, held_at, only_state}
 use Rattle.mgs_seek.proofs.Meets.{counts, met_does, only_met, replaces}
 use Rattle.mgs_seek.proofs.Seeks.{held_so}
@@ -57,9 +57,6 @@ use Rattle.std.specs.Option.{option_map}
 is_told : (b : Bool) (e q : Edited) → Path (Option Edited) (cond b (Some e) None) (Some q) → b ≡ true
 is_told true e q is = refl
 is_told false e q is = cc
-
-some_same : {A : Type 0} (x y : A) → Path (Option A) (Some x) (Some y) → x ≡ y
-some_same x y e = cc
 
 -- STEP BY STEP: the edit, the positions that go by it, and its session
 
@@ -307,11 +304,8 @@ module _ (d : Directory) (ks : List MarkedBuffer) (xs : List Session) (at : ℕ)
   put_further : (t v : Search) → search_held at xs ≡ Some t → search_held at (slice_set xs1 at y) ≡ Some v → 0 < length (aim_old t.aim) → remaining_at at ls (slice_set xs1 at y) < remaining_at at ks xs
   put_further t v before now some = by p.plan.next refl (planned.less some_so)
     where
-      one : (q : Search) → Path (Option Search) (Some t) (Some q) → t ≡ q
-      one q e = cc
-
       some_so : 0 < length r.pattern
-      some_so = subst (λ (q : Search). 0 < length (aim_old q.aim)) (one (replaces s r) (sym before ∙ ap search_or_none found ∙ planned.held)) some
+      some_so = let same : t ≡ replaces s r = cc (sym before ∙ ap search_or_none found ∙ planned.held) in subst (λ (q : Search). 0 < length (aim_old q.aim)) same some
 
       held_then : search_held at (slice_set xs1 at y) ≡ y.state.search
       held_then = ap search_or_none (get_set xs1 at h1 y found1)
@@ -329,11 +323,8 @@ module _ (d : Directory) (ks : List MarkedBuffer) (xs : List Session) (at : ℕ)
       was : remaining_at at ks xs ≡ length text - min s.anchor (length text)
       was = ap (remaining_in ks) (ap search_or_none found ∙ planned.held) ∙ ap (λ (k : ℕ). k - min s.anchor k) size_before
 
-      no : Path (Option Search) None (Some v) → ⊥
-      no q = cc
-
       by : (q : Option ℕ) → p.plan.next ≡ q → IfSome q (λ m. size_then p (length text) - min m (size_then p (length text)) < length text - min s.anchor (length text)) → remaining_at at ls (slice_set xs1 at y) < remaining_at at ks xs
-      by None next less = absurd (no (sym (held_then ∙ ap (λ (k : Option ℕ). (end k).state.search) next) ∙ now))
+      by None next less = cc (sym (held_then ∙ ap (λ (k : Option ℕ). (end k).state.search) next) ∙ now)
       by (Some m) next less =
           let then_is : remaining_at at ls (slice_set xs1 at y) ≡ size_then p (length text) - min m (size_then p (length text)) =
           ap (remaining_in ls) (held_then ∙ ap (λ (k : Option ℕ). (end k).state.search) next) ∙ ap (λ (k : ℕ). k - min m k) size_after in
@@ -374,37 +365,26 @@ module _ (d : Directory) (ks : List MarkedBuffer) (xs : List Session) (at : ℕ)
 
   -- it has a search
   pub unsought_never : search_held at xs ≡ None → ⊥
-  unsought_never none = no (sym none ∙ ap search_or_none found ∙ planned.held)
-    where
-      no : {A : Type 0} {q : A} → Path (Option A) None (Some q) → ⊥
-      no e = cc
+  unsought_never none = cc (sym none ∙ ap search_or_none found ∙ planned.held)
 
 -- THE SESSION, as it is found there
 
 pub can_at : (d : Directory) (ks : List MarkedBuffer) (xs : List Session) (at : ℕ) (h : Session) (last : Bool) (p : Planned) → IsPlanned d ks h last p → h ≡ get_or xs at h → at < length xs → (g : Session) → slice_get xs at ≡ Some g → CanPerform d ks g p
-can_at d ks xs at h last p planned is within g found = subst (λ (z : Session). CanPerform d ks z p) (some_same h g (sym (found_at xs at h is within) ∙ found)) planned.can
+can_at d ks xs at h last p planned is within g found = subst (λ (z : Session). CanPerform d ks z p) (cc (sym (found_at xs at h is within) ∙ found)) planned.can
 
 -- WHERE IT FAILS
 
-none_some : {A : Type 0} (x : A) → Path (Option A) None (Some x) → ⊥
-none_some x e = cc
-
-typed_of : (o : Option Search) (s : Search) (r : Replacing) → o ≡ Some s → s.aim ≡ Replace r → IsTyped o r.put
-typed_of o s r held aim = λ t is. (r, sym (ap (λ (q : Search). q.aim) (some_same s t (sym held ∙ is))) ∙ aim, refl)
-
-typed_none : (o : Option Search) (typed : List ℕ) → o ≡ None → IsTyped o typed
-typed_none o typed none = λ t is. absurd (none_some t (sym none ∙ is))
-
 -- the session was read twice
 pub seen_at : (d : Directory) (ks : List MarkedBuffer) (xs : List Session) (at : ℕ) (h g : Session) (message : Message) (last : Bool) → h ≡ get_or xs at h → g ≡ get_or xs at g → at < length xs → ReplacementFails d ks h last message → ReplacementFails d ks g last message
-seen_at d ks xs at h g message last is same within all = subst (λ (z : Session). ReplacementFails d ks z last message) (some_same h g (sym (found_at xs at h is within) ∙ found_at xs at g same within)) all
+seen_at d ks xs at h g message last is same within all =
+    let one : h ≡ g = cc (sym (found_at xs at h is within) ∙ found_at xs at g same within) in subst (λ (z : Session). ReplacementFails d ks z last message) one all
 
 pub fails_sound : (ks : List MarkedBuffer) (xs : List Session) (at : ℕ) (h : Session) (message : Message) → IsSound ks xs → h ≡ get_or xs at h → at < length xs → IsSound ks (slice_set xs at (failed message h))
 fails_sound ks xs at h message sound is within = acts_sound ks ks xs at h (failed message h) sound is within (only_state ks h (failed message h).state)
 
 -- one that is over searches nothing
 pub fails_further : (xs : List Session) (at : ℕ) (h y : Session) (t : Search) → h ≡ get_or xs at h → at < length xs → y.state.search ≡ None → search_held at (slice_set xs at y) ≡ Some t → ⊥
-fails_further xs at h y t is within over held = none_some t (sym over ∙ sym (ap search_or_none (get_set xs at h y (found_at xs at h is within))) ∙ held)
+fails_further xs at h y t is within over held = cc (sym over ∙ sym (ap search_or_none (get_set xs at h y (found_at xs at h is within))) ∙ held)
 
 module _ (d : Directory) (ks : List MarkedBuffer) (xs : List Session) (at : ℕ) (h : Session) (message : Message) (last : Bool) (all : ReplacementFails d ks h last message) (sound : IsSound ks xs) (is : h ≡ get_or xs at h) (within : at < length xs) (next : Option ℕ) (id : ℕ) (place : at ≡ position_or_len (session_id id) xs) where
   abbrev now : World
@@ -419,11 +399,11 @@ module _ (d : Directory) (ks : List MarkedBuffer) (xs : List Session) (at : ℕ)
       (does_fail d ks h (λ state. state) (session_of ks h).search message (replaces_with typed) as_is refl refl (λ ys n. all ys n typed so))
 
   pub fails_none : (typed : List ℕ) → search_held at xs ≡ None → world_of d ks (slice_set xs at (failed message h)) next ≡ act now id (replaces_with typed) true
-  fails_none typed none = fails_so typed (typed_none h.state.search typed (held_at xs at h None is within none))
+  fails_none typed none = fails_so typed (λ t had. cc (sym (held_at xs at h None is within none) ∙ had))
 
   module _ (s : Search) (r : Replacing) (held : search_held at xs ≡ Some s) (aim : s.aim ≡ Replace r) where
     typed : IsTyped h.state.search r.put
-    typed = typed_of h.state.search s r (held_at xs at h (Some s) is within held) aim
+    typed = λ t had. let same : t ≡ s = cc (sym had ∙ held_at xs at h (Some s) is within held) in (r, ap (λ (q : Search). q.aim) same ∙ aim, refl)
 
     pub fails_act : world_of d ks (slice_set xs at (failed message h)) next ≡ act now id (replaces_with r.put) true
     fails_act = fails_so r.put typed

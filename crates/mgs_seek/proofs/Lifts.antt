@@ -8,7 +8,7 @@ use Rattle.mgs_model.specs.Access.{Directory}
 use Rattle.mgs_model.specs.Acts.{fails, outcome, search_finished, search_finished_state}
 use Rattle.mgs_model.specs.Apply.{act, applied, apply, change_at, change_first, search_after, is_search_mode, session_arranged, window_adjusted}
 use Rattle.mgs_model.specs.Events.{state_set, with_state}
-use Rattle.mgs_model.specs.Outcome.{Act, At, At_origin, Keep_mark, Keep_position, No_effect, Outcome, PointPlan}
+use Rattle.mgs_model.specs.Outcome.{Act, At, Keep_mark, Keep_position, No_effect, Outcome, PointPlan}
 use Rattle.mgs_model.specs.SearchCommands.{SearchFinish}
 use Rattle.mgs_model.specs.View.{view}
 use Rattle.mgs_model.specs.World.{State, World, has_id}
@@ -63,8 +63,6 @@ point_state h x sel =
     omega (arith, u, point_used x, sum_at (window_uses x.name x.point) got.0 h.windows.windows h.windows.selected got.1)
 
 pub only_gone : (ks : List MarkedBuffer) (h : Session) (x : WindowMarks) (to : PointPlan) (o : held.State) → window_marks_of h ≡ Some x → IsMark x.name x.point ks → (let y : Session = record h { state = o } in OnlyThis nothing_held ks (mark_gone x.name x.point to ks) h y)
-only_gone ks h x Keep_position o sel mark = only_state ks h o
-only_gone ks h x At_origin o sel mark = only_state ks h o
 only_gone ks h x (At p) o sel mark = record {
   buffers = gone_buffers x.name x.point (At p) ks;
   uses = λ m i. omega (arith, in_use_placed x.name x.point p ks m i mark);
@@ -76,6 +74,7 @@ only_gone ks h x (At p) o sel mark = record {
       omega (arith, u, state, point_state h x sel));
   size = refl;
 }
+only_gone ks h x _ o sel mark = only_state ks h o
 
 -- what it is seen to be then
 module _ (ks : List MarkedBuffer) (h : Session) (x : WindowMarks) (to : PointPlan) (o : held.State) (sound : IsSessionSound ks h) (sel : window_marks_of h ≡ Some x) where

@@ -29,9 +29,8 @@ use Rattle.mgs_plan.proofs.Deeds.{point_by}
 
 -- the point goes there whatever is searched for
 pub adjusted_met : (len : ℕ) (next left : Option ℕ) (search : Option model.Search) (w : model.Window) → point_by (point_met len next left) w ≡ window_adjusted search (point_met len next left) Keep_mark Keep_position None w
-adjusted_met len (Some m) left search w = refl
-adjusted_met len None (Some p) search w = refl
 adjusted_met len None None search w = refl
+adjusted_met len _ _ search w = refl
 
 -- A QUERY-REPLACE THAT GOES ON, or is over
 

@@ -3,8 +3,8 @@ use Rattle.std.proofs.Common.{◌≡◌, ℕ, ◌+◌, ◌-◌, ◌<◌, ◌≤�
 use Rattle.std.proofs.lemmas.List.{length-take}
 use Rattle.std.specs.Prelude.{Result, Ok}
 use Rattle.std.specs.Char.{eq_ignore_ascii_case}
-use Rattle.mgs_model.specs.Outcome.{Anchor_at, At, Begin, Keep_position, Keep_search, No_search, SearchPlan}
-use Rattle.mgs_model.specs.SearchCommands.{AroundSearch, Failing, Goes_on, Keep_mode, ModePlan, Over, SearchChange, met, replace}
+use Rattle.mgs_model.specs.Outcome.{Anchor_at, At, Keep_position, SearchPlan}
+use Rattle.mgs_model.specs.SearchCommands.{AroundSearch, Goes_on, ModePlan, Over, SearchChange, met, replace}
 use Rattle.mgs_model.specs.Searching.{begins, first_in, first_match, matches_at}
 use Rattle.mgs_model.specs.Text.{edited}
 use Rattle.mgs_model.specs.declared.session.Replacement.TheVariants.{ReplaceLast, ReplaceMatch}
@@ -56,25 +56,19 @@ first_past ps text i m other is = past (drop i text) other is
 
 -- WHAT IS PLANNED, read off what the model plans
 
-same_ok : {T E : Type 0} (x y : T) → Path (Result T E) (Ok x) (Ok y) → x ≡ y
-same_ok x y e = cc
-
 either : {T E : Type 0} (f : Bool → T) (b : Bool) → Path (Result T E) (cond b (Ok (f true)) (Ok (f false))) (Ok (f b))
 either f true = refl
 either f false = refl
 
 -- where a search goes on by what is left, and how many more were replaced
 abbrev place_of : SearchPlan → Option ℕ
-place_of Keep_search = None
-place_of No_search = None
-place_of (Begin name origin anchor) = None
 place_of (Anchor_at p) = Some p
+place_of _ = None
 
 abbrev count_of : ModePlan → ℕ
-count_of Keep_mode = 0
 count_of (Goes_on n) = n
 count_of (Over n) = n
-count_of (Failing failing) = 0
+count_of _ = 0
 
 -- a match of so many characters is replaced by this, or nothing is, and the next one is there
 abbrev change : ℕ → ℕ → List ℕ → Bool → Option ℕ → SearchChange
@@ -84,15 +78,13 @@ change a len put q next =
 
 change_count : (a len : ℕ) (put : List ℕ) (q : Bool) (next : Option ℕ) → count_of (change a len put q next).finish.mode ≡ one_met q
 change_count a len put true None = refl
-change_count a len put true (Some m) = refl
 change_count a len put false None = refl
-change_count a len put false (Some m) = refl
+change_count a len put _ _ = refl
 
 change_place : (a len : ℕ) (put : List ℕ) (q : Bool) (next : Option ℕ) → place_of (change a len put q next).finish.sought ≡ next
 change_place a len put true None = refl
-change_place a len put true (Some m) = refl
 change_place a len put false None = refl
-change_place a len put false (Some m) = refl
+change_place a len put _ _ = refl
 
 one_same : (p q : Bool) → one_met p ≡ one_met q → p ≡ q
 one_same true true e = refl
@@ -130,7 +122,7 @@ module _ (last : Bool) (a : ℕ) (r : Replacing) (text : List ℕ) (plan : Match
   planned_so false = either (λ b. change a (length old) put b (next_there false a old put text b)) found
 
   same : change a (length old) put plan.replaces plan.next ≡ change a (length old) put found (next_found found)
-  same = same_ok _ _ (planned given ∙ planned_so last)
+  same = cc (planned given ∙ planned_so last)
 
   replaces_is : plan.replaces ≡ found
   replaces_is = one_same plan.replaces found (sym (change_count a (length old) put plan.replaces plan.next) ∙ ap (λ (c : SearchChange). count_of c.finish.mode) same ∙ change_count a (length old) put found (next_found found))

@@ -25,7 +25,7 @@ use Rattle.mgs_world.specs.Worlds.{state_of, session_of, world_of}
 use Rattle.mgs_seek.specs.Acting.{IsSought, SearchFails}
 use Rattle.mgs_seek.specs.Planning.{FullAt, IsPlan, IsPlanned, PlannedAt, ReplacementFails, anchor_at, edit_planned, old_of, one_met, put_by, put_of, size_then, to_by}
 use Rattle.mgs_seek.specs.Replacing.{replacement}
-use Rattle.mgs_seek.specs.declared.replacing.Planned.{Planned}
+use Rattle.mgs_seek.specs.declared.query_replace.Planned.{Planned}
 use Rattle.mgs_seek.proofs.Comes.{come_sought, sought_place}
 use Rattle.mgs_seek.proofs.Meets.{replaces}
 use Rattle.mgs_seek.proofs.Puts.{change_read, next_facts, within_text}

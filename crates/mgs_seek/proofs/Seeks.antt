@@ -25,7 +25,7 @@ use Rattle.mgs_buffers.specs.MarkedBuffer.{HasBuffer, MarkedBuffer, mark_at, mar
 use Rattle.mgs_windows.specs.declared.WindowMarks.{WindowMarks}
 use Rattle.mgs_windows.specs.declared.Window.{Window}
 use Rattle.mgs_windows.specs.declared.RowPane.{RowPane}
-use Rattle.mgs_windows.specs.declared.RowPane.TheVariants.{NoRows, Buffers, Entries}
+use Rattle.mgs_windows.specs.declared.RowPane.TheVariants.{NoRows}
 use Rattle.mgs_search.specs.Planned.{IsStepPlan, stepped}
 use Rattle.mgs_session.specs.Seeking.{searching}
 use Rattle.mgs_session.specs.Sessions.{failed, window_marks_of}
@@ -161,8 +161,7 @@ quits search w = window_adjusted search At_origin Keep_mark Keep_position None w
 stays_there : (search : Option model.Search) (ks : List MarkedBuffer) (height : ℕ) (rows : RowPane) → window_shown ks height None rows ≡ quits search (window_shown ks height None rows)
 stays_there None ks height rows = refl
 stays_there (Some s) ks height NoRows = refl
-stays_there (Some s) ks height (Buffers row) = refl
-stays_there (Some s) ks height (Entries _ row) = refl
+stays_there (Some s) ks height _ = refl
 
 module _ (ks : List MarkedBuffer) (x : WindowMarks) (kept : HasBuffer x.name ks) where
   abbrev len : ℕ

@@ -1,5 +1,5 @@
 -- A search begins: that what is done is the act.
-use Rattle.std.proofs.Common.{false, ◌≡◌, ℕ, ◌+◌, ◌≤◌, min, List, [], length, Option, Some, None, refl, sym, ap, ◌∙◌, arith, cond, true, Bool}
+use Rattle.std.proofs.Common.{false, ◌≡◌, ℕ, ◌+◌, ◌≤◌, min, List, [], length, Option, Some, None, refl, sym, ap, ◌∙◌, arith, cond, true}
 use Rattle.std.proofs.Math.Nat.{min-eq_left}
 use Rattle.std.specs.Prelude.{IfSome, Result, Ok, Err}
 use Rattle.mgs_model.specs.Access.{Directory}
@@ -49,15 +49,11 @@ begun_finish : (name : List ℕ) (p len : ℕ) (to : Option ℕ) → begun name 
 begun_finish name p len None = refl
 begun_finish name p len (Some m) = refl
 
-none_either : (q : Bool) → Path (Option model.Search) (cond q None None) None
-none_either true = refl
-none_either false = refl
-
 -- a session at rest, with the record that has the mode
 set_so : (ks : List MarkedBuffer) (h : Session) (f : State → State) → state_of h.state ≡ idle (state_of h.state) → (let s : model.Session = record (session_of ks h) { search = None; state = f (state_of h.state) } in state_set f (session_of ks h) ≡ s)
 set_so ks h f fresh =
     (λ i. record (session_of ks h) { search = cond (is_search_mode (f (state_of h.state)).mode) (no_search_at_rest ks h fresh i) None; state = f (state_of h.state) })
-    ∙ (λ i. record (session_of ks h) { search = none_either (is_search_mode (f (state_of h.state)).mode) i; state = f (state_of h.state) })
+    ∙ (λ i. record (session_of ks h) { search = elim (is_search_mode (f (state_of h.state)).mode) as (λ q. Path (Option model.Search) (cond q None None) None) [ true ↦ refl | false ↦ refl ] i; state = f (state_of h.state) })
 
 -- ANY COMMAND that begins a search, by what is begun of the record
 module _ (directory : Directory) (ks : List MarkedBuffer) (h : Session) (f : State → State) (c : Seeking) (n : Option ℕ) (typed : List ℕ) (fresh : state_of h.state ≡ idle (state_of h.state)) where

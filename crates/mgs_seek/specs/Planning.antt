@@ -37,7 +37,7 @@ use Rattle.mgs_plan.specs.Tells.{touched_in}
 use Rattle.mgs_world.specs.Worlds.{aim_input, aim_old, state_of, session_id, session_of, world_of}
 use Rattle.mgs_seek.specs.Acting.{Does, IsSought, as_is}
 use Rattle.mgs_seek.specs.Replacing.{buffers_met, remaining_at, replacement, replacing_state, search_counted, session_met}
-use Rattle.mgs_seek.specs.declared.replacing.Planned.{Planned}
+use Rattle.mgs_seek.specs.declared.query_replace.Planned.{Planned}
 
 -- WHAT IS TAKEN OUT, AND PUT IN, where there is a match or none
 abbrev pub put_by : Bool → List ℕ → List ℕ

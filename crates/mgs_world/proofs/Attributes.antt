@@ -10,7 +10,6 @@ use Rattle.mgs_marks.specs.Marks.{mark_in, position_in}
 use Rattle.mgs_buffers.specs.MarkedBuffer.{MarkedBuffer, marked_at, marked_named, marked_or_none}
 use Rattle.mgs_session.specs.declared.Session.{Session}
 use Rattle.mgs_world.specs.Sound.{IsSound, one_if}
-use Rattle.mgs_world.specs.WindowMarks.{SizesStay}
 use Rattle.mgs_world.specs.Worlds.{buffers_of, session_of, size_found, size_named}
 use Rattle.mgs_world.proofs.Marks.{found_other, found_same, other_name, same_is}
 use Rattle.mgs_world.proofs.Soundness.{sound_same}
@@ -57,12 +56,8 @@ module _ (f : Buffer → Buffer) (named : (b : Buffer) → (f b).name ≡ b.name
           ∙ ap (λ k. size_named k bs) is
       go false e = ap size_found (find-change_first_other (is_named n) (is_named m) f (λ b. ap (same_name m) (named b)) (λ b. other_name n m b.name e) bs)
 
-  pub sizes_by : ((b : Buffer) → (f b).text ≡ b.text) → (n : List ℕ) (ks : List MarkedBuffer) → SizesStay (buffers_of ks) (buffers_of (change_first (marked_named n) (marked_by f) ks))
-  sizes_by text n ks = λ m. ap (size_named m) (buffers_by n ks) ∙ size_by text n m (buffers_of ks)
-
-  pub session_by : ((b : Buffer) → (f b).text ≡ b.text) → (n : List ℕ) (ks : List MarkedBuffer) (x : Session) → session_of (change_first (marked_named n) (marked_by f) ks) x ≡ session_of ks x
-  session_by text n ks x = session_local _ ks x (sizes_by text n ks) (λ m i used. ap (λ (ms : List (Option ℕ)). position_in ms i) (marks_by n m ks))
-
   pub sessions_by : ((b : Buffer) → (f b).text ≡ b.text) → (n : List ℕ) (ks : List MarkedBuffer) (xs : List Session) → map (session_of (change_first (marked_named n) (marked_by f) ks)) xs ≡ map (session_of ks) xs
   sessions_by text n ks [] = refl
-  sessions_by text n ks (x ∷ xs) = ap₂ (λ y ys. y ∷ ys) (session_by text n ks x) (sessions_by text n ks xs)
+  sessions_by text n ks (x ∷ xs) = ap₂ (λ y ys. y ∷ ys)
+      (session_local _ ks x (λ m. ap (size_named m) (buffers_by n ks) ∙ size_by text n m (buffers_of ks)) (λ m i used. ap (λ (ms : List (Option ℕ)). position_in ms i) (marks_by n m ks)))
+      (sessions_by text n ks xs)

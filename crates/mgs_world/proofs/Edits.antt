@@ -6,7 +6,7 @@ use Rattle.std.specs.Prelude.{slice_get, slice_set}
 use Rattle.std.proofs.lemmas.Option.{slice_get-map}
 use Rattle.mgs_model.specs.Names.{same_name}
 use Rattle.mgs_model.specs.Text.{shift}
-use Rattle.mgs_model.specs.World.{Buffer, find_buffer, is_named}
+use Rattle.mgs_model.specs.World.{Buffer, is_named}
 use Rattle.mgs_model.specs.World as model
 use Rattle.mgs_model.specs.Apply.{buffer_edited, change_first, place_moved, search_moved, session_moved, window_moved}
 use Rattle.mgs_model.proofs.Firsts.{find-change_first, find-change_first_other}
@@ -19,24 +19,16 @@ use Rattle.mgs_session.specs.declared.search.Edited.{Edited}
 use Rattle.mgs_session.specs.declared.search.Search.{Search}
 use Rattle.mgs_session.specs.declared.Session.{Session}
 use Rattle.mgs_session.specs.Seeking.{moved, search_edited, session_edited}
-use Rattle.mgs_world.specs.Sound.{IsSound, session_uses, uses}
+use Rattle.mgs_world.specs.Sound.{IsSound, uses}
 use Rattle.mgs_world.specs.Worlds.{buffers_of, state_of, place_of, search_at, search_of, session_of, size_found, size_named, window_of}
 use Rattle.mgs_world.proofs.Found.{found_buffer}
 use Rattle.mgs_world.proofs.Marks.{other_name, same_is}
-use Rattle.mgs_world.proofs.Worlds.{buffers_edited, mapped_twice, place_edited, same_positions, window_edited}
+use Rattle.mgs_world.proofs.Worlds.{buffers_edited, mapped_both, mapped_twice, place_edited, same_positions, window_edited}
 
 -- THE LENGTHS OF TEXTS
 
 pub size_kept : (n : List ℕ) (ks : List MarkedBuffer) → HasBuffer n ks → size_named n (buffers_of ks) ≡ length (marked_at n ks).buffer.text
 size_kept n ks kept = ap size_found (found_buffer n ks kept)
-
-size_here : (n : List ℕ) (a b : ℕ) (put : List ℕ) (bs : List Buffer) (x : Buffer) → find_buffer n bs ≡ Some x → a ≤ b → b ≤ length x.text → size_named n (change_first (is_named n) (buffer_edited a b put) bs) ≡ length x.text - (b - a) + length put
-size_here n a b put bs x found order within =
-    ap size_found (find-change_first (is_named n) (buffer_edited a b put) (λ y. ap (same_name n) (edited_name a b put y)) bs ∙ ap (option_map (buffer_edited a b put)) found) ∙ size_edited a b put x order within
-
-size_there : (n m : List ℕ) (a b : ℕ) (put : List ℕ) (bs : List Buffer) → same_name n m ≡ false → size_named m (change_first (is_named n) (buffer_edited a b put) bs) ≡ size_named m bs
-size_there n m a b put bs apart =
-    ap size_found (find-change_first_other (is_named n) (is_named m) (buffer_edited a b put) (λ x. ap (same_name m) (edited_name a b put x)) (λ x e. other_name n m x.name apart e) bs)
 
 -- POSITIONS OF SEARCHES
 
@@ -74,13 +66,16 @@ search_went n a b put ks s order within kept = by (same_name n s.name) refl
         let same : n ≡ s.name = same_is n s.name is in
         let old : size_named s.name bs ≡ length x.text = ap (λ m. size_named m bs) (sym same) ∙ size_kept n ks kept in
         let new : size_named s.name cs ≡ length x.text - (b - a) + length put =
-        ap (λ m. size_named m cs) (sym same) ∙ size_here n a b put bs x (found_buffer n ks kept) order within in
+        ap (λ m. size_named m cs) (sym same)
+        ∙ ap size_found (find-change_first (is_named n) (buffer_edited a b put) (λ y. ap (same_name n) (edited_name a b put y)) bs ∙ ap (option_map (buffer_edited a b put)) (found_buffer n ks kept)) ∙ size_edited a b put x order within in
         rw (old, new) (λ i. record {
           name = s.name;
           origin = moved_within a b (length put) (length x.text) s.origin order within i;
           anchor = moved_within a b (length put) (length x.text) s.anchor order within i;
         })
-    by false is = let same = size_there n s.name a b put bs is in λ i. record { name = s.name; origin = min s.origin (same i); anchor = min s.anchor (same i) }
+    by false is =
+        let same = ap size_found (find-change_first_other (is_named n) (is_named s.name) (buffer_edited a b put) (λ x. ap (same_name s.name) (edited_name a b put x)) (λ x e. other_name n s.name x.name is e) bs) in
+        λ i. record { name = s.name; origin = min s.origin (same i); anchor = min s.anchor (same i) }
 
 searches_went : (n : List ℕ) (a b : ℕ) (put : List ℕ) (ks : List MarkedBuffer) (o : Option Search) → a ≤ b → b ≤ length (marked_at n ks).buffer.text → HasBuffer n ks
     → search_of (change_first (is_named n) (buffer_edited a b put) (buffers_of ks)) (option_map (search_edited n (edit_in ks n a b (length put))) o) ≡ option_map (search_moved n (shift a b (length put))) (search_of (buffers_of ks) o)
@@ -112,20 +107,13 @@ session_went n a b put ks x order within kept =
 -- every position goes by the edit
 pub sessions_edited : (n : List ℕ) (a b : ℕ) (put : List ℕ) (ks : List MarkedBuffer) (xs : List Session) → a ≤ b → b ≤ length (marked_at n ks).buffer.text → HasBuffer n ks
     → map (session_of (change_first (marked_named n) (marked_edited a b put) ks)) (map (session_edited n (edit_in ks n a b (length put))) xs) ≡ map (session_moved n (shift a b (length put))) (map (session_of ks) xs)
-sessions_edited n a b put ks [] order within kept = refl
-sessions_edited n a b put ks (x ∷ xs) order within kept =
-    let ls = change_first (marked_named n) (marked_edited a b put) ks in
-    let e = edit_in ks n a b (length put) in
-    ap (λ y. y ∷ map (session_of ls) (map (session_edited n e) xs)) (session_went n a b put ks x order within kept)
-    ∙ ap (λ ys. session_moved n (shift a b (length put)) (session_of ks x) ∷ ys) (sessions_edited n a b put ks xs order within kept)
+sessions_edited n a b put ks xs order within kept =
+    mapped_both (session_of (change_first (marked_named n) (marked_edited a b put) ks)) (session_edited n (edit_in ks n a b (length put))) (session_moved n (shift a b (length put))) (session_of ks) (λ x. session_went n a b put ks x order within kept) xs
 
 -- and nothing but that: no mark is used more or less, and no screen has another size
-session_edited_uses : (n : List ℕ) (e : Edited) (m : List ℕ) (i : ℕ) (x : Session) → session_uses m i (session_edited n e x) ≡ session_uses m i x
-session_edited_uses n e m i x = refl
-
 pub uses_followed : (n : List ℕ) (e : Edited) (m : List ℕ) (i : ℕ) (xs : List Session) → uses m i (map (session_edited n e) xs) ≡ uses m i xs
 uses_followed n e m i [] = refl
-uses_followed n e m i (x ∷ xs) = omega (arith, session_edited_uses n e m i x, uses_followed n e m i xs)
+uses_followed n e m i (x ∷ xs) = omega (arith, uses_followed n e m i xs)
 
 pub sound_followed : (n : List ℕ) (e : Edited) (ks : List MarkedBuffer) (xs : List Session) → IsSound ks xs → IsSound ks (map (session_edited n e) xs)
 sound_followed n e ks xs sound = record { once = λ m i. uses_followed n e m i xs ∙ sound.once m i }

@@ -21,7 +21,7 @@ use Rattle.mgs_world.specs.Killing.{session_forgetting, world_without}
 use Rattle.mgs_world.specs.Sound.{IsSound, in_use, one_if, option_uses, place_uses, session_uses, sum_of, uses, window_marks_uses, window_uses}
 use Rattle.mgs_world.specs.Worlds.{buffers_of, state_of, place_of, search_at, search_of, session_of, size_found, size_named, window_of, window_shown, world_of}
 use Rattle.mgs_world.proofs.Marks.{other_name, same_is}
-use Rattle.mgs_world.proofs.Worlds.{option_mapped, same_place, same_positions, same_window, same_world}
+use Rattle.mgs_world.proofs.Worlds.{mapped_both, option_mapped, same_place, same_positions, same_window, same_world}
 
 -- WHAT IS KEPT
 
@@ -84,10 +84,7 @@ places_killed n ks (x ∷ xs) = go (same_name n x.name) refl (places_killed n ks
         ∙ ap (λ ps. place_of ks x ∷ ps) more
 
 windows_killed : (n : List ℕ) (ks : List MarkedBuffer) (ws : List Window) → map (window_of (without_marked n ks)) (map (window_without_buffer n) ws) ≡ map (model_apply.window_without_buffer n) (map (window_of ks) ws)
-windows_killed n ks [] = refl
-windows_killed n ks (w ∷ ws) =
-    ap (λ y. y ∷ map (window_of (without_marked n ks)) (map (window_without_buffer n) ws)) (window_killed n ks w.height w.shows w.rows)
-    ∙ ap (λ ys. model_apply.window_without_buffer n (window_of ks w) ∷ ys) (windows_killed n ks ws)
+windows_killed n ks ws = mapped_both (window_of (without_marked n ks)) (window_without_buffer n) (model_apply.window_without_buffer n) (window_of ks) (λ w. window_killed n ks w.height w.shows w.rows) ws
 
 search_elsewhere : (n : List ℕ) (bs : List Buffer) (s : Search) → same_name n s.name ≡ false → search_at (without_buffer n bs) s ≡ search_at bs s
 search_elsewhere n bs s e =
@@ -121,17 +118,8 @@ session_searching_killed n ks x (Some s) = go (same_name n s.name) refl
         same_positions (record (session_of ks x) { state = left false }) _ _ _ _ _ _ (windows_killed n ks x.windows.windows) (places_killed n ks x.windows.places)
         (ap (λ (bs : List Buffer). search_of bs (Some s)) (buffers_killed n ks) ∙ ap (λ (q : model.Search). Some q) (search_elsewhere n (buffers_of ks) s e))
 
-session_killed : (n : List ℕ) (ks : List MarkedBuffer) (x : Session) → session_of (without_marked n ks) (session_forgetting n x) ≡ session_without_buffer n (session_of ks x)
-session_killed n ks x = session_searching_killed n ks x x.state.search
-
-sessions_killed : (n : List ℕ) (ks : List MarkedBuffer) (xs : List Session) → map (session_of (without_marked n ks)) (map (session_forgetting n) xs) ≡ map (session_without_buffer n) (map (session_of ks) xs)
-sessions_killed n ks [] = refl
-sessions_killed n ks (x ∷ xs) =
-    ap (λ y. y ∷ map (session_of (without_marked n ks)) (map (session_forgetting n) xs)) (session_killed n ks x)
-    ∙ ap (λ ys. session_without_buffer n (session_of ks x) ∷ ys) (sessions_killed n ks xs)
-
 pub world_killed : (directory : Directory) (n : List ℕ) (ks : List MarkedBuffer) (xs : List Session) (next : Option ℕ) → world_of directory (without_marked n ks) (map (session_forgetting n) xs) next ≡ world_without n (world_of directory ks xs next)
-world_killed directory n ks xs next = same_world directory _ _ _ _ _ (buffers_killed n ks) (sessions_killed n ks xs)
+world_killed directory n ks xs next = same_world directory _ _ _ _ _ (buffers_killed n ks) (mapped_both (session_of (without_marked n ks)) (session_forgetting n) (session_without_buffer n) (session_of ks) (λ x. session_searching_killed n ks x x.state.search) xs)
 
 -- WHAT IS USED
 

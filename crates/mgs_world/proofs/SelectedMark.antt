@@ -1,10 +1,10 @@
 -- The mark of a selected window is reserved and set.
 use Rattle.std.proofs.Common.{◌≡◌, ℕ, zero, suc, ◌+◌, ◌≤◌, Bool, true, false, cond, List, [], ◌∷◌, map, Option, Some, None, refl, sym, ap, subst, ◌∙◌, arith}
-use Rattle.std.specs.Prelude.{nat_eq, slice_get, slice_set}
+use Rattle.std.specs.Prelude.{nat_eq, not, slice_get, slice_set}
 use Rattle.std.specs.List.{position_or_len}
 use Rattle.std.specs.Option.{option_and_then, option_map}
 use Rattle.mgs_model.specs.World as model
-use Rattle.mgs_model.specs.World.{Buffer, Buffer_of}
+use Rattle.mgs_model.specs.World.{Buffer_of}
 use Rattle.mgs_model.specs.Names.{same_name}
 use Rattle.mgs_model.specs.Outcome.{Keep_position, Mark_at}
 use Rattle.mgs_model.specs.Apply.{change_at, change_first, window_adjusted}
@@ -18,14 +18,14 @@ use Rattle.mgs_windows.specs.declared.RowPane.TheVariants.{NoRows}
 use Rattle.mgs_session.specs.Sessions.{window_marks_of}
 use Rattle.mgs_session.specs.declared.Session.{Session}
 use Rattle.mgs_world.specs.Marking.{IsGivenUp, IsReserved, mark_at_place, session_marked}
-use Rattle.mgs_world.specs.Sound.{IsSound, in_use, one_if, sum_of, place_uses, session_uses, uses, window_marks_uses, window_uses}
+use Rattle.mgs_world.specs.Sound.{IsSound, in_use, one_if, sum_of, session_uses, uses, window_marks_uses, window_uses}
 use Rattle.mgs_world.specs.WindowMarks.{MarksStay, WindowMarksDropped}
-use Rattle.mgs_world.specs.Worlds.{buffers_of, place_of, search_of, session_of, window_of, window_shown}
+use Rattle.mgs_world.specs.Worlds.{buffers_of, session_of, window_of, window_shown}
 use Rattle.mgs_world.proofs.Marks.{apart_from, is_same, mark_placed, mark_unused}
-use Rattle.mgs_world.proofs.Soundness.{mark_used, in_use_mark, in_use_more, sound_in_use}
-use Rattle.mgs_world.proofs.Uses.{map_unused, map_used_at, sum_at}
+use Rattle.mgs_world.proofs.Soundness.{acting_mark, in_use_more, mark_used, sound_in_use}
+use Rattle.mgs_world.proofs.Uses.{map_used_at, sum_at}
 use Rattle.mgs_world.proofs.WindowMarks.{added_mark, buffers_marked, in_use_added, same_sizes, sessions_stay, stays_added, undone, with_mark_uses}
-use Rattle.mgs_world.proofs.Worlds.{buffers_placed, one_use, place_unused, same_positions, same_window, selected_window, session_unused, window_unused}
+use Rattle.mgs_world.proofs.Worlds.{one_use, same_window, selected_window, session_placed, session_unused}
 
 -- LISTS
 
@@ -48,22 +48,13 @@ change_put F f (z ∷ xs) (suc at) x y is same = ap (λ bs. F z ∷ bs) (change_
 -- the first that passes is changed at its place
 pub changed_first : {A : Type 0} (p : A → Bool) (f : A → A) (xs : List A) (at : ℕ) → at ≡ position_or_len p xs → change_at at f xs ≡ change_first p f xs
 changed_first p f [] at place = refl
-changed_first {A = A} p f (x ∷ xs) at place = go (p x) refl at place (λ at. changed_first p f xs at)
+changed_first {A = A} p f (x ∷ xs) at place = go (p x) at place (λ at. changed_first p f xs at)
   where
-    go : (b : Bool) → p x ≡ b → (at : ℕ) → at ≡ position_or_len p (x ∷ xs) → ((at : ℕ) → at ≡ position_or_len p xs → change_at at f xs ≡ change_first p f xs) → change_at at f (x ∷ xs) ≡ cond b (f x ∷ xs) (x ∷ change_first p f xs)
-    go true e zero place more = refl
-    go true e (suc at) place more = let none : suc at ≡ 0 = place ∙ here e in cc
-      where
-        here : p x ≡ true → position_or_len p (x ∷ xs) ≡ 0
-        here e = rw e refl
-    go false e zero place more = let some : 0 ≡ 1 + position_or_len p xs = place ∙ there e in absurd (omega (arith, some))
-      where
-        there : p x ≡ false → position_or_len p (x ∷ xs) ≡ 1 + position_or_len p xs
-        there e = rw e refl
-    go false e (suc at) place more = let some : suc at ≡ 1 + position_or_len p xs = place ∙ there e in ap (λ ys. x ∷ ys) (more at (omega (arith, some)))
-      where
-        there : p x ≡ false → position_or_len p (x ∷ xs) ≡ 1 + position_or_len p xs
-        there e = rw e refl
+    go : (b : Bool) (at : ℕ) → at ≡ cond (not b) (1 + position_or_len p xs) 0 → ((at : ℕ) → at ≡ position_or_len p xs → change_at at f xs ≡ change_first p f xs) → change_at at f (x ∷ xs) ≡ cond b (f x ∷ xs) (x ∷ change_first p f xs)
+    go true zero place more = refl
+    go true (suc at) place more = cc
+    go false zero place more = absurd (omega (arith, place))
+    go false (suc at) place more = ap (λ ys. x ∷ ys) (more at (omega (arith, place)))
 
 -- A MARK IS RESERVED
 
@@ -91,16 +82,10 @@ reserved_more None x id ks ls is kept h m i = omega (arith, in_use_added x.name 
 reserved_more (Some k) x id ks ls is kept h m i = let uses : in_use m i ls ≡ in_use m i ks = ap (in_use m i) h.1 in omega (arith, uses)
 
 -- it is in use
-state_mark : (ks : List MarkedBuffer) (xs : List Session) (at : ℕ) (h : Session) (x : WindowMarks) (k : ℕ) → IsSound ks xs → slice_get xs at ≡ Some h → window_marks_of h ≡ Some x → x.mark ≡ Some k → IsMark x.name k ks
-state_mark ks xs at h x k sound there sel is =
-    let got = selected_window (slice_get h.windows.windows h.windows.selected) x sel in
-    let used : window_uses x.name k got.0 ≡ window_marks_uses x.name k (Some x) = ap (window_marks_uses x.name k) got.2 in
-    in_use_mark ks x.name k (omega (arith, sound.once x.name k, sum_at (session_uses x.name k) h xs at there, sum_at (window_uses x.name k) got.0 h.windows.windows h.windows.selected got.1, used, mark_used x k is))
-
 pub reserved_mark : (o : Option ℕ) (id : ℕ) (ks ls : List MarkedBuffer) (xs : List Session) (at : ℕ) (h : Session) (x : WindowMarks) → x.mark ≡ o → IsSound ks xs → HasBuffer x.name ks → slice_get xs at ≡ Some h → window_marks_of h ≡ Some x → IsReserved x.name o id ks ls → IsMark x.name id ls
 reserved_mark None id ks ls xs at h x is sound kept there sel r = added_mark x.name 0 id ks ls kept r
 reserved_mark (Some k) id ks ls xs at h x is sound kept there sel r =
-    subst (IsMark x.name id) (sym r.1) (state_mark ks xs at h x id sound there sel (is ∙ ap (λ (j : ℕ). Some j) (sym r.0)))
+    subst (IsMark x.name id) (sym r.1) (acting_mark ks xs at x id sound (ap (option_and_then window_marks_of) there ∙ sel) (mark_used x id (is ∙ ap (λ (j : ℕ). Some j) (sym r.0))))
 
 -- the sessions are as before
 pub reserved_sessions : (x : WindowMarks) (id : ℕ) (ks ls : List MarkedBuffer) (xs : List Session) → IsSound ks xs → HasBuffer x.name ks → IsReserved x.name x.mark id ks ls → map (session_of ls) xs ≡ map (session_of ks) xs
@@ -120,12 +105,9 @@ reserved_given_up n (Some k) id ks ls ms kept h g =
       stay = λ m i used after. ap (λ (s : List MarkedBuffer). mark_at m s i) same;
     }
 
-pub given_up_sound : (ks ms : List MarkedBuffer) (xs : List Session) → WindowMarksDropped None ks ms → IsSound ks xs → IsSound ms xs
-given_up_sound ks ms xs h sound = record { once = λ m i. omega (arith, sound.once m i, h.uses m i) }
-
 pub given_up_sessions : (ks ms : List MarkedBuffer) (xs : List Session) → WindowMarksDropped None ks ms → IsSound ks xs → map (session_of ms) xs ≡ map (session_of ks) xs
 given_up_sessions ks ms xs h sound =
-    sessions_stay ks ms xs (sound_in_use ks xs sound) (sound_in_use ms xs (given_up_sound ks ms xs h sound)) (same_sizes ks ms h.buffers) h.stay
+    sessions_stay ks ms xs (sound_in_use ks xs sound) (record { once = λ m i. omega (arith, sound.once m i, h.uses m i) }) (same_sizes ks ms h.buffers) h.stay
 
 -- A WINDOW HAS IT
 
@@ -137,21 +119,15 @@ window_uses_marked m i id zero x (w ∷ ws) is =
     omega (arith, before, after)
 window_uses_marked m i id (suc k) x (w ∷ ws) is = omega (arith, window_uses_marked m i id k x ws is)
 
-session_uses_marked : (m : List ℕ) (i id : ℕ) (h : Session) (x : WindowMarks) → window_marks_of h ≡ Some x → session_uses m i (session_marked id h) + window_marks_uses m i (Some x) ≡ session_uses m i h + window_marks_uses m i (Some (mark_set id x))
-session_uses_marked m i id h x sel = omega (arith, window_uses_marked m i id h.windows.selected x h.windows.windows sel)
-
 window_marked : (id k : ℕ) (x : WindowMarks) (ws : List Window) → option_and_then (λ (w : Window). w.shows) (slice_get ws k) ≡ Some x → option_and_then (λ (w : Window). w.shows) (slice_get (change_at k (marked id) ws) k) ≡ Some (mark_set id x)
 window_marked id k x [] is = cc
 window_marked id zero x (w ∷ ws) is = ap (option_map (mark_set id)) is
 window_marked id (suc k) x (w ∷ ws) is = window_marked id k x ws is
 
-pub marks_marked : (id : ℕ) (h : Session) (x : WindowMarks) → window_marks_of h ≡ Some x → window_marks_of (session_marked id h) ≡ Some (mark_set id x)
-marks_marked id h x sel = window_marked id h.windows.selected x h.windows.windows sel
-
 -- the sessions with the mark that was reserved use what is in use
 pub reserved_sound : (x : WindowMarks) (id : ℕ) (ks ls : List MarkedBuffer) (xs : List Session) (at : ℕ) (h : Session) → IsSound ks xs → HasBuffer x.name ks → slice_get xs at ≡ Some h → window_marks_of h ≡ Some x → IsReserved x.name x.mark id ks ls → IsSound ls (slice_set xs at (session_marked id h))
 reserved_sound x id ks ls xs at h sound kept there sel r = record {
-  once = λ m i. omega (arith, sound.once m i, sum_put (session_uses m i) xs at h (session_marked id h) there, session_uses_marked m i id h x sel, reserved_uses x.mark x id ks ls refl kept r m i);
+  once = λ m i. omega (arith, sound.once m i, sum_put (session_uses m i) xs at h (session_marked id h) there, window_uses_marked m i id h.windows.selected x h.windows.windows sel, reserved_uses x.mark x id ks ls refl kept r m i);
 }
 
 -- IT IS SET
@@ -175,20 +151,7 @@ shown_marked p id ks height x mark once =
 -- in the session that has it
 session_mark_placed : (p id : ℕ) (ks : List MarkedBuffer) (y : Session) (x : WindowMarks) → window_marks_of y ≡ Some (mark_set id x) → IsMark x.name id ks → session_uses x.name id y ≤ 1 → session_of (change_first (marked_named x.name) (marked_placed id p) ks) y ≡ mark_at_place p (session_of ks y)
 session_mark_placed p id ks y x sel mark once =
-    let n = x.name in
-    let ls = change_first (marked_named n) (marked_placed id p) ks in
-    let f = window_adjusted None Keep_position (Mark_at p) Keep_position None in
-    let got = selected_window (slice_get y.windows.windows y.windows.selected) (mark_set id x) sel in
-    let w = got.0 in
-    let used_is : window_uses n id w ≡ window_marks_uses n id (Some (mark_set id x)) = ap (window_marks_uses n id) got.2 in
-    let in_sum = sum_at (window_uses n id) w y.windows.windows y.windows.selected got.1 in
-    let u = mark_once id x in
-    let does : window_of ls w ≡ f (window_of ks w) =
-    ap (λ (o : Option WindowMarks). window_shown ls w.height o w.rows) got.2 ∙ shown_marked p id ks w.height x mark (omega (arith, used_is, in_sum, once)) ∙ sym (ap (λ (o : Option WindowMarks). f (window_shown ks w.height o w.rows)) got.2) in
-    same_positions (session_of ks y) _ _ _ _ _ _
-    (map_used_at (window_uses n id) (window_of ls) (window_of ks) f (window_unused n id p ks) w (omega (arith, used_is, u)) does y.windows.windows y.windows.selected got.1 (omega (arith, once)))
-    (map_unused (place_uses n id) (place_of ls) (place_of ks) (place_unused n id p ks) y.windows.places (omega (arith, used_is, u, in_sum, once)))
-    (ap (λ (bs : List Buffer). search_of bs y.state.search) (buffers_placed n id p ks))
+    session_placed id p (window_adjusted None Keep_position (Mark_at p) Keep_position None) ks y (mark_set id x) sel (omega (arith, mark_once id x)) (λ most height. shown_marked p id ks height x mark most) once
 
 -- what the mark was does not matter
 windows_marked : (p id k : ℕ) (ks : List MarkedBuffer) (ws : List Window) → change_at k (window_adjusted None Keep_position (Mark_at p) Keep_position None) (map (window_of ks) (change_at k (marked id) ws)) ≡ change_at k (window_adjusted None Keep_position (Mark_at p) Keep_position None) (map (window_of ks) ws)
@@ -200,17 +163,13 @@ windows_marked p id zero ks (w ∷ ws) = ap (λ v. v ∷ map (window_of ks) ws) 
     one height (Some x) rows = refl
 windows_marked p id (suc k) ks (w ∷ ws) = ap (λ vs. window_of ks w ∷ vs) (windows_marked p id k ks ws)
 
-session_marked_same : (p id : ℕ) (ks : List MarkedBuffer) (h : Session) → mark_at_place p (session_of ks (session_marked id h)) ≡ mark_at_place p (session_of ks h)
-session_marked_same p id ks h =
-    ap (λ (ws : List model.Window). let s : model.Session = record (session_of ks h) { windows = ws } in s) (windows_marked p id h.windows.selected ks h.windows.windows)
-
 -- THE SESSIONS AFTERWARDS: the mark of one selected window is at p, whatever came between its reservation and now
 pub sessions_marked : (p id : ℕ) (ls : List MarkedBuffer) (xs : List Session) (at : ℕ) (h : Session) (x : WindowMarks) → slice_get xs at ≡ Some h → window_marks_of h ≡ Some x → IsMark x.name id ls → IsSound ls (slice_set xs at (session_marked id h)) → map (session_of (change_first (marked_named x.name) (marked_placed id p) ls)) (slice_set xs at (session_marked id h)) ≡ change_at at (mark_at_place p) (map (session_of ls) xs)
 sessions_marked p id ls xs at h x there sel mark sound =
     let n = x.name in
     let y = session_marked id h in
     let ys = slice_set xs at y in
-    let sel_y = marks_marked id h x sel in
+    let sel_y : window_marks_of y ≡ Some (mark_set id x) = window_marked id h.windows.selected x h.windows.windows sel in
     let there_y = get_set xs at h y there in
     let one : in_use n id ls ≡ 1 = ap one_if mark in
     let got = selected_window (slice_get y.windows.windows y.windows.selected) (mark_set id x) sel_y in
@@ -220,4 +179,4 @@ sessions_marked p id ls xs at h x there sel mark sound =
     let in_all = sum_at (session_uses n id) y ys at there_y in
     let all : uses n id ys ≡ in_use n id ls = sound.once n id in
     map_used_at (session_uses n id) (session_of (change_first (marked_named n) (marked_placed id p) ls)) (session_of ls) (mark_at_place p) (session_unused n id p ls) y (omega (arith, used_is, in_windows, u)) (session_mark_placed p id ls y x sel_y mark (omega (arith, in_all, all, one))) ys at there_y (omega (arith, all, one))
-    ∙ change_put (session_of ls) (mark_at_place p) xs at h y there (session_marked_same p id ls h)
+    ∙ change_put (session_of ls) (mark_at_place p) xs at h y there (ap (λ (ws : List model.Window). let s : model.Session = record (session_of ls h) { windows = ws } in s) (windows_marked p id h.windows.selected ls h.windows.windows))

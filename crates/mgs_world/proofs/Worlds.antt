@@ -1,5 +1,5 @@
 -- How the world changes when what is kept does.
-use Rattle.std.proofs.Common.{◌≡◌, ℕ, ◌+◌, ◌≤◌, min, Bool, true, false, cond, List, [], ◌∷◌, length, map, Option, Some, None, refl, sym, ap, ◌∙◌, arith, eq-eqb}
+use Rattle.std.proofs.Common.{◌≡◌, ℕ, ◌+◌, ◌≤◌, min, Bool, true, false, cond, List, [], ◌∷◌, length, map, Option, Some, None, refl, sym, ap, ap₂, ◌∙◌, arith, eq-eqb}
 use Rattle.std.specs.Prelude.{find, slice_get, IsSome, nat_eq}
 use Rattle.std.specs.Option.{option_map, option_and_then}
 use Rattle.mgs_model.specs.Access.{Directory}
@@ -37,22 +37,20 @@ option_mapped_twice f g h same (Some a) = ap (λ b. Some b) (same a)
 
 pub mapped_twice : {A B C : Type 0} (f : A → C) (g : B → C) (h : A → B) → ((a : A) → f a ≡ g (h a)) → (xs : List A) → map f xs ≡ map g (map h xs)
 mapped_twice f g h same [] = refl
-mapped_twice f g h same (x ∷ xs) = ap (λ y. y ∷ map f xs) (same x) ∙ ap (λ ys. g (h x) ∷ ys) (mapped_twice f g h same xs)
+mapped_twice f g h same (x ∷ xs) = ap₂ (λ y ys. y ∷ ys) (same x) (mapped_twice f g h same xs)
+
+pub mapped_both : {A B C D : Type 0} (f : B → D) (h : A → B) (g : C → D) (k : A → C) → ((a : A) → f (h a) ≡ g (k a)) → (xs : List A) → map f (map h xs) ≡ map g (map k xs)
+mapped_both f h g k same [] = refl
+mapped_both f h g k same (x ∷ xs) = ap₂ (λ y ys. y ∷ ys) (same x) (mapped_both f h g k same xs)
 
 pub same_window : (s : Shows) (p p' : ℕ) (m m' : Option ℕ) (t t' r h : ℕ) → p ≡ p' → m ≡ m' → t ≡ t' → Path model.Window (record { shows = s; point = p; mark = m; top = t; row = r; height = h }) (record { shows = s; point = p'; mark = m'; top = t'; row = r; height = h })
-same_window s p p' m m' t t' r h ep em et =
-    ap (λ (q : ℕ). let w : model.Window = record { shows = s; point = q; mark = m; top = t; row = r; height = h } in w) ep
-    ∙ ap (λ (q : Option ℕ). let w : model.Window = record { shows = s; point = p'; mark = q; top = t; row = r; height = h } in w) em
-    ∙ ap (λ (q : ℕ). let w : model.Window = record { shows = s; point = p'; mark = m'; top = q; row = r; height = h } in w) et
+same_window s p p' m m' t t' r h ep em et = λ i. record { shows = s; point = ep i; mark = em i; top = et i; row = r; height = h }
 
 pub same_windows : (x : model.Session) (ws ws' : List model.Window) → ws ≡ ws' → Path model.Session (record x { windows = ws }) (record x { windows = ws' })
-same_windows x ws ws' e = ap (λ (q : List model.Window). let s : model.Session = record x { windows = q } in s) e
+same_windows x ws ws' e = λ i. record x { windows = e i }
 
 pub same_positions : (x : model.Session) (ws ws' : List model.Window) (ps ps' : List model.Place) (ss ss' : Option model.Search) → ws ≡ ws' → ps ≡ ps' → ss ≡ ss' → Path model.Session (record x { windows = ws; places = ps; search = ss }) (record x { windows = ws'; places = ps'; search = ss' })
-same_positions x ws ws' ps ps' ss ss' e f g =
-    ap (λ (q : List model.Window). let s : model.Session = record x { windows = q; places = ps; search = ss } in s) e
-    ∙ ap (λ (q : List model.Place). let s : model.Session = record x { windows = ws'; places = q; search = ss } in s) f
-    ∙ ap (λ (q : Option model.Search). let s : model.Session = record x { windows = ws'; places = ps'; search = q } in s) g
+same_positions x ws ws' ps ps' ss ss' e f g = λ i. record x { windows = e i; places = f i; search = g i }
 
 -- positions of a search in texts of the same lengths
 pub search_same : (bs cs : List Buffer) (o : Option Search) → ((n : List ℕ) → size_named n bs ≡ size_named n cs) → search_of bs o ≡ search_of cs o
@@ -61,14 +59,10 @@ search_same bs cs (Some s) same =
     ap (λ (size : ℕ). let r : model.Search = record { name = s.name; origin = min s.origin size; anchor = min s.anchor size } in Some r) (same s.name)
 
 pub same_place : (n : List ℕ) (p p' : ℕ) (m m' : Option ℕ) → p ≡ p' → m ≡ m' → Path model.Place (record { name = n; point = p; mark = m }) (record { name = n; point = p'; mark = m' })
-same_place n p p' m m' ep em =
-    ap (λ (q : ℕ). let w : model.Place = record { name = n; point = q; mark = m } in w) ep
-    ∙ ap (λ (q : Option ℕ). let w : model.Place = record { name = n; point = p'; mark = q } in w) em
+same_place n p p' m m' ep em = λ i. record { name = n; point = ep i; mark = em i }
 
 pub same_world : (directory : Directory) (bs bs' : List Buffer) (ss ss' : List model.Session) (next : ℕ) → bs ≡ bs' → ss ≡ ss' → Path World (record { directory = directory; buffers = bs; sessions = ss; next_id = next }) (record { directory = directory; buffers = bs'; sessions = ss'; next_id = next })
-same_world directory bs bs' ss ss' next eb es =
-    ap (λ (q : List Buffer). let w : World = record { directory = directory; buffers = q; sessions = ss; next_id = next } in w) eb
-    ∙ ap (λ (q : List model.Session). let w : World = record { directory = directory; buffers = bs'; sessions = q; next_id = next } in w) es
+same_world directory bs bs' ss ss' next eb es = λ i. record { directory = directory; buffers = eb i; sessions = es i; next_id = next }
 
 -- WHAT IS KEPT OF BUFFERS when their marks alone change
 
@@ -112,26 +106,13 @@ window_edited n a b put ks height (Some x) rows = go (same_name n x.name) refl
     go false e = same_window (Buffer_of x.name) _ _ _ _ _ _ 0 height (kept x.point e) (option_mapped (mark_at x.name ls) (mark_at x.name ks) (λ id. kept id e) x.mark) (kept x.top e)
 
 pub place_edited : (n : List ℕ) (a b : ℕ) (put : List ℕ) (ks : List MarkedBuffer) (x : WindowMarks) → place_of (change_first (marked_named n) (marked_edited a b put) ks) x ≡ place_moved n (shift a b (length put)) (place_of ks x)
-place_edited n a b put ks x = go (same_name n x.name) refl
-  where
-    ls : List MarkedBuffer
-    ls = change_first (marked_named n) (marked_edited a b put) ks
-
-    move : ℕ → ℕ
-    move = shift a b (length put)
-
-    was : model.Place
-    was = place_of ks x
-
-    moved : (id : ℕ) → same_name n x.name ≡ true → mark_at x.name ls id ≡ move (mark_at x.name ks id)
-    moved id e = mark_edited n x.name a b put ks id e
-
-    kept : (id : ℕ) → same_name n x.name ≡ false → mark_at x.name ls id ≡ mark_at x.name ks id
-    kept id e = mark_kept n x.name (marked_edited a b put) ks id (λ k. edited_name a b put k.buffer) e
-
-    go : (r : Bool) → same_name n x.name ≡ r → place_of ls x ≡ cond r (record was { point = move was.point; mark = option_map move was.mark }) was
-    go true e = same_place x.name _ _ _ _ (moved x.point e) (option_mapped_twice (mark_at x.name ls) move (mark_at x.name ks) (λ id. moved id e) x.mark)
-    go false e = same_place x.name _ _ _ _ (kept x.point e) (option_mapped (mark_at x.name ls) (mark_at x.name ks) (λ id. kept id e) x.mark)
+place_edited n a b put ks x =
+    let move : ℕ → ℕ = shift a b (length put) in
+    let was : model.Window = window_shown ks 0 (Some x) NoRows in
+    let seen : model.Window → model.Place = λ w. record { name = x.name; point = w.point; mark = w.mark } in
+    let w = window_edited n a b put ks 0 (Some x) NoRows in
+    same_place x.name _ _ _ _ (ap (λ (y : model.Window). y.point) w) (ap (λ (y : model.Window). y.mark) w)
+    ∙ elim (same_name n x.name) as (λ r. seen (cond r (record was { point = move was.point; mark = option_map move was.mark; top = move was.top }) was) ≡ cond r (record (place_of ks x) { point = move was.point; mark = option_map move was.mark }) (place_of ks x)) [ true ↦ refl | false ↦ refl ]
 
 pub buffers_edited : (n : List ℕ) (a b : ℕ) (put : List ℕ) (ks : List MarkedBuffer) → buffers_of (change_first (marked_named n) (marked_edited a b put) ks) ≡ change_first (is_named n) (buffer_edited a b put) (buffers_of ks)
 buffers_edited n a b put ks =
@@ -199,7 +180,7 @@ PlacesBy id p f ks x = window_marks_uses x.name id (Some x) ≤ 1 → (height : 
 abbrev pub selected_at : (model.Window → model.Window) → model.Session → model.Session
 selected_at f x = record x { windows = change_at x.selected f x.windows }
 
-session_placed : (id p : ℕ) (f : model.Window → model.Window) (ks : List MarkedBuffer) (h : Session) (x : WindowMarks) → window_marks_of h ≡ Some x → 1 ≤ window_marks_uses x.name id (Some x) → PlacesBy id p f ks x → session_uses x.name id h ≤ 1 → session_of (change_first (marked_named x.name) (marked_placed id p) ks) h ≡ selected_at f (session_of ks h)
+pub session_placed : (id p : ℕ) (f : model.Window → model.Window) (ks : List MarkedBuffer) (h : Session) (x : WindowMarks) → window_marks_of h ≡ Some x → 1 ≤ window_marks_uses x.name id (Some x) → PlacesBy id p f ks x → session_uses x.name id h ≤ 1 → session_of (change_first (marked_named x.name) (marked_placed id p) ks) h ≡ selected_at f (session_of ks h)
 session_placed id p f ks h x sel u places once =
     let n = x.name in
     let ks' = change_first (marked_named n) (marked_placed id p) ks in

@@ -1,4 +1,4 @@
-use Rattle.std.proofs.Common.{get_or, refl, ap, subst, sym, [], true, ◌∙◌}
+use Rattle.std.proofs.Common.{refl, ap, subst, sym, [], true, ◌∙◌}
 use Rattle.mgs_model.specs.Apply.{applied}
 use Rattle.mgs_laws.specs.Refusals.{may_be_refused}
 use Rattle.mgs_model.specs.Outcome.{Run}
@@ -10,7 +10,6 @@ use Rattle.mgs_plan.specs.Rows.{session_rows}
 use Rattle.mgs_plan.specs.Setting.{session_set}
 use Rattle.mgs_plan.specs.declared.outcome.Outcome.TheVariants.{Arranges, Asks, Fails, Lists, Scrolls, Sets, Shows}
 use Rattle.mgs_world.specs.Worlds.{state_of, world_of}
-use Rattle.mgs_world.proofs.Soundness.{sound_set}
 use Rattle.mgs_plan.proofs.Commands.{asked_done, outcome_answered, set_done}
 use Rattle.mgs_plan.proofs.Deeds.{failed_so, fresh_state}
 use Rattle.mgs_plan.proofs.Quiet.{arrangement_quiet, question_quiet, setting_quiet}
@@ -23,21 +22,15 @@ use Rattle.mgs_world.proofs.WindowMarks.{when_err}
 use Rattle.mgs_buffers.proofs.MarkedLemmas.{OnErr-map}
 use Rattle.mgs_act.proofs.doing.do_decided.Goals as goal
 
-pub returns-in-Fails-clause-sound : goal.returns-in-Fails-clause-sound
-returns-in-Fails-clause-sound g c =
-    let xs = c.args.sessions.now in
-    let h = get_or xs c.args.at c.index-sessions-at.result in
-    rw c.fail.ensures (sound_set c.args.buffers.now xs c.args.at h _ (ap (get_or xs c.args.at) c.index-sessions-at.is) (λ n i. refl) c.requires.sound)
-
-pub returns-in-Fails-clause-done : goal.returns-in-Fails-clause-done
-returns-in-Fails-clause-done g c =
-    let d = c.args.directory.now in
+pub returns-in-Fails : goal.returns-in-Fails
+returns-in-Fails g c =
     let ks = c.args.buffers.now in
     let xs = c.args.sessions.now in
-    written_done d c.args.at c.args.outcome.now (Fails c.in-Fails.message) ks xs (failed c.in-Fails.message) c.index-sessions-at.result _ _ c.in-Fails.is c.requires.within c.fail.ensures (λ id next h place found. (
-      failed_so d ks xs next id c.args.at h c.in-Fails.message place c.requires.within found (fresh_state xs c.args.at h found c.requires.fresh),
+    let both = written_done (Fails c.in-Fails.message) (failed c.in-Fails.message) c.index-sessions-at.result _ c.requires c.in-Fails.is c.fail.ensures (λ h n i. refl) (λ id next h place found. (
+      failed_so c.args.directory.now ks xs next id c.args.at h c.in-Fails.message place c.requires.within found (fresh_state xs c.args.at h found c.requires.fresh),
       refl,
-    ))
+    )) in
+    record { sound = both.0; done = both.1 _; err = tt; unasked = tt; may = tt }
 
 pub returns-in-Acts-clause-may : goal.returns-in-Acts-clause-may
 returns-in-Acts-clause-may g c =
@@ -68,55 +61,40 @@ returns-in_err-show-in-Shows-clause-may g c =
     when_err _ (subst (λ o. TakesMemory c.args.at o c.args.buffers.now c.args.sessions.now) (sym c.in-Shows.is)
     (λ d id next h place found. may_show d c.args.buffers.now c.args.sessions.now next id c.args.at h found c.in-Shows.name c.show.ensures.selected))
 
-pub returns-in-Scrolls-clause-sound : goal.returns-in-Scrolls-clause-sound
-returns-in-Scrolls-clause-sound g c =
-    let xs = c.args.sessions.now in
-    let h = get_or xs c.args.at c.index-sessions-at-in-Scrolls.result in
-    rw c.scroll.ensures (sound_set c.args.buffers.now xs c.args.at h _ (ap (get_or xs c.args.at) c.index-sessions-at-in-Scrolls.is) (rows_uses c.in-Scrolls.rows h) c.requires.sound)
-
-pub returns-in-Scrolls-clause-done : goal.returns-in-Scrolls-clause-done
-returns-in-Scrolls-clause-done g c =
+pub returns-in-Scrolls : goal.returns-in-Scrolls
+returns-in-Scrolls g c =
     let d = c.args.directory.now in
     let ks = c.args.buffers.now in
     let xs = c.args.sessions.now in
     let can = subst (CanDo d c.args.at ks xs) c.in-Scrolls.is c.requires.can in
-    written_done d c.args.at c.args.outcome.now (Scrolls c.in-Scrolls.rows) ks xs (λ y. acted Other (session_rows c.in-Scrolls.rows y)) c.index-sessions-at-in-Scrolls.result _ _ c.in-Scrolls.is c.requires.within c.scroll.ensures (λ id next h place found. (
+    let both = written_done (Scrolls c.in-Scrolls.rows) (λ y. acted Other (session_rows c.in-Scrolls.rows y)) c.index-sessions-at-in-Scrolls.result _ c.requires c.in-Scrolls.is c.scroll.ensures (rows_uses c.in-Scrolls.rows) (λ id next h place found. (
       scrolled_so d ks xs next id c.args.at h place c.requires.within found (fresh_state xs c.args.at h found c.requires.fresh) c.in-Scrolls.rows (can h found),
       rows_quiet (state_of h.state) c.in-Scrolls.rows,
-    ))
+    )) in
+    record { sound = both.0; done = both.1 _; err = tt; unasked = tt; may = tt }
 
-pub returns-in-Sets-clause-sound : goal.returns-in-Sets-clause-sound
-returns-in-Sets-clause-sound g c =
-    let xs = c.args.sessions.now in
-    let h = get_or xs c.args.at c.index-sessions-at-in-Sets.result in
-    rw c.set.ensures (sound_set c.args.buffers.now xs c.args.at h _ (ap (get_or xs c.args.at) c.index-sessions-at-in-Sets.is) (set_uses c.in-Sets.setting c.in-Sets.argument h) c.requires.sound)
-
-pub returns-in-Sets-clause-done : goal.returns-in-Sets-clause-done
-returns-in-Sets-clause-done g c =
+pub returns-in-Sets : goal.returns-in-Sets
+returns-in-Sets g c =
     let d = c.args.directory.now in
     let ks = c.args.buffers.now in
     let xs = c.args.sessions.now in
     let can = subst (CanDo d c.args.at ks xs) c.in-Sets.is c.requires.can in
-    written_done d c.args.at c.args.outcome.now (Sets c.in-Sets.setting c.in-Sets.argument) ks xs (session_set c.in-Sets.setting c.in-Sets.argument) c.index-sessions-at-in-Sets.result _ _ c.in-Sets.is c.requires.within c.set.ensures (λ id next h place found. (
+    let both = written_done (Sets c.in-Sets.setting c.in-Sets.argument) (session_set c.in-Sets.setting c.in-Sets.argument) c.index-sessions-at-in-Sets.result _ c.requires c.in-Sets.is c.set.ensures (set_uses c.in-Sets.setting c.in-Sets.argument) (λ id next h place found. (
       set_done d ks xs next id c.args.at h place c.requires.within found c.requires.fresh c.in-Sets.setting c.in-Sets.argument true (can h found),
       setting_quiet (view_at d ks xs next h) c.in-Sets.argument true c.in-Sets.setting,
-    ))
+    )) in
+    record { sound = both.0; done = both.1 _; err = tt; unasked = tt; may = tt }
 
-pub returns-in-Asks-clause-sound : goal.returns-in-Asks-clause-sound
-returns-in-Asks-clause-sound g c =
-    let xs = c.args.sessions.now in
-    let h = get_or xs c.args.at c.index-sessions-at-in-Asks.result in
-    rw c.ask.ensures (sound_set c.args.buffers.now xs c.args.at h _ (ap (get_or xs c.args.at) c.index-sessions-at-in-Asks.is) (λ n i. refl) c.requires.sound)
-
-pub returns-in-Asks-clause-done : goal.returns-in-Asks-clause-done
-returns-in-Asks-clause-done g c =
+pub returns-in-Asks : goal.returns-in-Asks
+returns-in-Asks g c =
     let d = c.args.directory.now in
     let ks = c.args.buffers.now in
     let xs = c.args.sessions.now in
-    written_done d c.args.at c.args.outcome.now (Asks c.in-Asks.question c.in-Asks.argument) ks xs (asking c.in-Asks.question c.in-Asks.argument) c.index-sessions-at-in-Asks.result _ _ c.in-Asks.is c.requires.within c.ask.ensures (λ id next h place found. (
+    let both = written_done (Asks c.in-Asks.question c.in-Asks.argument) (asking c.in-Asks.question c.in-Asks.argument) c.index-sessions-at-in-Asks.result _ c.requires c.in-Asks.is c.ask.ensures (λ h n i. refl) (λ id next h place found. (
       asked_done d ks xs next id c.args.at h place c.requires.within found c.requires.fresh c.in-Asks.question c.in-Asks.argument true,
       question_quiet (view_at d ks xs next h) c.in-Asks.argument true c.in-Asks.question,
-    ))
+    )) in
+    record { sound = both.0; done = both.1 _; err = tt; unasked = tt; may = tt }
 
 pub returns-in_ok-rearrange-in-Arranges-clause-done : goal.returns-in_ok-rearrange-in-Arranges-clause-done
 returns-in_ok-rearrange-in-Arranges-clause-done g c =

@@ -1,15 +1,12 @@
-use Rattle.std.proofs.Common.{◌≡◌, get_or, ap, subst}
+use Rattle.std.proofs.Common.{◌≡◌, get_or, ap}
 use Rattle.mgs_buffers.proofs.MarkedLemmas.{OnErr-map, OnOk-map}
 use Rattle.mgs_session.specs.declared.Session.{Session}
-use Rattle.mgs_world.specs.Sound.{IsSessionSound}
 use Rattle.mgs_world.proofs.Soundness.{session_sound}
 use Rattle.mgs_arrange.proofs.Rearranging.{after_act, after_sound, either_rearranged, refused_all, refused_may}
 use Rattle.mgs_arrange.proofs.arranging.rearrange.Goals as goal
 
 pub rearrange_session-requires : goal.rearrange_session-requires
-rearrange_session-requires g c =
-    subst (IsSessionSound c.args.buffers.now) c.index-sessions-at.is
-    (session_sound c.args.buffers.now c.args.sessions.now c.args.at c.index-sessions-at.result c.requires.sound c.index-sessions-at.is c.requires.within)
+rearrange_session-requires g c = session_sound c.args.buffers.now c.args.sessions.now c.args.at _ c.requires.sound (ap (get_or c.args.sessions.now c.args.at) c.index-sessions-at.is) c.requires.within
 
 pub returns : goal.returns
 returns g c =

@@ -1,16 +1,13 @@
 use Rattle.std.specs.Prelude.{vec_capacity}
-use Rattle.std.proofs.Common.{◌∙◌, ◌++◌, ◌∷◌, [], List, ap, sym, subst}
+use Rattle.std.proofs.Common.{◌∙◌, ◌++◌, ◌∷◌, [], List, ap}
 use Rattle.mgs_session.specs.declared.Session.{Session}
-use Rattle.mgs_world.specs.Worlds.{world_of}
-use Rattle.mgs_world.specs.Sound.{IsSound}
 use Rattle.mgs_core.proofs.Sizes.{opened_sound}
-use Rattle.mgs_core.proofs.Openings.{opened_at, sound_undone, world_undone}
+use Rattle.mgs_core.proofs.Openings.{opened_at, world_undone}
 use Rattle.mgs_core.proofs.server.add_session.Goals as goal
 
 pub returns-in-Ok-first_window_marks-clause-sound : goal.returns-in-Ok-first_window_marks-clause-sound
 returns-in-Ok-first_window_marks-clause-sound g c =
-    subst (λ (xs : List Session). IsSound c.first_window_marks.new.buffers xs)
-    (sym (c.push_reserved.ensures.items ∙ ap (λ (xs : List Session). xs ++ c.opened.result ∷ []) c.reserve.ensures.items ∙ ap (λ (x : Session). c.args.world.now.sessions.items ++ x ∷ []) c.opened.ensures))
+    rw (c.push_reserved.ensures.items, c.reserve.ensures.items, c.opened.ensures)
     (opened_sound c.args.world.now.buffers c.first_window_marks.new.buffers c.args.world.now.sessions.items c.args.id c.args.user c.args.rows c.args.cols c.in-Ok-first_window_marks.shows (vec_capacity c.in-Ok.places) c.requires.sound c.in-Ok-first_window_marks.ensures.ok)
 
 pub returns-in-Ok-first_window_marks-clause-world : goal.returns-in-Ok-first_window_marks-clause-world
@@ -21,10 +18,4 @@ returns-in-Ok-first_window_marks-clause-world g c =
 
 pub returns-in-Err-clause-err_world : goal.returns-in-Err-clause-err_world
 returns-in-Err-clause-err_world g c next =
-    ap (λ (xs : List Session). world_of c.args.world.now.directory c.first_window_marks.new.buffers xs next) c.reserve.ensures.items
-    ∙ world_undone c.args.world.now.directory c.args.world.now.buffers c.first_window_marks.new.buffers c.args.world.now.sessions.items next c.requires.sound c.in-Err.ensures.err
-
-pub returns-in-Err-clause-sound : goal.returns-in-Err-clause-sound
-returns-in-Err-clause-sound g c =
-    subst (λ (xs : List Session). IsSound c.first_window_marks.new.buffers xs) (sym c.reserve.ensures.items)
-    (sound_undone c.args.world.now.buffers c.first_window_marks.new.buffers c.args.world.now.sessions.items c.requires.sound c.in-Err.ensures.err)
+    rw c.reserve.ensures.items (world_undone c.args.world.now.directory c.args.world.now.buffers c.first_window_marks.new.buffers c.args.world.now.sessions.items next c.requires.sound c.in-Err.ensures.err)

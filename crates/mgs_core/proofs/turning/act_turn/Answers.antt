@@ -1,7 +1,4 @@
-use Rattle.std.proofs.Common.{◌∙◌, List, None, refl, sym, subst, arith}
-use Rattle.mgs_cache.specs.Kept.{Kept}
-use Rattle.mgs_buffers.specs.Judging.{AreJudged, rules_kept}
-use Rattle.mgs_laws.specs.Apart.{Apart}
+use Rattle.std.proofs.Common.{◌∙◌, None, refl, arith}
 use Rattle.mgs_model.specs.declared.touched.Touched.TheVariants.{Nowhere}
 use Rattle.mgs_laws.proofs.Apart.{apart_same}
 use Rattle.mgs_world.specs.Worlds.{world_of}
@@ -19,8 +16,7 @@ returns-in-Ok-clause-judged g c =
     let v = world_of d c.do_byte_act.new.world.buffers c.do_byte_act.new.world.sessions.items None in
     let id = c.requires.place.0 in
     let t = c.in-Ok.touched in
-    subst (λ (keeps : List Kept). AreJudged d (rules_kept c.do_byte_act.new.world.buffers) keeps) (sym c.forget_touched.ensures)
-    (touched_judged d t id w v c.args.judge.now (byte_act_apart t c.args.was.now.mode c.args.act w v _ _ id _ (c.in-Ok.ensures.ok id None c.requires.place.1)) c.requires.judged)
+    rw c.forget_touched.ensures (touched_judged d t id w v c.args.judge.now (byte_act_apart t c.args.was.now.mode c.args.act w v _ _ id _ (c.in-Ok.ensures.ok id None c.requires.place.1)) c.requires.judged)
 
 pub returns-in-Ok-clause-sizes : goal.returns-in-Ok-clause-sizes
 returns-in-Ok-clause-sizes g c =
@@ -37,35 +33,23 @@ returns-in-Err-clause-judged g c =
     let d = c.args.world.now.directory in
     let w = world_of d c.args.world.now.buffers c.args.world.now.sessions.items None in
     let v = world_of d c.do_byte_act.new.world.buffers c.do_byte_act.new.world.sessions.items None in
-    let same = c.in-Err.ensures.err None in
-    touched_judged d Nowhere c.requires.place.0 w v c.args.judge.now (subst (Apart Nowhere c.requires.place.0 w) (sym same) (apart_same Nowhere c.requires.place.0 w)) c.requires.judged
+    touched_judged d Nowhere c.requires.place.0 w v c.args.judge.now (rw (c.in-Err.ensures.err None) (apart_same Nowhere c.requires.place.0 w)) c.requires.judged
 
 pub returns-in-Err-clause-sound : goal.returns-in-Err-clause-sound
 returns-in-Err-clause-sound g c =
-    let ys = c.do_byte_act.new.world.sessions.items in
-    let h = c.index_mut.result.now in
-    rw c.refuse.ensures (sound_set c.do_byte_act.new.world.buffers ys c.args.at h _ c.index_mut.ensures.value (λ n i. refl) c.do_byte_act.ensures.sound)
+    rw c.refuse.ensures (sound_set c.do_byte_act.new.world.buffers c.do_byte_act.new.world.sessions.items c.args.at c.index_mut.result.now _ c.index_mut.ensures.value (λ n i. refl) c.do_byte_act.ensures.sound)
 
 pub returns-in-Err-clause-sizes : goal.returns-in-Err-clause-sizes
 returns-in-Err-clause-sizes g c =
     let ys = c.do_byte_act.new.world.sessions.items in
-    let h = c.index_mut.result.now in
-    rw c.refuse.ensures (sizes_set ys c.args.at h _ c.index_mut.ensures.value refl)
+    rw c.refuse.ensures (sizes_set ys c.args.at c.index_mut.result.now _ c.index_mut.ensures.value refl)
     ∙ sizes_seen c.args.world.now.directory c.args.world.now.buffers c.do_byte_act.new.world.buffers c.args.world.now.sessions.items ys None (c.in-Err.ensures.err None)
 
 pub returns-in-Err-clause-err : goal.returns-in-Err-clause-err
-returns-in-Err-clause-err g c =
-    let d = c.args.world.now.directory in
-    let ks = c.args.world.now.buffers in
-    let ls = c.do_byte_act.new.world.buffers in
-    let xs = c.args.world.now.sessions.items in
-    let ys = c.do_byte_act.new.world.sessions.items in
-    let at = c.args.at in
-    let h = c.index_mut.result.now in
-    record {
-      wants = c.in-Err.ensures.wants;
-      told = λ x next is.
-          refused_in_world d ks ls xs ys next at x h c.refuse.new.session c.args.was.now
-          (omega (arith, c.requires.within, c.do_byte_act.ensures.count)) is c.index_mut.ensures.value c.refuse.ensures (c.in-Err.ensures.err next);
-      may = c.in-Err.ensures.may;
-    }
+returns-in-Err-clause-err g c = record {
+  wants = c.in-Err.ensures.wants;
+  told = λ x next is.
+      refused_in_world c.args.world.now.directory c.args.world.now.buffers c.do_byte_act.new.world.buffers c.args.world.now.sessions.items c.do_byte_act.new.world.sessions.items next c.args.at x c.index_mut.result.now c.refuse.new.session c.args.was.now
+      (omega (arith, c.requires.within, c.do_byte_act.ensures.count)) is c.index_mut.ensures.value c.refuse.ensures (c.in-Err.ensures.err next);
+  may = c.in-Err.ensures.may;
+}

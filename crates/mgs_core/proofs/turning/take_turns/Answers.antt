@@ -1,22 +1,17 @@
-use Rattle.std.proofs.Common.{◌≡◌, ◌∙◌, ℕ, ◌≤◌, ◌<◌, List, Option, length, refl, ap, sym, subst}
+use Rattle.std.proofs.Common.{◌≡◌, ◌∙◌, ℕ, ◌≤◌, refl, ap, sym, subst}
 use Rattle.std.specs.List.{position_or_len}
 use Rattle.std.proofs.lemmas.Bool.{and_parts}
-use Rattle.mgs_model.specs.Access.{Directory}
-use Rattle.mgs_model.specs.declared.touched.Touched.{Touched}
+use Rattle.mgs_model.specs.World.{State}
 use Rattle.mgs_model.specs.declared.touched.Touched.TheVariants.{Nowhere}
-use Rattle.mgs_buffers.specs.Judging.{AreJudged, rules_kept}
-use Rattle.mgs_laws.specs.Apart.{Apart}
 use Rattle.mgs_laws.proofs.Apart.{apart_same}
-use Rattle.mgs_session.specs.declared.Session.{Session}
 use Rattle.mgs_store.specs.Stores.{store_told}
 use Rattle.mgs_world.specs.Worlds.{session_id, state_at, world_of}
-use Rattle.mgs_core.specs.Held.{AreSettled}
-use Rattle.mgs_core.specs.Turns.{TurnedBy, goes_on, is_played}
+use Rattle.mgs_core.specs.Turns.{goes_on}
 use Rattle.mgs_core.proofs.Joined.{apart_both}
-use Rattle.mgs_core.proofs.Sizes.{place_same}
+use Rattle.mgs_core.proofs.Sizes.{place_same, within_still}
 use Rattle.mgs_core.proofs.Still.{alone_none, alone_then}
-use Rattle.mgs_core.proofs.Taken.{open_at, within_still}
-use Rattle.mgs_core.proofs.Turned.{event_next, event_over, goes_done, none_on, none_weight, starts}
+use Rattle.mgs_core.proofs.Taken.{open_state}
+use Rattle.mgs_core.proofs.Turned.{event_next, event_over, none_on, none_weight, starts}
 use Rattle.mgs_core.proofs.Stepped.{fit_none}
 use Rattle.mgs_seek.specs.Replacing.{remaining_at}
 use Rattle.mgs_core.proofs.turning.take_turns.Goals as goal
@@ -37,28 +32,10 @@ loop-keyed-init g c =
       touched = λ id place next. apart_same Nowhere id _;
     }
 
-pub goes_on-requires : goal.goes_on-requires
-goes_on-requires g c =
-    let l = c.loop-keyed in
-    subst (λ (xs : List Session). c.args.at < length xs) (sym c.deref.ensures.value) (within_still c.args.at c.args.world.now.sessions.items l.world.sessions.items c.requires.within l.invariant.sizes)
-
 pub take_turn-next-requires-clause-place : goal.take_turn-next-requires-clause-place
 take_turn-next-requires-clause-place g c =
     let place = c.requires.place in
     (place.0, place_same place.0 c.args.at c.args.world.now.sessions.items c.loop-keyed.world.sessions.items place.1 c.loop-keyed.invariant.sizes)
-
-pub take_turn-next-requires-clause-within : goal.take_turn-next-requires-clause-within
-take_turn-next-requires-clause-within g c = within_still c.args.at c.args.world.now.sessions.items c.loop-keyed.world.sessions.items c.requires.within c.loop-keyed.invariant.sizes
-
-pub take_turn-next-requires-clause-judged : goal.take_turn-next-requires-clause-judged
-take_turn-next-requires-clause-judged g c =
-    let l = c.loop-keyed in
-    subst (λ (d : Directory). AreJudged d (rules_kept l.world.buffers) l.judge) (sym l.invariant.directory) l.invariant.judged
-
-pub take_turn-next-requires-clause-fit : goal.take_turn-next-requires-clause-fit
-take_turn-next-requires-clause-fit g c =
-    let l = c.loop-keyed in
-    l.invariant.fit (goes_done l.keyed (state_at c.args.at l.world.sessions.items).todo (ap (λ (xs : List Session). goes_on l.keyed (state_at c.args.at xs).todo) (sym c.deref.ensures.value) ∙ sym c.goes_on.ensures ∙ c.loop-keyed-test.true))
 
 pub loop-keyed-preserved : goal.loop-keyed-preserved
 loop-keyed-preserved g c =
@@ -72,30 +49,27 @@ loop-keyed-preserved g c =
     let ls = t.new.world.buffers in
     let zs = t.new.world.sessions.items in
     let same = l.invariant.directory in
-    let on = ap (λ (zs : List Session). goes_on l.keyed (state_at c.args.at zs).todo) (sym c.deref.ensures.value) ∙ sym c.goes_on.ensures ∙ c.loop-keyed-test.true in
+    let on = sym (rw c.deref.ensures.value at c.goes_on.ensures) ∙ c.loop-keyed-test.true in
     let here = λ (id : ℕ) (place : c.args.at ≡ position_or_len (session_id id) xs). place_same id c.args.at xs ys place l.invariant.sizes in
-    let within : c.args.at < length ys = within_still c.args.at xs ys c.requires.within l.invariant.sizes in
     let told = store_told g.S.Store.failed g.S.Store.accepted in
     record {
       directory = t.ensures.directory ∙ same;
-      judged = subst (λ (e : Directory). AreJudged e (rules_kept ls) t.new.judge) same t.ensures.judged;
+      judged = rw same at t.ensures.judged;
       sound = t.ensures.sound;
       sizes = t.ensures.sizes ∙ l.invariant.sizes;
       event = λ id place next.
-          let turned = subst (λ (e : Directory). (next : Option ℕ) → TurnedBy (is_played (state_at c.args.at ys).todo) (state_at c.args.at zs).todo (world_of e ks ys next) (world_of e ls zs next) (told l.store) (told t.new.store) id t.result.0) same (t.ensures.turned id (here id place)) in
-          let x = open_at d ks ys next id c.args.at (here id place) within in
-          event_next id _ _ _ _ _ _ (remaining_at c.args.at ks ys) (remaining_at c.args.at ls zs) _ _ x.0 x.1 l.keyed t.result.0 on (l.invariant.event id place next) (turned next) t.ensures.less;
+          let x = open_state d ks ys next id c.args.at (here id place) (within_still c.args.at xs ys c.requires.within l.invariant.sizes) in
+          event_next id _ _ _ _ _ _ (remaining_at c.args.at ks ys) (remaining_at c.args.at ls zs) _ _ x.0 x.1 l.keyed t.result.0 on (l.invariant.event id place next) (rw same at (t.ensures.turned id (here id place) next)) t.ensures.less;
       fit = t.ensures.fit;
       stands = λ still.
           let both = and_parts l.stands t.result.2 still in
-          λ rests. subst (λ (e : Directory). AreSettled e ks ys → AreSettled e ls zs) same (t.ensures.stands both.1) (l.invariant.stands both.0 rests);
+          λ rests. (rw same at (t.ensures.stands both.1)) (l.invariant.stands both.0 rests);
       alone = λ still.
           let both = and_parts l.stands t.result.2 still in
           alone_then c.args.at w.buffers ks ls xs ys zs (l.invariant.alone both.0) (t.ensures.alone both.1);
       touched = λ id place next.
-          let apart = subst (λ (e : Directory). (next : Option ℕ) → Apart t.result.1 id (world_of e ks ys next) (world_of e ls zs next)) same (t.ensures.touched id (here id place)) in
-          subst (λ (s : Touched). Apart s id (world_of d w.buffers xs next) (world_of d ls zs next)) (sym c.touched_both-touched.ensures)
-          (apart_both l.touched t.result.1 id (world_of d w.buffers xs next) (world_of d ks ys next) (world_of d ls zs next) (l.invariant.touched id place next) (apart next));
+          rw c.touched_both-touched.ensures
+          (apart_both l.touched t.result.1 id (world_of d w.buffers xs next) (world_of d ks ys next) (world_of d ls zs next) (l.invariant.touched id place next) (rw same at (t.ensures.touched id (here id place) next)));
     }
 
 pub returns-clause-event : goal.returns-clause-event
@@ -104,8 +78,6 @@ returns-clause-event g c id first next =
     let l = c.loop-keyed in
     let ks = l.world.buffers in
     let ys = l.world.sessions.items in
-    let off = ap (λ (zs : List Session). goes_on l.keyed (state_at c.args.at zs).todo) (sym c.deref.ensures.value) ∙ sym c.goes_on.ensures ∙ c.loop-keyed-test.false in
-    let place = place_same id c.args.at xs ys first l.invariant.sizes in
-    let within : c.args.at < length ys = within_still c.args.at xs ys c.requires.within l.invariant.sizes in
-    let x = open_at c.args.world.now.directory ks ys next id c.args.at place within in
-    event_over id _ _ _ _ (remaining_at c.args.at ks ys) (state_at c.args.at ys).todo x.0 x.1 x.2 l.keyed (none_on l.keyed (state_at c.args.at ys).todo off) (l.invariant.event id first next)
+    let off = sym (rw c.deref.ensures.value at c.goes_on.ensures) ∙ c.loop-keyed-test.false in
+    let x = open_state c.args.world.now.directory ks ys next id c.args.at (place_same id c.args.at xs ys first l.invariant.sizes) (within_still c.args.at xs ys c.requires.within l.invariant.sizes) in
+    event_over id _ _ _ _ (remaining_at c.args.at ks ys) (state_at c.args.at ys).todo x.0 x.1 (ap (λ (o : State). o.todo) x.2) l.keyed (none_on l.keyed (state_at c.args.at ys).todo off) (l.invariant.event id first next)

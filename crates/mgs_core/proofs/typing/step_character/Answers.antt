@@ -6,46 +6,35 @@ use Rattle.mgs_session.specs.Seeking.{searching}
 use Rattle.mgs_session.specs.Sessions.{told, unbound}
 use Rattle.mgs_session.specs.declared.Session.{Session}
 use Rattle.mgs_session.specs.declared.search.Search.{Search}
-use Rattle.mgs_core.specs.declared.byte_acts.ByteAct.TheVariants as byte_acts
-use Rattle.mgs_core.specs.declared.keying.ByteStep.TheVariants.{Kept, Acts}
 use Rattle.mgs_core.specs.ByteSteps.{search_for}
-use Rattle.mgs_core.proofs.Sought.{character_held, search_breaks, search_puts, search_reads, still_search}
+use Rattle.mgs_core.proofs.Sought.{character_held, search_breaks, search_puts, search_reads}
 use Rattle.mgs_core.proofs.typing.step_character.Goals as goal
 
 pub returns-in-Begun : goal.returns-in-Begun
 returns-in-Begun c before directory ks =
     let y = c.args.session.now in
     let f = c.args.sought in
-    let s = search_for c.args.place (Find f) in
-    still_search directory ks y c.hold_on.new.session s c.args.byte before Kept c.requires.still
-    (search_reads directory ks y c.hold_on.new.session c.args.place f f c.args.byte before c.requires.alone c.requires.past
-    (sym c.feed_character-sequence.ensures.read ∙ c.in-Begun.is)
+    search_reads directory ks y c.hold_on.new.session c.args.place f f c.args.byte before c.requires.alone c.requires.past (sym c.feed_character-sequence.ensures.read ∙ c.in-Begun.is)
     (c.hold_on.ensures
-    ∙ ap (λ (z : Session). searching s (told Silent z))
-    (character_held y c.hold_keyboard.new.session c.feed_character-sequence.new.self c.feed_character-sequence.result Begun c.args.byte c.requires.still c.hold_keyboard.ensures c.feed_character-sequence.ensures.held c.in-Begun.is)))
+    ∙ ap (λ (z : Session). searching (search_for c.args.place (Find f)) (told Silent z))
+    (character_held y c.hold_keyboard.new.session c.feed_character-sequence.new.self c.feed_character-sequence.result Begun c.args.byte c.hold_keyboard.ensures c.feed_character-sequence.ensures.held c.in-Begun.is))
 
 pub returns-in-Whole : goal.returns-in-Whole
 returns-in-Whole c before directory ks =
     let y = c.args.session.now in
-    let f = c.args.sought in
     let g = c.put-step.new.self in
-    let e = Whole c.in-Whole.c in
-    still_search directory ks y c.hold_on-in-Whole.new.session (search_for c.args.place (Find f)) c.args.byte before (Acts (byte_acts.Seek c.put-step.result)) c.requires.still
-    (search_puts directory ks y c.hold_on-in-Whole.new.session c.args.place f g c.args.byte before c.requires.alone c.in-Whole.c c.put-step.result c.requires.past
+    search_puts directory ks y c.hold_on-in-Whole.new.session c.args.place c.args.sought g c.args.byte before c.requires.alone c.in-Whole.c c.put-step.result c.requires.past
     (sym c.feed_character-sequence.ensures.read ∙ c.in-Whole.is) c.put-step.ensures.step c.put-step.ensures.sought
     (c.hold_on-in-Whole.ensures
     ∙ ap (λ (z : Session). searching (search_for c.args.place (Find g)) (told Silent z))
-    (character_held y c.hold_keyboard.new.session c.feed_character-sequence.new.self c.feed_character-sequence.result e c.args.byte c.requires.still c.hold_keyboard.ensures c.feed_character-sequence.ensures.held c.in-Whole.is)))
+    (character_held y c.hold_keyboard.new.session c.feed_character-sequence.new.self c.feed_character-sequence.result (Whole c.in-Whole.c) c.args.byte c.hold_keyboard.ensures c.feed_character-sequence.ensures.held c.in-Whole.is))
 
 pub returns-in-Broken : goal.returns-in-Broken
 returns-in-Broken c before directory ks =
     let y = c.args.session.now in
     let f = c.args.sought in
-    let s = search_for c.args.place (Find f) in
-    still_search directory ks y c.hold_unbound.new.session s c.args.byte before Kept c.requires.still
-    (search_breaks directory ks y c.hold_unbound.new.session c.args.place f f c.args.byte before c.requires.alone c.requires.past
-    (sym c.feed_character-sequence.ensures.read ∙ c.in-Broken.is)
+    search_breaks directory ks y c.hold_unbound.new.session c.args.place f f c.args.byte before c.requires.alone c.requires.past (sym c.feed_character-sequence.ensures.read ∙ c.in-Broken.is)
     (c.hold_unbound.ensures
     ∙ ap (λ (t : Search). unbound (searching t c.hold_keyboard.new.session)) c.search_for.ensures
-    ∙ ap (λ (z : Session). unbound (searching s z))
-    (character_held y c.hold_keyboard.new.session c.feed_character-sequence.new.self c.feed_character-sequence.result Broken c.args.byte c.requires.still c.hold_keyboard.ensures c.feed_character-sequence.ensures.held c.in-Broken.is)))
+    ∙ ap (λ (z : Session). unbound (searching (search_for c.args.place (Find f)) z))
+    (character_held y c.hold_keyboard.new.session c.feed_character-sequence.new.self c.feed_character-sequence.result Broken c.args.byte c.hold_keyboard.ensures c.feed_character-sequence.ensures.held c.in-Broken.is))

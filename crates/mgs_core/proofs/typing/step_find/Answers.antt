@@ -1,23 +1,9 @@
-use Rattle.std.proofs.Common.{◌∙◌, ap, refl, sym}
-use Rattle.mgs_model.specs.declared.message.Message.TheVariants.{Silent}
-use Rattle.mgs_session.specs.declared.search.Aim.TheVariants.{Find}
-use Rattle.mgs_session.specs.Seeking.{search_left, searching}
-use Rattle.mgs_session.specs.Sessions.{told}
-use Rattle.mgs_session.specs.declared.Session.{Session}
-use Rattle.mgs_core.specs.declared.byte_acts.ByteAct.TheVariants as byte_acts
-use Rattle.mgs_core.specs.declared.keying.ByteStep.TheVariants.{Kept, Acts}
-use Rattle.mgs_core.specs.ByteSteps.{search_for}
-use Rattle.mgs_core.proofs.Sought.{foreign_step, read_again, read_at, search_ends, search_on, search_quits, still_search}
+use Rattle.std.proofs.Common.{◌∙◌, refl, sym}
+use Rattle.mgs_core.proofs.Sought.{foreign_step, read_again, read_at, search_ends, search_on, search_quits}
 use Rattle.mgs_core.proofs.typing.step_find.Goals as goal
 
 pub returns-then-is_character_byte : goal.returns-then-is_character_byte
 returns-then-is_character_byte c directory ks = c.step_character.ensures c.args.before.now directory ks
-
-pub step_character-requires-clause-past : goal.step_character-requires-clause-past
-step_character-requires-clause-past c = sym c.is_character_byte.ensures ∙ c.if-is_character_byte.true
-
-pub step_foreign-requires-clause-ascii : goal.step_foreign-requires-clause-ascii
-step_foreign-requires-clause-ascii c = sym c.is_character_byte.ensures ∙ c.if-is_character_byte.false
 
 pub step_foreign-requires-clause-leaves : goal.step_foreign-requires-clause-leaves
 step_foreign-requires-clause-leaves c =
@@ -26,14 +12,8 @@ step_foreign-requires-clause-leaves c =
 
 pub returns-in-Ends : goal.returns-in-Ends
 returns-in-Ends c directory ks =
-    let y = c.args.session.now in
-    let f = c.args.sought in
-    let g = c.feed.new.self in
-    still_search directory ks y c.leave_search.new.session (search_for c.args.place (Find f)) c.args.byte c.args.before.now Kept c.requires.still
-    (search_ends directory ks y c.leave_search.new.session c.args.place f g c.args.byte c.args.before.now c.requires.alone
-    (sym c.is_character_byte.ensures ∙ c.if-is_character_byte.false)
-    (read_at y.state.pattern _ f g c.args.byte _ _ c.as_slice.ensures.value c.feed.ensures c.in-Ends.is)
-    (c.leave_search.ensures ∙ ap (search_left g.pattern) c.requires.still))
+    search_ends directory ks c.args.session.now c.leave_search.new.session c.args.place c.args.sought c.feed.new.self c.args.byte c.args.before.now c.requires.alone (sym c.is_character_byte.ensures ∙ c.if-is_character_byte.false)
+    (read_at c.args.session.now.state.pattern _ c.args.sought c.feed.new.self c.args.byte _ _ c.as_slice.ensures.value c.feed.ensures c.in-Ends.is) c.leave_search.ensures
 
 pub returns-in-Leaves : goal.returns-in-Leaves
 returns-in-Leaves c directory ks =
@@ -43,21 +23,10 @@ returns-in-Leaves c directory ks =
 
 pub returns-in-Quits : goal.returns-in-Quits
 returns-in-Quits c directory ks =
-    let y = c.args.session.now in
-    let f = c.args.sought in
-    let g = c.feed.new.self in
-    still_search directory ks y c.hold_on.new.session (search_for c.args.place (Find f)) c.args.byte c.args.before.now (Acts byte_acts.QuitSearch) c.requires.still
-    (search_quits directory ks y c.hold_on.new.session c.args.place f g c.args.byte c.args.before.now c.requires.alone
-    (sym c.is_character_byte.ensures ∙ c.if-is_character_byte.false)
-    (read_at y.state.pattern _ f g c.args.byte _ _ c.as_slice.ensures.value c.feed.ensures c.in-Quits.is)
-    (c.hold_on.ensures ∙ ap (λ (z : Session). searching (search_for c.args.place (Find g)) (told Silent z)) c.requires.still))
+    search_quits directory ks c.args.session.now c.hold_on.new.session c.args.place c.args.sought c.feed.new.self c.args.byte c.args.before.now c.requires.alone (sym c.is_character_byte.ensures ∙ c.if-is_character_byte.false)
+    (read_at c.args.session.now.state.pattern _ c.args.sought c.feed.new.self c.args.byte _ _ c.as_slice.ensures.value c.feed.ensures c.in-Quits.is) c.hold_on.ensures
 
 pub returns-in_default : goal.returns-in_default
 returns-in_default c directory ks =
-    let y = c.args.session.now in
-    let f = c.args.sought in
-    let g = c.feed.new.self in
-    still_search directory ks y c.hold_on-in_default.new.session (search_for c.args.place (Find f)) c.args.byte c.args.before.now (Acts (byte_acts.Seek c.feed.result)) c.requires.still
-    (search_on directory ks y c.hold_on-in_default.new.session c.args.place f g c.args.byte c.args.before.now c.requires.alone c.feed.result (sym c.is_character_byte.ensures ∙ c.if-is_character_byte.false) c.in_default.not-Ends c.in_default.not-Quits c.in_default.not-Leaves
-    (read_at y.state.pattern _ f g c.args.byte _ _ c.as_slice.ensures.value c.feed.ensures refl)
-    (c.hold_on-in_default.ensures ∙ ap (λ (z : Session). searching (search_for c.args.place (Find g)) (told Silent z)) c.requires.still))
+    search_on directory ks c.args.session.now c.hold_on-in_default.new.session c.args.place c.args.sought c.feed.new.self c.args.byte c.args.before.now c.requires.alone c.feed.result (sym c.is_character_byte.ensures ∙ c.if-is_character_byte.false) c.in_default.not-Ends c.in_default.not-Quits c.in_default.not-Leaves
+    (read_at c.args.session.now.state.pattern _ c.args.sought c.feed.new.self c.args.byte _ _ c.as_slice.ensures.value c.feed.ensures refl) c.hold_on-in_default.ensures

@@ -1,13 +1,10 @@
-use Rattle.std.proofs.Common.{get_or, ap, subst}
-use Rattle.mgs_world.specs.Sound.{IsSessionSound}
+use Rattle.std.proofs.Common.{get_or, ap}
 use Rattle.mgs_world.proofs.Soundness.{session_sound}
 use Rattle.mgs_seek.proofs.Lifts.{acts_sound, acts_with, fresh_at}
 use Rattle.mgs_seek.proofs.seeking.start_search.Goals as goal
 
 pub begin_in-requires-clause-sound : goal.begin_in-requires-clause-sound
-begin_in-requires-clause-sound g c =
-    subst (IsSessionSound c.args.buffers.now) c.index-sessions-at.is
-    (session_sound c.args.buffers.now c.args.sessions.now c.args.at c.index-sessions-at.result c.requires.sound c.index-sessions-at.is c.requires.within)
+begin_in-requires-clause-sound g c = session_sound c.args.buffers.now c.args.sessions.now c.args.at _ c.requires.sound (ap (get_or c.args.sessions.now c.args.at) c.index-sessions-at.is) c.requires.within
 
 pub begin_in-requires-clause-fresh : goal.begin_in-requires-clause-fresh
 begin_in-requires-clause-fresh g c = fresh_at c.args.sessions.now c.args.at _ (ap (get_or c.args.sessions.now c.args.at) c.index-sessions-at.is) c.requires.within c.requires.fresh

@@ -3,7 +3,7 @@ use Rattle.mgs_buffers.specs.MarkedBuffer.{marked_at}
 use Rattle.mgs_session.specs.declared.search.Edited.{Edited}
 use Rattle.mgs_seek.specs.Planning.{IsPlan, edit_planned, put_by}
 use Rattle.mgs_seek.proofs.Puts.{within_text}
-use Rattle.mgs_seek.proofs.replacing.plan_at.Goals as goal
+use Rattle.mgs_seek.proofs.query_replace.plan_at.Goals as goal
 
 pub is_full-requires-clause-within : goal.is_full-requires-clause-within
 is_full-requires-clause-within g c =
@@ -32,5 +32,5 @@ returns-clause-ok g c =
           (subst (λ (t : List ℕ). IsPlan t c.min-anchor.result r c.args.last c.plan-plan.result) c.text_at.ensures.text c.plan-plan.ensures);
       room = sym (c.is_full.ensures (put_by b r.put) (sym (ap (λ (q : Edited). q.added) c.edit_planned-edit.ensures.value))) ∙ c.if-is_full.false;
       fits = omega (arith, c.edit_planned-edit.ensures.few, ap (λ (q : Edited). q.size) c.edit_planned-edit.ensures.value, c.text_len_at-size.ensures.limit);
-      count = subst (λ (n : ℕ). n < 2 ^ 64) c.count-count.ensures.value c.count-count.ensures.small;
+      count = subst (λ (n : ℕ). n < 2 ^ 64) c.count.ensures.value c.count.ensures.small;
     }

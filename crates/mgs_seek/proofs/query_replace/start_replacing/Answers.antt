@@ -1,13 +1,10 @@
-use Rattle.std.proofs.Common.{get_or, ap, subst}
-use Rattle.mgs_world.specs.Sound.{IsSessionSound}
+use Rattle.std.proofs.Common.{get_or, ap}
 use Rattle.mgs_world.proofs.Soundness.{session_sound}
 use Rattle.mgs_seek.proofs.Lifts.{acts_sound, acts_with, fresh_at}
-use Rattle.mgs_seek.proofs.replacing.start_replacing.Goals as goal
+use Rattle.mgs_seek.proofs.query_replace.start_replacing.Goals as goal
 
 pub start_in-requires-clause-sound : goal.start_in-requires-clause-sound
-start_in-requires-clause-sound g c =
-    subst (IsSessionSound c.args.buffers.now) c.index-sessions-at.is
-    (session_sound c.args.buffers.now c.args.sessions.now c.args.at c.index-sessions-at.result c.requires.sound c.index-sessions-at.is c.requires.within)
+start_in-requires-clause-sound g c = session_sound c.args.buffers.now c.args.sessions.now c.args.at _ c.requires.sound (ap (get_or c.args.sessions.now c.args.at) c.index-sessions-at.is) c.requires.within
 
 pub start_in-requires-clause-fresh : goal.start_in-requires-clause-fresh
 start_in-requires-clause-fresh g c = fresh_at c.args.sessions.now c.args.at _ (ap (get_or c.args.sessions.now c.args.at) c.index-sessions-at.is) c.requires.within c.requires.fresh

@@ -8,7 +8,7 @@ use Rattle.mgs_plan.specs.Deciding.{IsActionGranted, Refuses}
 use Rattle.mgs_plan.specs.declared.action.Action.TheVariants.{Fails}
 use Rattle.mgs_plan.proofs.Granted.{action_granted}
 use Rattle.mgs_plan.proofs.Searches.{reading_decided, search_denied, search_granted}
-use Rattle.mgs_plan.proofs.searching.plan.Goals as goal
+use Rattle.mgs_plan.proofs.typed_search.plan.Goals as goal
 
 pub returns-in-None-clause-value : goal.returns-in-None-clause-value
 returns-in-None-clause-value g c =

@@ -1,15 +1,12 @@
-use Rattle.std.proofs.Common.{get_or, ap, subst}
+use Rattle.std.proofs.Common.{get_or, ap}
 use Rattle.mgs_session.specs.declared.Session.{Session}
-use Rattle.mgs_world.specs.Sound.{IsSessionSound}
 use Rattle.mgs_world.proofs.Soundness.{session_sound}
 use Rattle.mgs_seek.proofs.Done.{can_at, done_act, done_further, done_sound, done_tells, put_may, unsought_never, fails_act, fails_further, fails_none, fails_sound, fails_tells, seen_at}
 use Rattle.mgs_seek.proofs.Lifts.{found_at}
-use Rattle.mgs_seek.proofs.replacing.replace.Goals as goal
+use Rattle.mgs_seek.proofs.query_replace.replace.Goals as goal
 
 pub plan_in-requires : goal.plan_in-requires
-plan_in-requires g c =
-    subst (IsSessionSound c.args.buffers.now) c.index-sessions-at.is
-    (session_sound c.args.buffers.now c.args.sessions.now c.args.at c.index-sessions-at.result c.requires.sound c.index-sessions-at.is c.requires.within)
+plan_in-requires g c = session_sound c.args.buffers.now c.args.sessions.now c.args.at _ c.requires.sound (ap (get_or c.args.sessions.now c.args.at) c.index-sessions-at.is) c.requires.within
 
 pub perform-requires-clause-can : goal.perform-requires-clause-can
 perform-requires-clause-can g c =

@@ -1,5 +1,5 @@
 use Rattle.mgs_seek.proofs.Replaces.{planned_err, planned_ok, sought_fails}
-use Rattle.mgs_seek.proofs.replacing.plan_in.Goals as goal
+use Rattle.mgs_seek.proofs.query_replace.plan_in.Goals as goal
 
 pub returns-in-Err-clause-err : goal.returns-in-Err-clause-err
 returns-in-Err-clause-err g c = sought_fails c.args.directory.now c.args.buffers.now c.args.session.now c.args.last c.in-Err.message c.in-Err.ensures.err

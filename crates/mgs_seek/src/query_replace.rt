@@ -143,8 +143,7 @@ fn meet<T: Marked + Drop>(
     ensures buffers { buffers.new ≡ buffers_met window_marks.now search to.next to.left buffers.old }
     ensures session { session.new ≡ session_met to.next search session.old }
 {
-    // For the limit of a text.
-    let _size = buffers.text_len_at(&window_marks.name, at);
+    prove!(buffers.is_within_limit(&window_marks.name));
     let name = &window_marks.name;
     let size = replaced_text(&search).len();
     match to.next {
@@ -228,8 +227,7 @@ fn plan_at<T: Marked + Drop>(
     ensures ok { IfOk result (PlannedAt buffers.now window_marks.now anchor replacing.now last) }
     ensures err { IfErr result (FullAt buffers.now window_marks.now anchor replacing.now last) }
 {
-    // For the range of a count.
-    let _count = replacing.count();
+    prove!(replacing.count() <= usize::MAX);
     let name = &window_marks.name;
     let place = buffers.place_of(name);
     let size = buffers.text_len_at(name, place);
@@ -326,8 +324,7 @@ fn leave<T: Marked + Drop>(buffers: &mut Buffers<T>, session: &mut Session, plan
     requires next { NextFits buffers.old session.old.state.search planned.now }
     ensures { (s : Search) → session.old.state.search ≡ Some s → IsLeft planned.now s buffers.old buffers.new session.old session.new }
 {
-    // For the limit of a text.
-    let _size = buffers.text_len_at(&planned.window_marks.name, planned.place);
+    prove!(buffers.is_within_limit(&planned.window_marks.name));
     match take_search(session) {
         None => {}
         Some(search) => {
@@ -449,8 +446,7 @@ fn skip_in<T: Marked + Drop>(buffers: &mut Buffers<T>, directory: &Directory, se
         Err(message) => fail(session, message),
         Ok(window_marks) => match take_replacing(session) {
             Some(search) => {
-                // For the range of a count.
-                let _count = replaced_count(&search);
+                prove!(replaced_count(&search) <= usize::MAX);
                 let name = &window_marks.name;
                 let at = buffers.place_of(name);
                 let anchor = search.anchor.min(buffers.text_len_at(name, at));

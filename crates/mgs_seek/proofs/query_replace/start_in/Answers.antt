@@ -6,7 +6,7 @@ use Rattle.mgs_seek.proofs.Meets.{only_met}
 use Rattle.mgs_seek.proofs.Skips.{as_read, within_read}
 use Rattle.mgs_search.specs.Planned.{IsBegun}
 use Rattle.mgs_seek.proofs.Starts.{replace_begins, start_fails, start_refused}
-use Rattle.mgs_seek.proofs.replacing.start_in.Goals as goal
+use Rattle.mgs_seek.proofs.query_replace.start_in.Goals as goal
 
 pub returns-in-Err-clause-does : goal.returns-in-Err-clause-does
 returns-in-Err-clause-does g c =

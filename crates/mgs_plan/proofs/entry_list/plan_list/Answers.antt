@@ -1,7 +1,7 @@
 use Rattle.std.proofs.Common.{sym, ◌∙◌}
 use Rattle.mgs_plan.proofs.Listings.{list_planned, list_unshown}
 use Rattle.mgs_plan.proofs.Rulings.{no_empty_name}
-use Rattle.mgs_plan.proofs.listing.plan_list.Goals as goal
+use Rattle.mgs_plan.proofs.entry_list.plan_list.Goals as goal
 
 pub returns-in_default-clause-value : goal.returns-in_default-clause-value
 returns-in_default-clause-value g c = λ n xs next.

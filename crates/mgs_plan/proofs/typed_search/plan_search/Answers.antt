@@ -5,7 +5,7 @@ use Rattle.mgs_plan.specs.Searching.{sought}
 use Rattle.mgs_plan.specs.Actions.{AreMarks}
 use Rattle.mgs_world.proofs.Soundness.{mark_is_kept}
 use Rattle.mgs_plan.proofs.Decided.{search_planned, search_unshown}
-use Rattle.mgs_plan.proofs.searching.plan_search.Goals as goal
+use Rattle.mgs_plan.proofs.typed_search.plan_search.Goals as goal
 
 pub returns-in_default-clause-value : goal.returns-in_default-clause-value
 returns-in_default-clause-value g c = λ n xs next.

@@ -3,7 +3,7 @@ use Rattle.std.proofs.lemmas.Option.{get_or_from_slice_get, slice_get-get_or}
 use Rattle.mgs_session.specs.declared.Session.{Session}
 use Rattle.mgs_seek.specs.Planning.{buffers_edited}
 use Rattle.mgs_seek.proofs.Done.{behind_then, done_by, follows, mark_then, next_then, place_then, went_at}
-use Rattle.mgs_seek.proofs.replacing.perform.Goals as goal
+use Rattle.mgs_seek.proofs.query_replace.perform.Goals as goal
 
 pub edit-requires : goal.edit-requires
 edit-requires g c = c.requires.can _ (slice_get-get_or c.args.sessions.now c.args.at c.index-sessions-at.result c.requires.within)
