@@ -11,7 +11,7 @@ use Rattle.mgs_model.specs.Outcome.{Effect, Keep_position, Keep_mark, Mark_at}
 use Rattle.mgs_model.specs.Plans as plans
 use Rattle.mgs_model.specs.Acts.{edit_of, fails, finished, is_too_large}
 use Rattle.mgs_model.specs.Apply.{apply, buffers_after, change_at, change_first, session_after, session_arranged, window_adjusted}
-use Rattle.mgs_model.specs.declared.message.Message.TheVariants.{KillTooLarge}
+use Rattle.mgs_model.specs.declared.echo_text.Message.TheVariants.{KillTooLarge}
 use Rattle.mgs_model.proofs.Firsts.{position_or_len-map}
 use Rattle.mgs_marks.specs.Marks.{mark_in}
 use Rattle.mgs_buffers.specs.MarkedBuffer.{HasBuffer, IsMark, MarkedBuffer, marked_at, marked_named, marked_or_none, marked_placed, marked_unmodified, with_marks}

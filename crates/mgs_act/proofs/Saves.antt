@@ -12,7 +12,7 @@ use Rattle.mgs_model.specs.World.{has_id}
 use Rattle.mgs_model.specs.World as model
 use Rattle.mgs_model.specs.Plans.{acted_state}
 use Rattle.mgs_model.specs.Apply.{apply, change_first, session_arranged}
-use Rattle.mgs_model.specs.declared.message.Message.TheVariants.{Wrote}
+use Rattle.mgs_model.specs.declared.echo_text.Message.TheVariants.{Wrote}
 use Rattle.mgs_model.specs.declared.session.Kind.TheVariants.{Other}
 use Rattle.mgs_model.proofs.Firsts.{position_or_len-map, written_first}
 use Rattle.mgs_buffers.specs.MarkedBuffer.{MarkedBuffer, marked_named, marked_unmodified}

@@ -1,7 +1,7 @@
 -- A setting keeps a session's marks and its size.
 use Rattle.std.proofs.Common.{◌≡◌, ℕ, List, Bool, true, false, cond, Option, None, Some, refl}
 use Rattle.std.specs.Prelude.{◌==◌, ◌||◌}
-use Rattle.mgs_model.specs.declared.message.Message.TheVariants.{BadColumn, InMacro, NotInMacro}
+use Rattle.mgs_model.specs.declared.echo_text.Message.TheVariants.{BadColumn, InMacro, NotInMacro}
 use Rattle.mgs_model.specs.declared.session.Kind.TheVariants.{Other}
 use Rattle.mgs_model.specs.declared.session.Setting.{Setting}
 use Rattle.mgs_model.specs.declared.session.Setting.TheVariants.{SetFillColumn, KeyboardQuit, StartMacro, EndMacro, CallMacro}

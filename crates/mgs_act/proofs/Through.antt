@@ -11,7 +11,7 @@ use Rattle.mgs_model.specs.Outcome.{Effect, No_effect, Edit, Adjust, Keep_search
 use Rattle.mgs_model.specs.Plans as plans
 use Rattle.mgs_model.specs.Text.{is_edit}
 use Rattle.mgs_model.specs.World.{State}
-use Rattle.mgs_model.specs.declared.message.Message.TheVariants.{KillTooLarge}
+use Rattle.mgs_model.specs.declared.echo_text.Message.TheVariants.{KillTooLarge}
 use Rattle.mgs_model.specs.declared.touched.Touched.{Touched}
 use Rattle.mgs_buffers.specs.MarkedBuffer.{MarkedBuffer, marked_at}
 use Rattle.mgs_session.specs.declared.Session.{Session}

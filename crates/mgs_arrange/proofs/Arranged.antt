@@ -11,8 +11,8 @@ use Rattle.mgs_model.specs.Plans.{acted_state, arrangement, comes, count_of, fai
 use Rattle.mgs_model.specs.Acts.{arranges, outcome}
 use Rattle.mgs_model.specs.Apply.{act, applied, apply, change_at, change_first, comer, outcome_in, places_left, is_search_mode, session_arranged, window_at}
 use Rattle.mgs_model.specs.declared.limits.TheConstants.{WINDOW_LIMIT}
-use Rattle.mgs_model.specs.declared.message.Message.{Message}
-use Rattle.mgs_model.specs.declared.message.Message.TheVariants.{OnlyOneWindow, WindowTooSmall, TooManyWindows, ImpossibleChange}
+use Rattle.mgs_model.specs.declared.echo_text.Message.{Message}
+use Rattle.mgs_model.specs.declared.echo_text.Message.TheVariants.{OnlyOneWindow, WindowTooSmall, TooManyWindows, ImpossibleChange}
 use Rattle.mgs_model.specs.declared.session.Arrangement.{Arrangement}
 use Rattle.mgs_model.specs.declared.session.Arrangement.TheVariants.{DeleteWindow, DeleteOtherWindows, SplitWindow, NextWindow, PreviousWindow, EnlargeWindow, ShrinkWindow, ListBuffers}
 use Rattle.mgs_model.specs.declared.session.Command.TheVariants.{Rearrange}

@@ -3,7 +3,7 @@ use Rattle.std.proofs.Common.{◌≡◌, ℕ, ◌<◌, ◌≤◌, Bool, true, fa
 use Rattle.std.specs.Prelude.{nat_le, Ok, Err}
 use Rattle.std.proofs.lemmas.Bool.Decides.{nat_tests}
 use Rattle.mgs_model.specs.Apply.{change_at}
-use Rattle.mgs_model.specs.declared.message.Message.TheVariants.{ImpossibleChange}
+use Rattle.mgs_model.specs.declared.echo_text.Message.TheVariants.{ImpossibleChange}
 use Rattle.mgs_buffers.specs.MarkedBuffer.{MarkedBuffer}
 use Rattle.mgs_windows.specs.Panes as panes
 use Rattle.mgs_windows.specs.Panes.{given, height_at}

@@ -9,7 +9,7 @@ use Rattle.mgs_model.specs.World.{Buffer_of}
 use Rattle.mgs_model.specs.World as model
 use Rattle.mgs_model.specs.Apply.{change_at, window_at}
 use Rattle.mgs_model.specs.declared.limits.TheConstants.{WINDOW_LIMIT}
-use Rattle.mgs_model.specs.declared.message.Message.TheVariants.{WindowTooSmall, TooManyWindows}
+use Rattle.mgs_model.specs.declared.echo_text.Message.TheVariants.{WindowTooSmall, TooManyWindows}
 use Rattle.mgs_model.specs.declared.session.Arrangement.TheVariants.{SplitWindow}
 use Rattle.mgs_buffers.specs.MarkedBuffer.{MarkedBuffer, mark_at}
 use Rattle.mgs_windows.specs.Panes as panes

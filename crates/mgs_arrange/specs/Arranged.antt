@@ -4,8 +4,8 @@ use Rattle.mgs_model.specs.World.{Place, Window, Session, Shows, Listing}
 use Rattle.mgs_model.specs.Plans.{count_of, heir, neighbor}
 use Rattle.mgs_model.specs.Apply.{change_at, left_places, window_at}
 use Rattle.mgs_windows.specs.Panes.{closer}
-use Rattle.mgs_model.specs.declared.message.Message.{Message}
-use Rattle.mgs_model.specs.declared.message.Message.TheVariants.{OnlyOneWindow, WindowTooSmall, TooManyWindows, ImpossibleChange}
+use Rattle.mgs_model.specs.declared.echo_text.Message.{Message}
+use Rattle.mgs_model.specs.declared.echo_text.Message.TheVariants.{OnlyOneWindow, WindowTooSmall, TooManyWindows, ImpossibleChange}
 use Rattle.mgs_model.specs.declared.session.Arrangement.{Arrangement}
 use Rattle.mgs_model.specs.declared.session.Kind.TheVariants.{Other}
 use Rattle.mgs_model.specs.declared.session.Arrangement.TheVariants.{DeleteWindow, DeleteOtherWindows, SplitWindow, NextWindow, PreviousWindow, EnlargeWindow, ShrinkWindow, ListBuffers}

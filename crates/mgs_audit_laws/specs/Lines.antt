@@ -3,9 +3,8 @@ use Rattle.std.specs.Prelude.{◌≡◌, ℕ, suc, ◌+◌, Bool, List, [], ◌�
 use Rattle.std.specs.List.{flat_map}
 use Rattle.mgs_model.specs.Names.{same_name}
 use Rattle.mgs_model.specs.declared.entry.Decision.{Decision}
-use Rattle.mgs_model.specs.declared.owners.Owners.{Owners}
-use Rattle.mgs_model.specs.declared.message.Message.{Message}
-use Rattle.mgs_model.specs.declared.message.Message.TheVariants.{Denied}
+use Rattle.mgs_model.specs.declared.echo_text.Message.{Message}
+use Rattle.mgs_model.specs.declared.echo_text.Message.TheVariants.{Denied}
 use Rattle.mgs_model.specs.Outcome.{Effect, SetList, SetOwners, Create, Kill, Save}
 use Rattle.mgs_model.specs.Apply.{change_first, remove_first, new_buffer, owners_after}
 use Rattle.mgs_model.specs.World.{World, Session, find_session}

@@ -1,5 +1,5 @@
 -- Standard streams are open.
-use Rattle.std.proofs.Common.{◌≡◌, ◌+◌, ◌<◌, ◌≤◌, ℕ, Option, None, Some, arith}
+use Rattle.std.proofs.Common.{◌+◌, ◌<◌, ◌≤◌, ℕ, Option, None, Some, arith}
 use Rattle.std.specs.Prelude.{IfSome}
 use Rattle.mgs_command.specs.Streams.{IsOpened}
 

@@ -7,7 +7,7 @@ use Rattle.mgs_model.specs.Access.{Directory}
 use Rattle.mgs_model.specs.World.{State, World, Buffer, Session, Todo, find_session, has_id}
 use Rattle.mgs_model.specs.Apply.{change_first, remove_first, is_search_mode}
 use Rattle.mgs_model.specs.Events.{begun_if, begun_state, state_set, with_state}
-use Rattle.mgs_model.specs.declared.message.Message.TheVariants.{MacroTooLong}
+use Rattle.mgs_model.specs.declared.echo_text.Message.TheVariants.{MacroTooLong}
 use Rattle.mgs_model.specs.declared.session.Kind.TheVariants.{Other}
 use Rattle.mgs_buffers.specs.MarkedBuffer.{MarkedBuffer}
 use Rattle.mgs_session.specs.Playing.{byte_typed, stopped}

@@ -10,8 +10,8 @@ use Rattle.mgs_model.specs.SearchCommands.{Failing, Goes_on, Keep_mode, ModePlan
 use Rattle.mgs_model.specs.Acts.{Target, allowed, around_search, edit_of, fails, failing_in, is_full, judged, mode_left, needs, outcome, permitted, replaced_by, replaces_one, search_finished, target, without_all}
 use Rattle.mgs_model.specs.declared.entry.Decision.{Decision}
 use Rattle.mgs_model.specs.declared.entry.Decision.TheVariants.{Granted}
-use Rattle.mgs_model.specs.declared.message.Message.{Message}
-use Rattle.mgs_model.specs.declared.message.Message.TheVariants.{BufferFull, NoBuffer, Silent}
+use Rattle.mgs_model.specs.declared.echo_text.Message.{Message}
+use Rattle.mgs_model.specs.declared.echo_text.Message.TheVariants.{BufferFull, NoBuffer, Silent}
 use Rattle.mgs_model.specs.declared.session.Replacement.{Replacement}
 use Rattle.mgs_model.specs.declared.session.Command.TheVariants.{Replace}
 use Rattle.mgs_model.specs.declared.session.Mode.TheVariants.{Replacing}

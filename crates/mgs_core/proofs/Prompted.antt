@@ -1,7 +1,7 @@
 -- A byte of a session at a prompt.
 use Rattle.std.proofs.Common.{◌≡◌, ℕ, Bool, true, cond, List, [], Option, Some, None, refl, sym, ap, subst, ◌∙◌}
 use Rattle.mgs_model.specs.Access.{Directory}
-use Rattle.mgs_model.specs.Commands.{command_names, find_command}
+use Rattle.mgs_model.specs.Commands.{command_names, find_command, command_for, names_buffers, names_commands}
 use Rattle.mgs_model.specs.Keys.{value_of}
 use Rattle.mgs_model.specs.World.{World}
 use Rattle.mgs_model.specs.World as model
@@ -10,11 +10,10 @@ use Rattle.mgs_model.specs.Outcome.{Act, Run}
 use Rattle.mgs_model.specs.Apply.{outcome_in}
 use Rattle.mgs_model.specs.Completion.{completion, shown_names}
 use Rattle.mgs_mini.specs.Narrowing.{granted_names}
-use Rattle.mgs_model.specs.Questions.{command_for, names_buffers, names_commands}
 use Rattle.mgs_model.specs.Turns.{Keep, Do, command_turn, answer_turn, completed, named_turn, names_completed, plain_state, prompt_turn, unbound_state}
 use Rattle.mgs_model.specs.Events.{refused_state}
 use Rattle.mgs_laws.specs.Refusals.{may_be_refused}
-use Rattle.mgs_model.specs.declared.message.Message.TheVariants.{Silent, NoMemory, NoSuchCommand, Quitting}
+use Rattle.mgs_model.specs.declared.echo_text.Message.TheVariants.{Silent, NoMemory, NoSuchCommand, Quitting}
 use Rattle.mgs_model.specs.declared.session.Command.{Command}
 use Rattle.mgs_model.specs.declared.session.Mode.TheVariants.{Prompt}
 use Rattle.mgs_model.specs.declared.session.Question.{Question}
@@ -54,7 +53,7 @@ use Rattle.mgs_core.proofs.Stepped.{command_step, further_same, left_same, none_
 -- WHAT AN ANSWER IS FOR
 
 -- the act of a question whose answer is for a command of its own
-asked_turn : (c : Question) → is_answered c ≡ true → (state : model.State) → answer_turn c state ≡ Do (plain_state state) (Run (command_for c) (value_of state.argument) (meant c state.pattern state.input))
+asked_turn : (c : Question) → is_answered c ≡ true → (state : model.State) → answer_turn c state ≡ Do (plain_state state) (Run (command_for c) (value_of state.argument) (meant (command_for c) state.pattern state.input))
 asked_turn RunWhich h state = cc
 asked_turn ReplaceWhat h state = cc
 asked_turn ReplaceWith h state = cc
@@ -143,11 +142,11 @@ plain_rests : (y : Session) (p : PromptInput) → p.waiting ≡ NoKey → p.firs
 plain_rests y p none first = λ i. record (idle (state_of (unsearched y).state)) { keys = keys_of (none i); old = first i }
 
 asked_at : (v : View) (y : Session) (p : PromptInput) (byte : ℕ) → (unsearched y).state.prompt ≡ Some p → p.waiting ≡ NoKey → p.first ≡ [] → IsFed p p byte Answered → is_answered p.question ≡ true
-    → state_turn v (unsearched y).state byte ≡ Do (idle (state_of (unsearched y).state)) (Run (command_for p.question) (value_of (unsearched y).state.keyboard.argument) (meant p.question (unsearched y).state.pattern p.input))
+    → state_turn v (unsearched y).state byte ≡ Do (idle (state_of (unsearched y).state)) (Run (command_for p.question) (value_of (unsearched y).state.keyboard.argument) (meant (command_for p.question) (unsearched y).state.pattern p.input))
 asked_at v y p byte is none first turn asked =
     step_turn v y p p Answered byte is refl refl turn
     ∙ asked_turn p.question asked (state_of (prompting p (unsearched y)).state)
-    ∙ ap (λ (o : model.State). Do o (Run (command_for p.question) (value_of (unsearched y).state.keyboard.argument) (meant p.question (unsearched y).state.pattern p.input))) (plain_rests y p none first)
+    ∙ ap (λ (o : model.State). Do o (Run (command_for p.question) (value_of (unsearched y).state.keyboard.argument) (meant (command_for p.question) (unsearched y).state.pattern p.input))) (plain_rests y p none first)
 
 -- an answer to this question
 answered_at : (v : View) (y : Session) (p : PromptInput) (byte : ℕ) (c : Question) → (unsearched y).state.prompt ≡ Some p → IsFed p p byte Answered → p.question ≡ c → state_turn v (unsearched y).state byte ≡ answer_turn c (state_of (prompting p (unsearched y)).state)
@@ -228,15 +227,15 @@ still_step d ks y new byte b step still s = subst (λ (z : Session). IsByteStep 
 
 -- WHAT AN ANSWER DOES
 
-answer_act : {X : Type 0} (f : Act → X) (state : model.State) (b : ModeBefore) (p : PromptInput) (n : Option ℕ) (c : Question) (typed : List ℕ) → p ≡ asked_of b → c ≡ p.question → typed ≡ p.input → f (Run (command_for c) n (meant c state.pattern typed)) ≡ f (model_act state b (byte_acts.Answer n))
+answer_act : {X : Type 0} (f : Act → X) (state : model.State) (b : ModeBefore) (p : PromptInput) (n : Option ℕ) (c : Question) (typed : List ℕ) → p ≡ asked_of b → c ≡ p.question → typed ≡ p.input → f (Run (command_for c) n (meant (command_for c) state.pattern typed)) ≡ f (model_act state b (byte_acts.Answer n))
 answer_act f state b p n c typed asked question input =
-    ap (λ (q : Question). f (Run (command_for q) n (meant q state.pattern typed))) question
-    ∙ ap (λ (t : List ℕ). f (Run (command_for p.question) n (meant p.question state.pattern t))) input
-    ∙ ap (λ (q : PromptInput). f (Run (command_for q.question) n (meant q.question state.pattern q.input))) asked
+    ap (λ (q : Question). f (Run (command_for q) n (meant (command_for q) state.pattern typed))) question
+    ∙ ap (λ (t : List ℕ). f (Run (command_for p.question) n (meant (command_for p.question) state.pattern t))) input
+    ∙ ap (λ (q : PromptInput). f (Run (command_for q.question) n (meant (command_for q.question) state.pattern q.input))) asked
 
 pub answer_done : (touched : Touched) (old new : World) (before after : StoreTold) (id : ℕ) (state : model.State) (b : ModeBefore) (p : PromptInput) (n : Option ℕ) (c : Question) (typed : List ℕ) → p ≡ asked_of b → c ≡ p.question → typed ≡ p.input
-    → DoneBy touched old new before after id (Run (command_for c) n (meant c state.pattern typed)) → DoneBy touched old new before after id (model_act state b (byte_acts.Answer n))
+    → DoneBy touched old new before after id (Run (command_for c) n (meant (command_for c) state.pattern typed)) → DoneBy touched old new before after id (model_act state b (byte_acts.Answer n))
 answer_done touched old new before after id state b p n c typed asked question input did = subst (DoneBy touched old new before after id) (answer_act (λ (e : Act). e) state b p n c typed asked question input) did
 
-pub answer_may : (w : World) (id : ℕ) (state : model.State) (b : ModeBefore) (p : PromptInput) (n : Option ℕ) (c : Question) (typed : List ℕ) → p ≡ asked_of b → c ≡ p.question → typed ≡ p.input → may_be_refused (outcome_in w id (Run (command_for c) n (meant c state.pattern typed)) true) ≡ true → may_be_refused (outcome_in w id (model_act state b (byte_acts.Answer n)) true) ≡ true
+pub answer_may : (w : World) (id : ℕ) (state : model.State) (b : ModeBefore) (p : PromptInput) (n : Option ℕ) (c : Question) (typed : List ℕ) → p ≡ asked_of b → c ≡ p.question → typed ≡ p.input → may_be_refused (outcome_in w id (Run (command_for c) n (meant (command_for c) state.pattern typed)) true) ≡ true → may_be_refused (outcome_in w id (model_act state b (byte_acts.Answer n)) true) ≡ true
 answer_may w id state b p n c typed asked question input may = sym (answer_act (λ (a : Act). may_be_refused (outcome_in w id a true)) state b p n c typed asked question input) ∙ may

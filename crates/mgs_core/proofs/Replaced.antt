@@ -8,7 +8,7 @@ use Rattle.mgs_model.specs.World as model
 use Rattle.mgs_model.specs.World.{Todo, Replace_all}
 use Rattle.mgs_model.specs.View.{View}
 use Rattle.mgs_model.specs.Turns.{Turn, Keep, Do, replace_turn, replacing}
-use Rattle.mgs_model.specs.declared.message.Message.TheVariants.{Quitting, Replaced, Silent}
+use Rattle.mgs_model.specs.declared.echo_text.Message.TheVariants.{Quitting, Replaced, Silent}
 use Rattle.mgs_model.specs.declared.session.Command.TheVariants.{Seek}
 use Rattle.mgs_model.specs.declared.session.Mode.TheVariants.{Plain}
 use Rattle.mgs_model.specs.declared.session.Seeking.TheVariants.{SkipMatch}

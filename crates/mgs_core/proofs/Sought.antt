@@ -10,7 +10,7 @@ use Rattle.mgs_model.specs.Outcome.{Run}
 use Rattle.mgs_model.specs.Searching.{Sought, directed, dropped, lengthened, read_byte, shortened}
 use Rattle.mgs_model.specs.Turns.{Do, pattern_turn, sought_byte, sought_turn, used}
 use Rattle.mgs_model.specs.Events.{refused_state}
-use Rattle.mgs_model.specs.declared.message.Message.TheVariants.{Silent}
+use Rattle.mgs_model.specs.declared.echo_text.Message.TheVariants.{Silent}
 use Rattle.mgs_model.specs.declared.search.Direction.{Direction}
 use Rattle.mgs_model.specs.declared.search.Direction.TheVariants.{Forward, Backward}
 use Rattle.mgs_model.specs.declared.search.SearchStep.{SearchStep}

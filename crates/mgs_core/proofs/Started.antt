@@ -12,7 +12,7 @@ use Rattle.mgs_model.specs.Apply.{act, applied, apply, change_first, outcome_in,
 use Rattle.mgs_model.specs.Events.{act_effects, effect_in, state_set, saved_by, with_state}
 use Rattle.mgs_model.specs.declared.entry.Decision.{Decision}
 use Rattle.mgs_model.specs.declared.entry.Decision.TheVariants.{Granted}
-use Rattle.mgs_model.specs.declared.message.Message.TheVariants.{Denied, NoBuffer}
+use Rattle.mgs_model.specs.declared.echo_text.Message.TheVariants.{Denied, NoBuffer}
 use Rattle.mgs_model.specs.declared.search.Direction.{Direction}
 use Rattle.mgs_model.specs.declared.session.Command.TheVariants.{Seek}
 use Rattle.mgs_model.specs.declared.session.Seeking.TheVariants.{StartSearch}

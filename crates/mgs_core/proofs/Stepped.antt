@@ -14,8 +14,8 @@ use Rattle.mgs_model.specs.Keys.{key_read}
 use Rattle.mgs_model.specs.Plans.{acted_state, count_of, kind_failed, setting}
 use Rattle.mgs_model.specs.Turns.{Turn, Keep, Do, command_turn, plays}
 use Rattle.mgs_model.specs.Events.{refused_state}
-use Rattle.mgs_model.specs.declared.message.Message.{Message}
-use Rattle.mgs_model.specs.declared.message.Message.TheVariants.{InMacro, NoMacro, TooMany}
+use Rattle.mgs_model.specs.declared.echo_text.Message.{Message}
+use Rattle.mgs_model.specs.declared.echo_text.Message.TheVariants.{InMacro, NoMacro, TooMany}
 use Rattle.mgs_model.specs.declared.session.Command.{Command}
 use Rattle.mgs_model.specs.declared.session.Command.TheVariants.{Set, Exit}
 use Rattle.mgs_model.specs.declared.session.Setting.TheVariants.{CallMacro}

@@ -5,6 +5,7 @@ use Rattle.std.specs.List.{flat_map, position_or_len}
 use Rattle.std.specs.Option.{option_map}
 use Rattle.std.proofs.lemmas.List.{map-set}
 use Rattle.std.proofs.lemmas.Option.{slice_get-map}
+use Rattle.mgs_model.specs.Commands.{command_for}
 use Rattle.mgs_model.specs.Access.{Directory}
 use Rattle.mgs_model.specs.World.{World, Todo, find_buffer, find_session, has_id, is_named}
 use Rattle.mgs_model.specs.World as model
@@ -32,7 +33,7 @@ use Rattle.mgs_model.specs.declared.session.Kind.{Kind}
 use Rattle.mgs_model.specs.declared.errors.Keyed.TheVariants as keyed
 use Rattle.mgs_model.specs.declared.touched.Touched.{Touched}
 use Rattle.mgs_model.specs.declared.touched.Touched.TheVariants.{Nowhere}
-use Rattle.mgs_model.specs.declared.message.Message.TheVariants.{NoMemory}
+use Rattle.mgs_model.specs.declared.echo_text.Message.TheVariants.{NoMemory}
 use Rattle.mgs_laws.proofs.Apart.{apart_state}
 use Rattle.mgs_mini.proofs.Completions.{shown_names_of}
 use Rattle.mgs_laws.proofs.Ends.{act_fails}
@@ -253,7 +254,7 @@ seek_single _ step input = refl
 
 byte_act_single : (state : model.State) (b : ModeBefore) (byte_act : ByteAct) → CanDo b byte_act → is_single (model_act state b byte_act) ≡ true
 byte_act_single state b (byte_acts.Act a) here = acted_single a here
-byte_act_single state b (byte_acts.Answer n) here = answered_single (asked_of b).question n (meant (asked_of b).question state.pattern (asked_of b).input)
+byte_act_single state b (byte_acts.Answer n) here = answered_single (asked_of b).question n (meant (command_for (asked_of b).question) state.pattern (asked_of b).input)
 byte_act_single state b (byte_acts.Seek step) here = seek_single state.mode step state.input
 byte_act_single state b _ here = refl
 

@@ -13,7 +13,7 @@ use Rattle.mgs_model.specs.declared.session.Command.TheVariants as commands
 use Rattle.mgs_model.specs.declared.session.Mode.TheVariants.{Replacing}
 use Rattle.mgs_model.specs.Plans.{failed_state}
 use Rattle.mgs_model.specs.Turns.{Turn, Keep, Do, byte_turn, first_played, todo_turn}
-use Rattle.mgs_model.specs.declared.message.Message.TheVariants.{Silent}
+use Rattle.mgs_model.specs.declared.echo_text.Message.TheVariants.{Silent}
 use Rattle.mgs_model.specs.declared.session.Kind.{Kind}
 use Rattle.mgs_model.specs.declared.session.Kind.TheVariants.{Other}
 use Rattle.mgs_buffers.specs.MarkedBuffer.{MarkedBuffer}

@@ -3,9 +3,9 @@ use Rattle.std.specs.Prelude.{◌≡◌, ℕ, Bool, true, false, List, [], Optio
 use Rattle.mgs_model.specs.World as model
 use Rattle.mgs_model.specs.World.{World}
 use Rattle.mgs_model.specs.Outcome.{Act, Run, Unbound}
-use Rattle.mgs_model.specs.Questions.{command_for}
+use Rattle.mgs_model.specs.Commands.{command_for}
 use Rattle.mgs_model.specs.Events.{with_state}
-use Rattle.mgs_model.specs.declared.message.Message.TheVariants.{NoMemory, Silent}
+use Rattle.mgs_model.specs.declared.echo_text.Message.TheVariants.{NoMemory, Silent}
 use Rattle.mgs_model.specs.declared.session.Command.TheVariants as commands
 use Rattle.mgs_model.specs.declared.session.Command.TheVariants.{LeaveSearch, Seek}
 use Rattle.mgs_model.specs.declared.session.Mode.{Mode}
@@ -55,7 +55,7 @@ seek_act _ step input = Unbound
 -- which act of the model it is, by a session that holds this, where this was there before
 abbrev pub model_act : model.State → ModeBefore → ByteAct → Act
 model_act state b (byte_acts.Act a) = act_of a
-model_act state b (byte_acts.Answer n) = Run (command_for (asked_of b).question) n (meant (asked_of b).question state.pattern (asked_of b).input)
+model_act state b (byte_acts.Answer n) = Run (command_for (asked_of b).question) n (meant (command_for (asked_of b).question) state.pattern (asked_of b).input)
 model_act state b (byte_acts.Seek step) = seek_act state.mode step state.input
 model_act state b byte_acts.QuitSearch = Run LeaveSearch None []
 model_act state b byte_acts.StartReplacing = Run (Seek StartReplace) None (asked_of b).input

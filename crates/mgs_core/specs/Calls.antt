@@ -4,8 +4,8 @@ use Rattle.mgs_model.specs.Access.{Directory}
 use Rattle.mgs_model.specs.World.{World, Buffer, Session, State, has_id, find_session}
 use Rattle.mgs_laws.specs.Apart.{may_differ}
 use Rattle.mgs_model.specs.Apply.{remove_first}
-use Rattle.mgs_model.specs.declared.message.Message.{Message}
-use Rattle.mgs_model.specs.declared.message.Message.TheVariants.{Silent}
+use Rattle.mgs_model.specs.declared.echo_text.Message.{Message}
+use Rattle.mgs_model.specs.declared.echo_text.Message.TheVariants.{Silent}
 use Rattle.mgs_model.specs.declared.touched.Touched.{Touched}
 use Rattle.mgs_model.specs.Events.{Open, Byte, step, can_open, open_fault, event_saves, with_state}
 use Rattle.mgs_laws.specs.Refusals.{refused_act, may_be_refused}

@@ -5,10 +5,9 @@ use Rattle.mgs_model.specs.View.{View}
 use Rattle.mgs_model.specs.World as model
 use Rattle.mgs_model.specs.Completion.{completion}
 use Rattle.mgs_mini.specs.Narrowing.{granted_names}
-use Rattle.mgs_model.specs.Commands.{command_names}
-use Rattle.mgs_model.specs.Questions.{names_buffers, names_commands}
+use Rattle.mgs_model.specs.Commands.{command_names, names_buffers, names_commands}
 use Rattle.mgs_model.specs.Turns.{Turn, byte_turn, completed}
-use Rattle.mgs_model.specs.declared.message.Message.TheVariants.{Silent}
+use Rattle.mgs_model.specs.declared.echo_text.Message.TheVariants.{Silent}
 use Rattle.mgs_model.specs.declared.session.Question.{Question}
 use Rattle.mgs_buffers.specs.MarkedBuffer.{MarkedBuffer}
 use Rattle.mgs_mini.specs.Typing.{PromptInput}

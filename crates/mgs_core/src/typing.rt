@@ -14,7 +14,7 @@ ghost use Rattle.mgs_session.specs.Seeking.{searching, unsearched};
 ghost use Rattle.mgs_session.specs.declared.search.Aim.TheVariants.{Find, Replace};
 ghost use Rattle.mgs_session.specs.Playing.{are_played, replacing_all};
 ghost use Rattle.mgs_model.specs.Commands.{find_command};
-ghost use Rattle.mgs_model.specs.declared.message.Message.TheVariants.{Replaced, Silent};
+ghost use Rattle.mgs_model.specs.declared.echo_text.Message.TheVariants.{Replaced, Silent};
 ghost use Rattle.mgs_session.specs.Sessions.{playing_as, prompting, told, unbound, unprompted};
 ghost use Rattle.mgs_world.specs.Worlds.{state_of};
 ghost use Rattle.mgs_core.specs.Prompted.{names_for, state_completed};

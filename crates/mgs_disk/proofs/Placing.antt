@@ -1,5 +1,5 @@
 -- The places of files.
-use Rattle.std.proofs.Common.{◌≡◌, ℕ, List, [], ◌∷◌, ◌++◌, map, ap, ap₂, ◌∙◌, sym, append_assoc, append-nil, refl}
+use Rattle.std.proofs.Common.{◌≡◌, ℕ, List, [], ◌∷◌, ◌++◌, map, ap, ◌∙◌, sym, append_assoc, append-nil, refl}
 use Rattle.mgs_disk.specs.Places.{row_of, row_in}
 use Rattle.mgs_config.specs.declared.config.BufferFile.{BufferFile}
 use Rattle.mgs_disk.specs.declared.places.Place.{Place}

@@ -1,5 +1,5 @@
 -- Where buffers are saved.
-use Rattle.std.specs.Prelude.{◌≡◌, ℕ, List, All, map, Option, Some, None, ⊤, string_bytes}
+use Rattle.std.specs.Prelude.{◌≡◌, ℕ, List, All, Option, Some, None, ⊤, string_bytes}
 use Rattle.std.specs.Option.{option_map, option_and_then}
 use Rattle.std.specs.List.{find}
 use Rattle.std.specs.Path.{path_buf_bytes}

@@ -1,7 +1,6 @@
 // The files that a configuration names.
-ghost use Rattle.std.specs.Prelude.{◌≡◌, ◌≢◌, ◌<◌, ◌≤◌, ◌+◌, ◌*◌, length, take, false, IsSome, IfSome, IfOk, IfErr, IsErrOf, OnOk};
+ghost use Rattle.std.specs.Prelude.{◌≡◌, ◌<◌, ◌≤◌, ◌+◌, ◌*◌, length, false, IsSome, IfSome, IfOk, IsErrOf};
 ghost use Rattle.std.specs.Str.{chars, IsUtf8};
-ghost use Rattle.mgs_config.specs.Files.{HasRisen};
 ghost use Rattle.mgs_config.specs.declared.files.FilesFault.TheVariants.{Unreadable};
 ghost use Rattle.mgs_disk.specs.Reading.{IsTextIn};
 

@@ -1,9 +1,7 @@
 // The configuration that is served.
-ghost use Rattle.std.specs.Prelude.{◌≡◌, ◌≢◌, Some, IfOk, IfErr, IfSome, option_map};
-ghost use Rattle.std.specs.Str.{IsUtf8};
+ghost use Rattle.std.specs.Prelude.{◌≡◌, ◌≢◌, IfOk, IfErr, IfSome};
 ghost use Rattle.mgs_buffers.specs.MarkedBuffer.{AreUnmarked};
-ghost use Rattle.mgs_config.specs.Document.{document_in};
-ghost use Rattle.mgs_config.specs.World.{directory_in, fault_of, files_in, users_in};
+ghost use Rattle.mgs_config.specs.World.{fault_of};
 ghost use Rattle.mgs_config.specs.declared.fault.ConfigTable.TheVariants.{Top};
 ghost use Rattle.mgs_config.specs.declared.fault.TableFault.TheVariants.{File, Short};
 ghost use Rattle.mgs_disk.specs.Reading.{IsLoaded, IsRefusedIn};

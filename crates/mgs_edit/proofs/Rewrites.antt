@@ -3,7 +3,7 @@ use Rattle.std.proofs.Common.{◌≡◌, ℕ, ◌+◌, ◌-◌, ◌≤◌, List,
 use Rattle.std.specs.Prelude.{slice_range, Result, Ok, Err, IfOk}
 use Rattle.mgs_model.specs.Plans as model
 use Rattle.mgs_model.specs.Plans.{alteration}
-use Rattle.mgs_model.specs.declared.message.Message.{Message}
+use Rattle.mgs_model.specs.declared.echo_text.Message.{Message}
 use Rattle.mgs_model.specs.declared.session.Alteration.{Alteration}
 use Rattle.mgs_fill.specs.Rewriting as fill
 use Rattle.mgs_fill.specs.Rewriting.{IsRewrite, PointWithin, RewriteWithin, WrittenWithin, answer_read, point_at, rewrite_read}

@@ -1,7 +1,7 @@
 -- What the one planner answers: an edit or a motion, as the family of the command plans it.
 use Rattle.std.specs.Prelude.{ℕ, Bool, true, false, List, length, Result, Ok, Err}
 use Rattle.mgs_model.specs.Plans as model
-use Rattle.mgs_model.specs.declared.message.Message.{Message}
+use Rattle.mgs_model.specs.declared.echo_text.Message.{Message}
 use Rattle.mgs_model.specs.declared.session.Command.{Command}
 use Rattle.mgs_model.specs.declared.session.Command.TheVariants.{Insert, InsertReading, Move, Alter, Scroll}
 use Rattle.mgs_edit.specs.Reading.{IsChange, IsInsertion, IsMotion}

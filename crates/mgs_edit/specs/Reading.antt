@@ -6,8 +6,8 @@ use Rattle.mgs_model.specs.Whites.{refilled}
 use Rattle.mgs_model.specs.Plans as model
 use Rattle.mgs_model.specs.World.{Item}
 use Rattle.mgs_model.specs.declared.limits.TheConstants.{TEXT_LIMIT}
-use Rattle.mgs_model.specs.declared.message.Message.{Message}
-use Rattle.mgs_model.specs.declared.message.Message.TheVariants.{Silent}
+use Rattle.mgs_model.specs.declared.echo_text.Message.{Message}
+use Rattle.mgs_model.specs.declared.echo_text.Message.TheVariants.{Silent}
 use Rattle.mgs_model.specs.declared.session.Kind.{Kind}
 use Rattle.mgs_model.specs.declared.session.Kind.TheVariants.{Other, Kill}
 use Rattle.mgs_fill.specs.Rewriting.{cased}

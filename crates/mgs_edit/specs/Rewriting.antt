@@ -8,8 +8,8 @@ use Rattle.mgs_fill.specs.declared.rewrite.Rewrite.{Rewrite}
 use Rattle.mgs_fill.specs.declared.rewrite.Written.{Written}
 use Rattle.mgs_fill.specs.declared.rewrite.Written.TheVariants as written
 use Rattle.mgs_model.specs.Plans.{alteration}
-use Rattle.mgs_model.specs.declared.message.Message.{Message}
-use Rattle.mgs_model.specs.declared.message.Message.TheVariants.{Silent}
+use Rattle.mgs_model.specs.declared.echo_text.Message.{Message}
+use Rattle.mgs_model.specs.declared.echo_text.Message.TheVariants.{Silent}
 use Rattle.mgs_model.specs.declared.session.Alteration.{Alteration}
 use Rattle.mgs_model.specs.declared.session.Kind.TheVariants.{Other}
 use Rattle.mgs_edit.specs.Reading.{IsChange}

@@ -13,7 +13,7 @@ use Rattle.mgs_model.specs.World.{State, Session, World, find_session, has_id}
 use Rattle.mgs_model.specs.contracts.errors.Keyed.{the_type}
 use Rattle.mgs_model.specs.declared.errors.Keyed.{Keyed}
 use Rattle.mgs_model.specs.declared.errors.Keyed.TheVariants as keyed
-use Rattle.mgs_model.specs.declared.message.Message.{Message}
+use Rattle.mgs_model.specs.declared.echo_text.Message.{Message}
 use Rattle.mgs_model.specs.declared.session.Mode.{Mode}
 use Rattle.mgs_model.proofs.Firsts.{find-change_first, find-change_first_other}
 use Rattle.mgs_screen.specs.TextsDrawn.{AreStanding}

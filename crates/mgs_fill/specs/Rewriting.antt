@@ -5,7 +5,7 @@ use Rattle.mgs_model.specs.Lines.{space}
 use Rattle.mgs_model.specs.Outcome.{PointPlan, Keep_position, At}
 use Rattle.mgs_model.specs.Plans as model
 use Rattle.mgs_model.specs.Whites.{is_between, refilled}
-use Rattle.mgs_model.specs.declared.message.Message.{Message}
+use Rattle.mgs_model.specs.declared.echo_text.Message.{Message}
 use Rattle.mgs_fill.specs.declared.rewrite.Case.{Case}
 use Rattle.mgs_fill.specs.declared.rewrite.Case.TheVariants.{Upper, Lower, Capitalized}
 use Rattle.mgs_fill.specs.declared.rewrite.Given.{Given}

@@ -3,11 +3,10 @@ use Rattle.std.proofs.Common.{◌≡◌, ℕ, ◌≤◌, Bool, true, false, ◌&
 use Rattle.std.specs.Prelude.{nat_le, IsTrue, if◌then◌else◌}
 use Rattle.std.specs.List.{list_all}
 use Rattle.std.proofs.lemmas.Bool.{and_parts, leb-true}
-use Rattle.mgs_model.specs.Messages.{message_text}
-use Rattle.mgs_model.specs.declared.message.Message.{Message}
-use Rattle.mgs_model.specs.declared.message.Message.TheVariants.{Denied, CharacterAt, EndAt, BadEntry, Wrote, Replaced}
+use Rattle.mgs_model.specs.Messages.{fixed_text, is_fixed, message_text}
+use Rattle.mgs_model.specs.declared.echo_text.Message.{Message}
+use Rattle.mgs_model.specs.declared.echo_text.Message.TheVariants.{Denied, CharacterAt, EndAt, BadEntry, Wrote, Replaced}
 use Rattle.mgs_grid.specs.Cells.{is_plain}
-use Rattle.mgs_grid.specs.Messages.{fixed_text, is_fixed}
 
 -- visible ASCII and spaces, and not many
 abbrev fits : List ℕ → Bool

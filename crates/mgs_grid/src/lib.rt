@@ -5,7 +5,7 @@
 #![tactic(auto)]
 
 mod cells;
-mod echo_text;
+mod echo_row;
 mod grid;
 mod line;
 mod lists;

@@ -9,7 +9,7 @@ ghost use Rattle.mgs_grid.specs.Lists.{acl_mode, listed_text, unlisted_text};
 ghost use Rattle.mgs_grid.specs.Cells.{IsBlankIf, line_cells};
 
 use crate::cells::{fill, finish, put_bytes, put_line};
-use crate::echo_text::put_message;
+use crate::echo_row::put_message;
 use crate::lists::{put_acl_mode, put_entry, put_listed, put_unlisted};
 use crate::masked::put_unread;
 use crate::mode_line::{put_heading, put_place};

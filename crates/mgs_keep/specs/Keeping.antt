@@ -3,8 +3,8 @@ use Rattle.std.specs.Str.{encode_utf8_all}
 use Rattle.std.specs.Prelude.{◌≡◌, ◌⊎◌, ℕ, ◌≤◌, Bool, true, false, cond, List, [], ◌∷◌, ◌++◌, map, find, length, slice_get, Option, Some, None, Ok, Err, if◌then◌else◌}
 use Rattle.mgs_model.specs.Names.{is_name}
 use Rattle.mgs_model.specs.World.{Buffer, Session, find_session, is_named}
-use Rattle.mgs_model.specs.declared.message.Message.{Message}
-use Rattle.mgs_model.specs.declared.message.Message.TheVariants as messages
+use Rattle.mgs_model.specs.declared.echo_text.Message.{Message}
+use Rattle.mgs_model.specs.declared.echo_text.Message.TheVariants as messages
 use Rattle.mgs_laws.specs.Apart.{Rules, rules_in}
 use Rattle.mgs_keys.specs.Words.{◌>>=◌, utf8_of}
 use Rattle.mgs_core.specs.Calls.{user_in}

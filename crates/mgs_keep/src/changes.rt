@@ -2,7 +2,7 @@
 ghost use Rattle.std.specs.Prelude.{◌≡◌, ◌+◌, ◌<◌, Some, IfOk, OnOk, OnErr, true, false, length};
 ghost use Rattle.mgs_laws.specs.Apart.{rules_in};
 ghost use Rattle.mgs_keep.specs.Keeping.{AreKept, HasChanged, OrFails};
-ghost use Rattle.mgs_keep.specs.Walks.{IsAhead, IsSoFar, Steps};
+ghost use Rattle.mgs_keep.specs.Walks.{IsAhead, Steps};
 
 use crate::difference::{Difference, compare};
 use mgs_engine::Engine;

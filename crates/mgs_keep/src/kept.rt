@@ -1,6 +1,6 @@
 // A server and its journal.
-ghost use Rattle.std.specs.Prelude.{◌≡◌, ◌+◌, None, IfOk, length, true, false, []};
-ghost use Rattle.mgs_keep.specs.Keeping.{AreKept, HasChanged, IsEnd, OrFails, TellsEnds, held};
+ghost use Rattle.std.specs.Prelude.{◌≡◌, ◌+◌, None, IfOk, length, false, []};
+ghost use Rattle.mgs_keep.specs.Keeping.{AreKept, HasChanged, OrFails, TellsEnds, held};
 
 use crate::changes::{keep, keep_all};
 use crate::round::Round;
@@ -8,7 +8,7 @@ use crate::tellings::{name_in_bytes, opening_told, refused, said_to, tell, tick}
 use crate::texts::{keep_next, keep_saved};
 use crate::users::Users;
 use mgs_engine::Engine;
-use mgs_journal::{Journal, JournalFault, Room, Told};
+use mgs_journal::{Journal, JournalFault, Room};
 use mgs_marks::Marked;
 use mgs_model::{Keyed, Message, Name, OpenFault, SessionId};
 use mgs_store::Store;

@@ -5,8 +5,8 @@ use Rattle.mgs_model.specs.Text.{edited}
 use Rattle.mgs_model.specs.Cells.{glyph}
 use Rattle.mgs_model.specs.Outcome.{PointPlan, Keep_position, At}
 use Rattle.mgs_model.specs.Plans.{Around, Change, alteration}
-use Rattle.mgs_model.specs.declared.message.Message.{Message}
-use Rattle.mgs_model.specs.declared.message.Message.TheVariants.{BeginningOfBuffer, EndOfBuffer, NoMark}
+use Rattle.mgs_model.specs.declared.echo_text.Message.{Message}
+use Rattle.mgs_model.specs.declared.echo_text.Message.TheVariants.{BeginningOfBuffer, EndOfBuffer, NoMark}
 use Rattle.mgs_model.specs.declared.session.Kind.TheVariants.{Other}
 use Rattle.mgs_model.specs.declared.session.Alteration.{Alteration}
 use Rattle.mgs_model.specs.declared.session.Alteration.TheVariants.{UpcaseWord, DowncaseWord, CapitalizeWord, UpcaseRegion, DowncaseRegion, JustOneSpace, DeleteHorizontalSpace, DeleteBlankLines, JoinLine, FillParagraph}

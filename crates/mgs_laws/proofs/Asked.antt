@@ -9,7 +9,7 @@ use Rattle.mgs_model.specs.Commands.{find_command, command_names}
 use Rattle.mgs_model.specs.Completion.{completion}
 use Rattle.mgs_model.specs.Turns.{next}
 use Rattle.mgs_model.specs.Events.{turns, most_turns, path}
-use Rattle.mgs_model.specs.declared.message.Message.TheVariants.{Silent, Denied, NoBuffer, NoMatch, NoSuchCommand, NotANumber, BadEntry, NoSuchEntry, ListFull, NoSuchUser, NoSuchGroup}
+use Rattle.mgs_model.specs.declared.echo_text.Message.TheVariants.{Silent, Denied, NoBuffer, NoMatch, NoSuchCommand, NotANumber, BadEntry, NoSuchEntry, ListFull, NoSuchUser, NoSuchGroup}
 use Rattle.mgs_model.specs.declared.session.Command.TheVariants.{Move, Alter, Rearrange, Ask, Entries, ListEntries}
 use Rattle.mgs_model.specs.declared.session.Motion.TheVariants.{BufferEnd, GoToLine}
 use Rattle.mgs_model.specs.declared.session.Alteration.TheVariants.{KillWord}

@@ -12,7 +12,7 @@ use Rattle.mgs_model.specs.Commands.{find_command}
 use Rattle.mgs_model.specs.Turns.{next}
 use Rattle.mgs_model.specs.Events.{Open, step, turns, most_turns, path}
 use Rattle.mgs_model.specs.declared.search.Direction.TheVariants.{Forward}
-use Rattle.mgs_model.specs.declared.message.Message.TheVariants.{Silent, Denied, BadName, BadEntry, KeyNotBound, NoBuffer, NoMatch, NoMemory, NotANumber, Quitting}
+use Rattle.mgs_model.specs.declared.echo_text.Message.TheVariants.{Silent, Denied, BadName, BadEntry, KeyNotBound, NoBuffer, NoMatch, NoMemory, NotANumber, Quitting}
 use Rattle.mgs_model.specs.declared.entry.EntryFault.TheVariants.{Who}
 use Rattle.mgs_model.specs.declared.session.Mode.TheVariants.{Plain, Prompt, Searching, Replacing}
 use Rattle.mgs_model.specs.declared.session.Command.TheVariants.{Ask, Seek, Set}

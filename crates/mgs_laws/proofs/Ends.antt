@@ -9,8 +9,8 @@ use Rattle.mgs_model.specs.Plans.{acted_state, failed_state, setting}
 use Rattle.mgs_model.specs.Acts.{fails, outcome, sets}
 use Rattle.mgs_model.specs.Apply.{act, applied, apply, change_first, session_after, session_arranged, without_session}
 use Rattle.mgs_model.specs.Events.{state_set, with_state}
-use Rattle.mgs_model.specs.declared.message.Message.{Message}
-use Rattle.mgs_model.specs.declared.message.Message.TheVariants.{InMacro}
+use Rattle.mgs_model.specs.declared.echo_text.Message.{Message}
+use Rattle.mgs_model.specs.declared.echo_text.Message.TheVariants.{InMacro}
 use Rattle.mgs_model.specs.declared.session.Command.TheVariants.{Set, Exit}
 use Rattle.mgs_model.specs.declared.session.Setting.TheVariants.{CallMacro}
 use Rattle.mgs_laws.proofs.LeftToDo.{state_twice, seen_begun}

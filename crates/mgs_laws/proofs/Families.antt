@@ -13,7 +13,7 @@ use Rattle.mgs_model.specs.Apply.{outcome_in}
 use Rattle.mgs_model.specs.Events.{Open, run, turns, most_turns, path}
 use Rattle.mgs_laws.specs.Refusals.{refused_in, refused_act, may_be_refused}
 use Rattle.mgs_model.specs.declared.search.Direction.TheVariants.{Forward}
-use Rattle.mgs_model.specs.declared.message.Message.TheVariants.{NoMemory, Denied, InMacro, NoFurtherUndo, NoFile, Replaced, NoBuffer, NoSuchBuffer, Silent, KeyNotBound, Quitting, ImpossibleChange, NothingToYank, CharacterAt, BeginningOfBuffer}
+use Rattle.mgs_model.specs.declared.echo_text.Message.TheVariants.{NoMemory, Denied, InMacro, NoFurtherUndo, NoFile, Replaced, NoBuffer, NoSuchBuffer, Silent, KeyNotBound, Quitting, ImpossibleChange, NothingToYank, CharacterAt, BeginningOfBuffer}
 use Rattle.mgs_model.specs.declared.session.Command.TheVariants.{Insert, InsertReading, Move, Alter, Seek, Scroll, Set, Rearrange, Ask, Entries, UndoEdit, NotModified, SaveBuffer}
 use Rattle.mgs_model.specs.declared.session.Insertion.TheVariants.{Yank}
 use Rattle.mgs_model.specs.declared.session.Scrolling.TheVariants.{ScrollUp, ScrollDown}

@@ -8,7 +8,7 @@ use Rattle.mgs_model.specs.Keys.{key_read}
 use Rattle.mgs_model.specs.Commands.{find_command}
 use Rattle.mgs_model.specs.Turns.{next}
 use Rattle.mgs_model.specs.Events.{with_state, turns, most_turns, path}
-use Rattle.mgs_model.specs.declared.message.Message.TheVariants.{Denied, InMacro, NotInMacro, NoMacro, TooMany, MacroTooLong, NoMemory, EndOfBuffer}
+use Rattle.mgs_model.specs.declared.echo_text.Message.TheVariants.{Denied, InMacro, NotInMacro, NoMacro, TooMany, MacroTooLong, NoMemory, EndOfBuffer}
 use Rattle.mgs_model.specs.declared.session.Mode.TheVariants.{Prompt}
 use Rattle.mgs_model.specs.declared.session.Kind.{Kind}
 use Rattle.mgs_model.specs.declared.session.Kind.TheVariants.{Other, Kill}

@@ -23,8 +23,8 @@ use Rattle.mgs_model.specs.declared.right.Right.TheVariants.{WriteData, AppendDa
 use Rattle.mgs_model.specs.declared.entry.Entry.{Entry}
 use Rattle.mgs_model.specs.declared.entry.Decision.{Decision}
 use Rattle.mgs_model.specs.declared.entry.Decision.TheVariants.{Granted, DeniedBy, NotGranted}
-use Rattle.mgs_model.specs.declared.message.Message.{Message}
-use Rattle.mgs_model.specs.declared.message.Message.TheVariants.{BadColumn, BadName, BufferFull, Denied, InMacro, KeyNotBound, KillTooLarge, NoArgument, NoBuffer, NoFile, NoSuchBuffer, NoSuchGroup, NoSuchUser, NotInMacro, SaveFailed, Silent, TooManyBuffers}
+use Rattle.mgs_model.specs.declared.echo_text.Message.{Message}
+use Rattle.mgs_model.specs.declared.echo_text.Message.TheVariants.{BadColumn, BadName, BufferFull, Denied, InMacro, KeyNotBound, KillTooLarge, NoArgument, NoBuffer, NoFile, NoSuchBuffer, NoSuchGroup, NoSuchUser, NotInMacro, SaveFailed, Silent, TooManyBuffers}
 use Rattle.mgs_model.specs.declared.session.ByName.{ByName}
 use Rattle.mgs_model.specs.declared.session.ByName.TheVariants.{SwitchToBuffer, KillBuffer, InsertBuffer}
 use Rattle.mgs_model.specs.declared.session.Scrolling.{Scrolling}

@@ -10,7 +10,7 @@ use Rattle.mgs_model.specs.Plans.{acted_state}
 use Rattle.mgs_model.specs.Acts.{Target, allowed, fails, has_file, judged, needs, outcome, permitted, saves, target}
 use Rattle.mgs_model.specs.Apply.{act, applied}
 use Rattle.mgs_model.specs.Events.{act_effects, effect_in, saved_by, with_state}
-use Rattle.mgs_model.specs.declared.message.Message.TheVariants.{InMacro, NoFile, SaveFailed, Wrote}
+use Rattle.mgs_model.specs.declared.echo_text.Message.TheVariants.{InMacro, NoFile, SaveFailed, Wrote}
 use Rattle.mgs_model.specs.declared.session.Command.{Command}
 use Rattle.mgs_model.specs.declared.session.Command.TheVariants.{SaveBuffer}
 use Rattle.mgs_model.specs.declared.entry.Decision.{Decision}

@@ -8,8 +8,8 @@ use Rattle.mgs_model.specs.Commands.{find_command}
 use Rattle.mgs_model.specs.Turns.{next}
 use Rattle.mgs_model.specs.Events.{Byte, Open, step, turns, most_turns, path}
 use Rattle.mgs_laws.specs.Refusals.{refused_in, refused_act, may_be_refused}
-use Rattle.mgs_model.specs.declared.message.Message.{Message}
-use Rattle.mgs_model.specs.declared.message.Message.TheVariants.{Silent, Denied, NoBuffer, NoPattern, NoMemory, Quitting, Replaced}
+use Rattle.mgs_model.specs.declared.echo_text.Message.{Message}
+use Rattle.mgs_model.specs.declared.echo_text.Message.TheVariants.{Silent, Denied, NoBuffer, NoPattern, NoMemory, Quitting, Replaced}
 use Rattle.mgs_model.specs.declared.session.Mode.TheVariants.{Plain, Prompt, Replacing}
 use Rattle.mgs_model.specs.declared.session.Command.TheVariants.{Rearrange, Ask}
 use Rattle.mgs_model.specs.declared.session.Arrangement.TheVariants.{ListBuffers}

@@ -6,8 +6,8 @@ use Rattle.mgs_model.specs.World.{World, Buffer, Session, Window, State, first_s
 use Rattle.mgs_model.specs.Turns.{command_turn}
 use Rattle.mgs_model.specs.Events.{Open, Byte, step, begun_state, settled, turns, turn_done, with_state, most_turns}
 use Rattle.mgs_model.specs.Draw.{state_line}
-use Rattle.mgs_model.specs.declared.message.Message.{Message}
-use Rattle.mgs_model.specs.declared.message.Message.TheVariants.{Silent}
+use Rattle.mgs_model.specs.declared.echo_text.Message.{Message}
+use Rattle.mgs_model.specs.declared.echo_text.Message.TheVariants.{Silent}
 use Rattle.mgs_model.specs.declared.session.Mode.{Mode}
 use Rattle.mgs_model.specs.declared.session.Command.{Command}
 use Rattle.mgs_model.specs.declared.entry.Entry.{Entry}

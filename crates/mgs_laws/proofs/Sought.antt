@@ -14,7 +14,7 @@ use Rattle.mgs_model.specs.Events.{Open, step, turns, most_turns, path}
 use Rattle.mgs_laws.specs.Refusals.{refused_in, refused_act, may_be_refused}
 use Rattle.mgs_model.specs.declared.search.Direction.{Direction}
 use Rattle.mgs_model.specs.declared.search.Direction.TheVariants.{Forward, Backward}
-use Rattle.mgs_model.specs.declared.message.Message.TheVariants.{Silent, Denied, NoBuffer, NoPattern, NotFound, Quitting, NoMemory}
+use Rattle.mgs_model.specs.declared.echo_text.Message.TheVariants.{Silent, Denied, NoBuffer, NoPattern, NotFound, Quitting, NoMemory}
 use Rattle.mgs_model.specs.declared.session.Mode.TheVariants.{Plain}
 use Rattle.mgs_model.specs.declared.session.Command.TheVariants.{Move, Seek, Rearrange, Ask}
 use Rattle.mgs_model.specs.declared.session.Motion.TheVariants.{BufferEnd}

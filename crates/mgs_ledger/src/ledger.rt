@@ -1,6 +1,6 @@
 // The ledger.
 ghost use Rattle.std.specs.Prelude.{◌≡◌, ◌∷◌, ◌++◌, ◌<◌, [], Ok, None, Some, IfOk, IfSome, OnErr, OnOk};
-ghost use Rattle.std.specs.Prelude.{get_or, length, remove, slice_get, slice_set, string_bytes};
+ghost use Rattle.std.specs.Prelude.{length, remove, slice_get, slice_set, string_bytes};
 ghost use Rattle.sqlite.specs.State.{HasCleanDisk};
 ghost use Rattle.sqlite.specs.Held.{state};
 ghost use Rattle.mgs_ledger.specs.Keeping.{IsAdded, IsRemoved, IsSet};

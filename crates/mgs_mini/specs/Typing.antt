@@ -8,7 +8,7 @@ use Rattle.mgs_model.specs.Turns.{Turn, Keep, answer_turn, completed, names_comp
 use Rattle.mgs_model.specs.declared.sequence.Sequence.{Sequence}
 use Rattle.mgs_model.specs.declared.sequence.Sequence.TheVariants.{Whole, Begun, Broken}
 use Rattle.mgs_model.specs.Plans.{failed_state}
-use Rattle.mgs_model.specs.declared.message.Message.TheVariants.{Quitting, NoMatch}
+use Rattle.mgs_model.specs.declared.echo_text.Message.TheVariants.{Quitting, NoMatch}
 use Rattle.mgs_model.specs.declared.session.Question.{Question}
 use Rattle.mgs_model.specs.declared.session.Question.TheVariants.{ReplaceWith}
 use Rattle.mgs_mini.specs.declared.Waiting.{Waiting}

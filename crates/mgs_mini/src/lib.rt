@@ -4,7 +4,7 @@
 ghost use Rattle.std.specs.Prelude.{◌≡◌, ◌≤◌, ℕ, List, [], length, IfSome, false};
 ghost use Rattle.std.specs.Option.{option_map};
 ghost use Rattle.mgs_model.specs.Keys.{is_graphic};
-ghost use Rattle.mgs_model.specs.Questions.{names_buffers, names_commands};
+ghost use Rattle.mgs_model.specs.Commands.{names_buffers, names_commands};
 ghost use Rattle.mgs_model.specs.Searching.{lengthened};
 ghost use Rattle.mgs_model.specs.Sequences.{sequence_read};
 ghost use Rattle.mgs_model.specs.declared.session.Question.{Question};

@@ -4,7 +4,6 @@ use Rattle.std.specs.Prelude.{find, filter_map}
 use Rattle.std.specs.List.{cons_option}
 use Rattle.mgs_model.specs.Access.{Decider, Nobody, Allows, Denies, allows, denial_of, is_nobody, decided, decision_by}
 use Rattle.mgs_model.specs.declared.right.Right.{Right}
-use Rattle.mgs_model.specs.declared.entry.Decision.{Decision}
 use Rattle.mgs_model.specs.declared.entry.Decision.TheVariants.{Granted}
 
 abbrev denials : (Right → Decider) → List Right → List (ℕ × Right)

@@ -10,7 +10,7 @@ use Rattle.mgs_model.specs.Apply.{is_search_mode, change_first, outcome_in, act,
 use Rattle.mgs_model.specs.View.{View, view_of}
 use Rattle.mgs_model.specs.Turns.{Turn, Rest, Keep, Do, next}
 use Rattle.mgs_model.specs.declared.right.Right.TheVariants.{ReadData, ReadAttributes}
-use Rattle.mgs_model.specs.declared.message.Message.TheVariants.{NoMemory, MacroTooLong}
+use Rattle.mgs_model.specs.declared.echo_text.Message.TheVariants.{NoMemory, MacroTooLong}
 use Rattle.mgs_model.specs.declared.session.Kind.TheVariants.{Other}
 use Rattle.mgs_model.specs.declared.errors.OpenFault.{OpenFault}
 use Rattle.mgs_model.specs.declared.errors.OpenFault.TheVariants.{NoUser, Size, Full}

@@ -1,13 +1,13 @@
 -- The texts of the echo line.
-use Rattle.std.specs.Prelude.{ℕ, List, [], ◌++◌, codes, decimal}
+use Rattle.std.specs.Prelude.{ℕ, Bool, true, false, List, [], ◌++◌, codes, decimal, Option, Some, None, if◌then◌else◌}
 use Rattle.mgs_model.specs.Rights.{right_name}
 use Rattle.mgs_model.specs.declared.entry.Decision.{Decision}
 use Rattle.mgs_model.specs.declared.entry.Decision.TheVariants.{Granted, DeniedBy, NotGranted}
 use Rattle.mgs_model.specs.declared.entry.EntryFault.{EntryFault}
 use Rattle.mgs_model.specs.declared.entry.EntryFault.TheVariants.{Kind, Who, Letters, Trailing}
-use Rattle.mgs_model.specs.declared.message.CursorPosition.{CursorPosition}
-use Rattle.mgs_model.specs.declared.message.Message.{Message}
-use Rattle.mgs_model.specs.declared.message.Message.TheVariants.{Silent, Denied, KeyNotBound, NoBuffer, BeginningOfBuffer, EndOfBuffer, BufferFull, NoMemory, Quitting, MarkSet, NoMark, KillTooLarge, NothingToYank, CharacterAt, EndAt, NoArgument, BadColumn, InMacro, NotInMacro, NoMacro, TooMany, OnlyOneWindow, WindowTooSmall, TooManyWindows, ImpossibleChange, NoSuchBuffer, BadName, TooManyBuffers, NoMatch, NoSuchCommand, NotANumber, BadEntry, NoSuchEntry, ListFull, NoSuchUser, NoSuchGroup, NoFurtherUndo, NoFile, SaveFailed, Wrote, NoPattern, NotFound, MacroTooLong, Replaced}
+use Rattle.mgs_model.specs.declared.echo_text.CursorPosition.{CursorPosition}
+use Rattle.mgs_model.specs.declared.echo_text.Message.{Message}
+use Rattle.mgs_model.specs.declared.echo_text.Message.TheVariants.{Silent, Denied, KeyNotBound, NoBuffer, BeginningOfBuffer, EndOfBuffer, BufferFull, NoMemory, Quitting, MarkSet, NoMark, KillTooLarge, NothingToYank, CharacterAt, EndAt, NoArgument, BadColumn, InMacro, NotInMacro, NoMacro, TooMany, OnlyOneWindow, WindowTooSmall, TooManyWindows, ImpossibleChange, NoSuchBuffer, BadName, TooManyBuffers, NoMatch, NoSuchCommand, NotANumber, BadEntry, NoSuchEntry, ListFull, NoSuchUser, NoSuchGroup, NoFurtherUndo, NoFile, SaveFailed, Wrote, NoPattern, NotFound, MacroTooLong, Replaced}
 
 abbrev pub denial_text : Decision → List ℕ
 denial_text Granted = []
@@ -69,3 +69,19 @@ message_text NoPattern = codes "No pattern"
 message_text NotFound = codes "Not found"
 message_text MacroTooLong = codes "Macro too long"
 message_text (Replaced n) = codes "Replaced " ++ decimal n
+
+-- MESSAGES THAT SAY THE SAME EACH TIME, and those that tell what came of a command
+
+-- whether nothing in its text depends on what was done
+abbrev pub is_fixed : Message → Bool
+is_fixed (Denied decision) = false
+is_fixed (CharacterAt c at) = false
+is_fixed (EndAt at) = false
+is_fixed (BadEntry fault) = false
+is_fixed (Wrote name) = false
+is_fixed (Replaced count) = false
+is_fixed _ = true
+
+-- the text of a message that says the same each time
+abbrev pub fixed_text : Message → Option (List ℕ)
+fixed_text message = if is_fixed message then Some (message_text message) else None

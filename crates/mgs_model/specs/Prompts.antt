@@ -1,6 +1,6 @@
 -- The lines of the modes in the echo row.
 use Rattle.std.specs.Prelude.{ℕ, Bool, true, false, List, ◌++◌, Option, Some, None, codes}
-use Rattle.mgs_model.specs.Questions.{prompt_text}
+use Rattle.mgs_model.specs.Commands.{prompt_text}
 use Rattle.mgs_model.specs.declared.search.Direction.{Direction}
 use Rattle.mgs_model.specs.declared.search.Direction.TheVariants.{Forward, Backward}
 use Rattle.mgs_model.specs.declared.session.Mode.{Mode}

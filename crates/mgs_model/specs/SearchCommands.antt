@@ -6,8 +6,8 @@ use Rattle.mgs_model.specs.Searching.{matches_at, first_match, match_once, match
 use Rattle.mgs_model.specs.Outcome.{PointPlan, Keep_position, At, SearchPlan, Keep_search, Begin, Anchor_at}
 use Rattle.mgs_model.specs.declared.search.SearchPlaces.{SearchPlaces}
 use Rattle.mgs_model.specs.declared.search.SearchStep.{SearchStep}
-use Rattle.mgs_model.specs.declared.message.Message.{Message}
-use Rattle.mgs_model.specs.declared.message.Message.TheVariants.{NoPattern, NotFound, NoBuffer}
+use Rattle.mgs_model.specs.declared.echo_text.Message.{Message}
+use Rattle.mgs_model.specs.declared.echo_text.Message.TheVariants.{NoPattern, NotFound, NoBuffer}
 use Rattle.mgs_model.specs.declared.session.Seeking.{Seeking}
 use Rattle.mgs_model.specs.declared.session.Seeking.TheVariants.{SearchFor, StartSearch, SearchOn, StartReplace, SkipMatch}
 use Rattle.mgs_model.specs.declared.session.Replacement.{Replacement}

@@ -2,9 +2,8 @@
 use Rattle.std.specs.Prelude.{ℕ, ◌-◌, nat_lt, ◌==◌, Bool, true, false, not, ◌&&◌, ◌||◌, List, [], ◌∷◌, ◌++◌, length, take, Option, None, Some, Result, Ok, Err, cond, if◌then◌else◌}
 use Rattle.mgs_model.specs.World.{State, Todo, Typed, Played, Replace_all, Play}
 use Rattle.mgs_model.specs.Keys.{input_limit, is_graphic, ends_in_escape, value_of, KeyRead, Half, Bound, Not_bound, key_read, is_character_byte, character_read}
-use Rattle.mgs_model.specs.Commands.{find_command, command_names}
+use Rattle.mgs_model.specs.Commands.{find_command, command_names, command_for, names_buffers, names_commands}
 use Rattle.mgs_model.specs.Names.{same_name}
-use Rattle.mgs_model.specs.Questions.{command_for, names_buffers, names_commands}
 use Rattle.mgs_model.specs.View.{View}
 use Rattle.mgs_model.specs.Completion.{completion, shown_names}
 use Rattle.mgs_model.specs.Outcome.{Act, Unbound, Run}
@@ -15,8 +14,8 @@ use Rattle.mgs_model.specs.declared.sequence.Sequence.TheVariants.{Whole, Begun,
 use Rattle.mgs_model.specs.declared.search.Direction.{Direction}
 use Rattle.mgs_model.specs.declared.search.SearchStep.{SearchStep}
 use Rattle.mgs_model.specs.declared.search.SearchStep.TheVariants.{FromAnchor, Ends, Quits, Leaves}
-use Rattle.mgs_model.specs.declared.message.Message.{Message}
-use Rattle.mgs_model.specs.declared.message.Message.TheVariants.{Silent, KeyNotBound, Quitting, NoMatch, NoSuchCommand, Replaced}
+use Rattle.mgs_model.specs.declared.echo_text.Message.{Message}
+use Rattle.mgs_model.specs.declared.echo_text.Message.TheVariants.{Silent, KeyNotBound, Quitting, NoMatch, NoSuchCommand, Replaced}
 use Rattle.mgs_model.specs.declared.session.Mode.{Mode}
 use Rattle.mgs_model.specs.declared.session.Mode.TheVariants.{Plain, Prompt, Searching, Replacing}
 use Rattle.mgs_model.specs.declared.session.Motion.TheVariants.{GoToLine}

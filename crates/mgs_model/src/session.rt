@@ -1,6 +1,8 @@
 // The words for a session's state.
 ghost use Rattle.std.specs.Prelude.{◌≡◌};
-ghost use Rattle.mgs_model.specs.Questions.{asked};
+ghost use Rattle.mgs_model.specs.Commands.{asked};
+ghost use Rattle.mgs_model.specs.declared.session.Command.TheVariants.{Named};
+ghost use Rattle.mgs_model.specs.declared.session.Wanted.TheVariants.{AnyText, BufferName};
 
 use crate::name::Name;
 use crate::search::{Direction, SearchStep};
@@ -324,6 +326,34 @@ pub struct Asking {
     pub text: &'static [u8],
     /// What is wanted.
     pub wanted: Wanted,
+    /// The command that the answer is for.
+    pub command: Command,
+}
+
+// A row of a question that wants the name of a buffer, for a command on it.
+fn for_buffer(text: &'static [u8], command: ByName) -> Asking
+    ensures text { result.text.now ≡ text.now }
+    ensures wanted { result.wanted ≡ BufferName }
+    ensures command { result.command ≡ Named command }
+{
+    Asking {
+        text,
+        wanted: Wanted::BufferName,
+        command: Command::Named(command),
+    }
+}
+
+// A row of one that wants any text, for a command that reads it.
+fn for_text(text: &'static [u8], command: Command) -> Asking
+    ensures text { result.text.now ≡ text.now }
+    ensures wanted { result.wanted ≡ AnyText }
+    ensures command { result.command ≡ command }
+{
+    Asking {
+        text,
+        wanted: Wanted::AnyText,
+        command,
+    }
 }
 
 impl Question {
@@ -331,23 +361,35 @@ impl Question {
     pub fn asking(self) -> Asking
         ensures text { result.text.now ≡ (asked self).text }
         ensures wanted { result.wanted ≡ (asked self).wanted }
+        ensures command { result.command ≡ (asked self).command }
     {
-        let (text, wanted): (&[u8], Wanted) = match self {
-            Question::SwitchTo => (b"Switch to buffer: ", Wanted::BufferName),
-            Question::FindWhich => (b"Find file: ", Wanted::BufferName),
-            Question::KillWhich => (b"Kill buffer: ", Wanted::BufferName),
-            Question::InsertWhich => (b"Insert buffer: ", Wanted::BufferName),
-            Question::RunWhich => (b"M-x ", Wanted::CommandName),
-            Question::GoToWhich => (b"Goto line: ", Wanted::AnyText),
-            Question::EntryToInsert => (b"Entry: ", Wanted::AnyText),
-            Question::EntryToReplace => (b"Entry: ", Wanted::AnyText),
-            Question::WhichOwner => (b"Owner: ", Wanted::AnyText),
-            Question::WhichGroup => (b"Group: ", Wanted::AnyText),
-            Question::SearchWhat(_) => (b"Search: ", Wanted::AnyText),
-            Question::ReplaceWhat => (b"Query replace: ", Wanted::AnyText),
-            Question::ReplaceWith => (b"With: ", Wanted::AnyText),
-        };
-        Asking { text, wanted }
+        match self {
+            Question::SwitchTo => for_buffer(b"Switch to buffer: ", ByName::SwitchToBuffer),
+            Question::FindWhich => for_buffer(b"Find file: ", ByName::SwitchToBuffer),
+            Question::KillWhich => for_buffer(b"Kill buffer: ", ByName::KillBuffer),
+            Question::InsertWhich => for_buffer(b"Insert buffer: ", ByName::InsertBuffer),
+            Question::RunWhich => Asking {
+                text: b"M-x ",
+                wanted: Wanted::CommandName,
+                command: Command::Ask(Question::RunWhich),
+            },
+            Question::GoToWhich => for_text(b"Goto line: ", Command::Move(Motion::GoToLine)),
+            Question::EntryToInsert => {
+                for_text(b"Entry: ", Command::Entries(EntryChange::InsertEntry))
+            }
+            Question::EntryToReplace => {
+                for_text(b"Entry: ", Command::Entries(EntryChange::ReplaceEntry))
+            }
+            Question::WhichOwner => for_text(b"Owner: ", Command::SetOwner),
+            Question::WhichGroup => for_text(b"Group: ", Command::SetGroup),
+            Question::SearchWhat(direction) => {
+                for_text(b"Search: ", Command::Seek(Seeking::SearchFor(direction)))
+            }
+            Question::ReplaceWhat => {
+                for_text(b"Query replace: ", Command::Ask(Question::ReplaceWith))
+            }
+            Question::ReplaceWith => for_text(b"With: ", Command::Seek(Seeking::StartReplace)),
+        }
     }
 }
 

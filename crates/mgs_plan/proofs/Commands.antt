@@ -16,13 +16,12 @@ use Rattle.mgs_model.specs.declared.session.Command.TheVariants.{Ask, Set}
 use Rattle.mgs_model.specs.declared.session.Question.{Question}
 use Rattle.mgs_model.specs.declared.session.Setting.{Setting}
 use Rattle.mgs_model.specs.declared.session.Setting.TheVariants.{SetFillColumn, KeyboardQuit, StartMacro, EndMacro, CallMacro}
-use Rattle.mgs_model.specs.declared.message.Message.{Message}
-use Rattle.mgs_model.specs.declared.message.Message.TheVariants.{BadColumn, InMacro, NoArgument, NotInMacro, Quitting}
+use Rattle.mgs_model.specs.declared.echo_text.Message.{Message}
+use Rattle.mgs_model.specs.declared.echo_text.Message.TheVariants.{BadColumn, InMacro, NoArgument, NotInMacro, Quitting}
 use Rattle.mgs_model.specs.declared.session.Kind.TheVariants.{Other}
 use Rattle.mgs_model.proofs.Firsts.{position_or_len-map, written_first}
 use Rattle.mgs_buffers.specs.MarkedBuffer.{MarkedBuffer}
 use Rattle.mgs_session.specs.Sessions.{acted, asking, failed, filling, macro_ended, macro_given_up, macro_started}
-use Rattle.mgs_session.specs.declared.State.{State}
 use Rattle.mgs_session.specs.declared.Session.{Session}
 use Rattle.mgs_plan.specs.Actions.{is_setting_done}
 use Rattle.mgs_plan.specs.Setting.{session_set}

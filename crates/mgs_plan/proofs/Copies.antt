@@ -11,7 +11,7 @@ use Rattle.mgs_model.specs.Acts.{Target, acts_at, around, copy_needs, deciders_f
 use Rattle.mgs_model.specs.Plans.{inserted}
 use Rattle.mgs_model.specs.declared.entry.Decision.{Decision}
 use Rattle.mgs_model.specs.declared.entry.Decision.TheVariants.{Granted}
-use Rattle.mgs_model.specs.declared.message.Message.{Message}
+use Rattle.mgs_model.specs.declared.echo_text.Message.{Message}
 use Rattle.mgs_model.specs.declared.right.Right.{Right}
 use Rattle.mgs_model.specs.declared.right.Right.TheVariants.{AppendData, ReadData}
 use Rattle.mgs_model.specs.declared.session.ByName.TheVariants.{InsertBuffer}
@@ -23,7 +23,7 @@ use Rattle.mgs_session.specs.Sessions.{window_marks_of}
 use Rattle.mgs_session.specs.declared.Session.{Session}
 use Rattle.mgs_plan.specs.Actions.{AreMarks, edit_outcome, insertion_mask, place_in}
 use Rattle.mgs_plan.specs.Inserting.{copy_outcome, insertion_of, insertion_outcome, outcome_from}
-use Rattle.mgs_model.specs.declared.message.Message.TheVariants.{NoBuffer}
+use Rattle.mgs_model.specs.declared.echo_text.Message.TheVariants.{NoBuffer}
 use Rattle.mgs_plan.specs.Deciding.{IsOutcome, outcome_read}
 use Rattle.mgs_plan.specs.declared.outcome.Outcome as code
 use Rattle.mgs_plan.specs.declared.outcome.Outcome.TheVariants.{Fails}

@@ -15,7 +15,7 @@ use Rattle.mgs_session.specs.declared.Session.{Session}
 use Rattle.mgs_model.specs.declared.session.Command.{Command}
 use Rattle.mgs_model.specs.declared.session.Command.TheVariants.{Insert, InsertReading, Move, Alter, Seek, Scroll, UndoEdit, NotModified}
 use Rattle.mgs_model.specs.declared.session.Seeking.TheVariants.{SearchFor}
-use Rattle.mgs_model.specs.declared.message.Message.TheVariants.{NoBuffer}
+use Rattle.mgs_model.specs.declared.echo_text.Message.TheVariants.{NoBuffer}
 use Rattle.mgs_model.specs.declared.search.Direction.{Direction}
 use Rattle.mgs_session.specs.Sessions.{window_marks_of}
 use Rattle.mgs_windows.specs.declared.WindowMarks.{WindowMarks}

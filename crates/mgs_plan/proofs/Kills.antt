@@ -12,7 +12,7 @@ use Rattle.mgs_model.specs.Outcome.{Kill, Run}
 use Rattle.mgs_model.specs.Acts.{Request, deciders_found, effects, judged, kills_buffer, name_shown, or_else, outcome, permitted, there}
 use Rattle.mgs_model.specs.Acts as acts
 use Rattle.mgs_model.specs.declared.entry.Decision.TheVariants.{Granted}
-use Rattle.mgs_model.specs.declared.message.Message.{Message}
+use Rattle.mgs_model.specs.declared.echo_text.Message.{Message}
 use Rattle.mgs_model.specs.declared.session.ByName.TheVariants.{KillBuffer}
 use Rattle.mgs_model.specs.declared.session.Command.TheVariants.{Named}
 use Rattle.mgs_model.proofs.Firsts.{find-map}
@@ -103,14 +103,13 @@ kill_there directory ks state user (c ∷ cs) kept form = go (find (marked_named
     go (Some k) e = refl
 
 module _ (directory : Directory) (ks : List MarkedBuffer) (xs : List Session) (next n : Option ℕ) (h : Session) (typed : List ℕ) where
-  pub kill_planned : (name : List ℕ) (mask : ℕ) (o : Outcome) → name ≡ name_meant (subject_of h) typed → HasBuffer name ks → IsName name → mask ≡ 65536 → IsJudged directory ks h.user name mask (Kills name) o → IsOutcome directory ks xs next h (Run (Named KillBuffer) n typed) o
-  kill_planned name mask o name_is kept form mask_is planned = λ stored.
+  pub kill_planned : (name : List ℕ) (o : Outcome) → name ≡ name_meant (subject_of h) typed → HasBuffer name ks → IsName name → IsJudged directory ks h.user name 65536 (Kills name) o → IsOutcome directory ks xs next h (Run (Named KillBuffer) n typed) o
+  kill_planned name o name_is kept form planned = λ stored.
       let state = state_of h.state in
       unstored (view_at directory ks xs next h) (Run (Named KillBuffer) n typed) stored refl
       ∙ kill_known directory ks xs next h n typed
       ∙ ap (kill_named directory ks state h.user) (sym name_is)
       ∙ sym (kill_there directory ks state h.user name kept form)
-      ∙ ap (λ (m : ℕ). permitted state (rights_decision directory ks h.user name m) (effects state (Ok (Kill name)))) (sym mask_is)
       ∙ planned (view_at directory ks xs next h) stored
 
   pub kill_refused : (message : Message) → IsKillRefused ks (subject_of h) typed message → IsOutcome directory ks xs next h (Run (Named KillBuffer) n typed) (Fails message)

@@ -16,7 +16,7 @@ pub mod Switches
 pub mod Lines
 pub mod Stored
 pub mod Named
-pub mod Questions
+pub mod Answered
 pub mod Saves
 pub mod Unbound
 pub mod Granted

@@ -6,13 +6,12 @@ use Rattle.mgs_model.specs.Rights.{rights_in}
 use Rattle.mgs_model.specs.View.{BufferSeen, View, buffer_seen, find_seen, view}
 use Rattle.mgs_model.specs.Outcome.{Run}
 use Rattle.mgs_model.specs.Acts.{about, judged, lists, outcome, permitted, subject}
-use Rattle.mgs_model.specs.declared.message.Message.TheVariants.{NoBuffer}
+use Rattle.mgs_model.specs.declared.echo_text.Message.TheVariants.{NoBuffer}
 use Rattle.mgs_model.specs.declared.session.Command.TheVariants.{ListEntries}
 use Rattle.mgs_buffers.specs.MarkedBuffer.{HasBuffer, MarkedBuffer, has_buffer, marked_at}
 use Rattle.mgs_session.specs.Sessions.{subject_of}
 use Rattle.mgs_session.specs.declared.Session.{Session}
 use Rattle.mgs_plan.specs.Deciding.{IsJudged, IsOutcome, view_at}
-use Rattle.mgs_plan.specs.Inserting.{rights_decision}
 use Rattle.mgs_plan.specs.Listing.{list_outcome, lists_named}
 use Rattle.mgs_plan.specs.Subjects.{subject_kept}
 use Rattle.mgs_plan.specs.declared.outcome.Outcome.{Outcome}
@@ -51,13 +50,11 @@ module _ (directory : Directory) (ks : List MarkedBuffer) (xs : List Session) (n
       unstored (view_at directory ks xs next h) (Run ListEntries n []) stored refl
       ∙ list_seen directory ks xs next n h unnamed ∙ ap (λ s. list_outcome directory ks h.user s (view_at directory ks xs next h)) (sym none)
 
-  pub list_planned : (name : List ℕ) (mask : ℕ) (o : Outcome) → Some name ≡ subject_kept ks (subject_of h) → mask ≡ 131072
-      → IsJudged directory ks h.user name mask (Lists name) o
+  pub list_planned : (name : List ℕ) (o : Outcome) → Some name ≡ subject_kept ks (subject_of h) → IsJudged directory ks h.user name 131072 (Lists name) o
       → IsOutcome directory ks xs next h (Run ListEntries n []) o
-  list_planned name mask o shown mask_is planned = λ stored.
+  list_planned name o shown planned = λ stored.
       let v = view_at directory ks xs next h in
       unstored v (Run ListEntries n []) stored refl
       ∙ list_seen directory ks xs next n h unnamed
       ∙ ap (λ s. list_outcome directory ks h.user s v) (sym shown)
-      ∙ ap (λ (m : ℕ). permitted v.session.state (rights_decision directory ks h.user name m) (lists_named v name)) (sym mask_is)
       ∙ planned v stored

@@ -1,11 +1,13 @@
 -- What a command on a buffer of a name comes to, whichever the command.
-use Rattle.std.proofs.Common.{◌≡◌, ℕ, Bool, true, false, List, [], ◌∷◌, Option, Some, None, sym, ap, ◌∙◌}
+use Rattle.std.proofs.Common.{◌≡◌, ℕ, Bool, true, false, List, [], ◌∷◌, Option, Some, None, refl, ap, subst, ◌∙◌}
 use Rattle.mgs_model.specs.Access.{Directory, decision_by}
 use Rattle.mgs_model.specs.Rights.{rights_in}
 use Rattle.mgs_model.specs.View.{BufferSeen, View, buffer_seen, find_seen}
-use Rattle.mgs_model.specs.Outcome.{Act}
+use Rattle.mgs_model.specs.Outcome.{Act, Run}
 use Rattle.mgs_model.specs.Outcome as outcomes
-use Rattle.mgs_model.specs.Acts.{about, deciders_found, judged, outcome, permitted, subject}
+use Rattle.mgs_model.specs.Acts.{Meaning, about, deciders_found, judged, meaning_by_name, outcome, permitted, subject, there}
+use Rattle.mgs_model.specs.declared.session.ByName.{ByName}
+use Rattle.mgs_model.specs.declared.session.Command.TheVariants.{Named}
 use Rattle.mgs_buffers.specs.MarkedBuffer.{HasBuffer, MarkedBuffer, has_buffer, marked_at}
 use Rattle.mgs_session.specs.declared.Session.{Session}
 use Rattle.mgs_plan.specs.Deciding.{IsJudged, IsOutcome, outcome_read, view_at}
@@ -43,19 +45,18 @@ module _ (directory : Directory) (ks : List MarkedBuffer) (xs : List Session) (n
 
   module _ (is : outcome seen c true ≡ outcome_named seen name rights does (find_seen name seen.buffers)) where
     -- it is there
-    pub named_kept : (mask : ℕ) (granted o : Outcome) → HasBuffer name ks → mask ≡ rights
+    pub named_kept : (granted o : Outcome) → HasBuffer name ks
         → ((stored : Bool) → does (Some (buffer_seen directory h.user (marked_at name ks).buffer)) ≡ outcome_read ks seen granted stored)
-        → IsJudged directory ks h.user name mask granted o
+        → IsJudged directory ks h.user name rights granted o
         → IsOutcome directory ks xs next h c o
-    named_kept mask granted o kept mask_is done planned = λ stored.
+    named_kept granted o kept done planned = λ stored.
         let b = buffer_seen directory h.user (marked_at name ks).buffer in
         let found : find_seen name seen.buffers ≡ Some b = found_seen directory h.user name ks kept in
         unstored seen c stored unsaved
         ∙ is
         ∙ ap (outcome_named seen name rights does) found
         ∙ ap (λ d. permitted seen.session.state d (does (Some b))) (request_judged seen name rights b found)
-        ∙ ap (λ (m : ℕ). permitted seen.session.state (rights_decision directory ks h.user name m) (does (Some b))) (sym mask_is)
-        ∙ ap (permitted seen.session.state (rights_decision directory ks h.user name mask)) (done stored)
+        ∙ ap (permitted seen.session.state (rights_decision directory ks h.user name rights)) (done stored)
         ∙ planned seen stored
 
     -- it is not
@@ -65,3 +66,27 @@ module _ (directory : Directory) (ks : List MarkedBuffer) (xs : List Session) (n
         ∙ is
         ∙ ap (outcome_named seen name rights does) (unseen directory h.user name ks free)
         ∙ done stored
+
+-- THE BUFFER OF THE NAME THAT WAS TYPED
+
+-- by what it needs and does there, as its row has it
+module _ (directory : Directory) (ks : List MarkedBuffer) (xs : List Session) (next : Option ℕ) (h : Session) (k : ByName) (n : Option ℕ) (typed : List ℕ) (rights : ℕ) (does : View → Option BufferSeen → outcomes.Outcome) (row : (v : View) → meaning_by_name v k n typed ≡ record { needs = there v typed rights; does = does v (find_seen typed v.buffers) }) where
+  abbrev there_seen : View
+  there_seen = view_at directory ks xs next h
+
+  row_seen : outcome there_seen (Run (Named k) n typed) true ≡ outcome_named there_seen typed rights (does there_seen) (find_seen typed there_seen.buffers)
+  unfolding outcome
+  row_seen = ap (λ (m : Meaning). permitted there_seen.session.state (judged there_seen m.needs) m.does) (row there_seen)
+
+  -- it is there
+  pub typed_kept : (name : List ℕ) (granted : List ℕ → Outcome) (o : Outcome) → name ≡ typed → HasBuffer typed ks
+      → ((stored : Bool) → does there_seen (Some (buffer_seen directory h.user (marked_at typed ks).buffer)) ≡ outcome_read ks there_seen (granted typed) stored)
+      → IsJudged directory ks h.user name rights (granted name) o
+      → IsOutcome directory ks xs next h (Run (Named k) n typed) o
+  typed_kept name granted o name_is kept done planned =
+      named_kept directory ks xs next h (Run (Named k) n typed) typed rights (does there_seen) refl row_seen (granted typed) o kept done
+      (subst (λ (m : List ℕ). IsJudged directory ks h.user m rights (granted m) o) name_is planned)
+
+  -- it is not
+  pub typed_free : (o : Outcome) → has_buffer typed ks ≡ false → ((stored : Bool) → does there_seen None ≡ outcome_read ks there_seen o stored) → IsOutcome directory ks xs next h (Run (Named k) n typed) o
+  typed_free o free done = named_free directory ks xs next h (Run (Named k) n typed) typed rights (does there_seen) refl row_seen o free done

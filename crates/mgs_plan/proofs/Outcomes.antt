@@ -18,8 +18,8 @@ use Rattle.mgs_model.specs.declared.right.Right.{Right}
 use Rattle.mgs_model.specs.declared.right.Right.TheVariants.{ReadData, WriteData, AppendData}
 use Rattle.mgs_model.specs.declared.entry.Decision.{Decision}
 use Rattle.mgs_model.specs.declared.entry.Decision.TheVariants.{Granted}
-use Rattle.mgs_model.specs.declared.message.Message.{Message}
-use Rattle.mgs_model.specs.declared.message.Message.TheVariants.{NoBuffer}
+use Rattle.mgs_model.specs.declared.echo_text.Message.{Message}
+use Rattle.mgs_model.specs.declared.echo_text.Message.TheVariants.{NoBuffer}
 use Rattle.mgs_model.specs.declared.session.Command.{Command}
 use Rattle.mgs_model.specs.declared.session.Command.TheVariants.{Insert, InsertReading, Move, Alter, Seek, Replace, Scroll, UndoEdit, NotModified}
 use Rattle.mgs_model.specs.declared.session.Seeking.{Seeking}

@@ -12,7 +12,7 @@ use Rattle.mgs_model.specs.View.{View, text_in, view_of}
 use Rattle.mgs_model.specs.World.{State, World}
 use Rattle.mgs_model.specs.declared.entry.Decision.{Decision}
 use Rattle.mgs_model.specs.declared.entry.Decision.TheVariants.{Granted}
-use Rattle.mgs_model.specs.declared.message.Message.{Message}
+use Rattle.mgs_model.specs.declared.echo_text.Message.{Message}
 use Rattle.mgs_model.specs.declared.session.Arrangement.{Arrangement}
 use Rattle.mgs_model.specs.declared.session.Command.TheVariants.{Ask, LeaveSearch, Rearrange, Seek, Set}
 use Rattle.mgs_model.specs.declared.session.Seeking.{Seeking}

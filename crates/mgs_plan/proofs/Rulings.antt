@@ -12,8 +12,8 @@ use Rattle.mgs_model.specs.Outcome.{Effect, SetOwners, Run}
 use Rattle.mgs_model.specs.declared.owners.NewOwner.TheVariants.{ToUser, ToGroup}
 use Rattle.mgs_model.specs.Plans.{entries_changed}
 use Rattle.mgs_model.specs.Acts.{about, effects, entries_told, fails, judged, outcome, permitted, list_set, rules, subject}
-use Rattle.mgs_model.specs.declared.message.Message.{Message}
-use Rattle.mgs_model.specs.declared.message.Message.TheVariants.{NoBuffer, NoSuchUser, NoSuchGroup}
+use Rattle.mgs_model.specs.declared.echo_text.Message.{Message}
+use Rattle.mgs_model.specs.declared.echo_text.Message.TheVariants.{NoBuffer, NoSuchUser, NoSuchGroup}
 use Rattle.mgs_model.specs.declared.right.Right.{Right}
 use Rattle.mgs_model.specs.declared.right.Right.TheVariants.{ReadData, WriteAcl}
 use Rattle.mgs_model.specs.declared.session.EntryChange.{EntryChange}

@@ -3,7 +3,7 @@ use Rattle.std.proofs.Common.{ℕ, List, Option, refl}
 use Rattle.mgs_model.specs.Access.{Directory}
 use Rattle.mgs_model.specs.Acts.{outcome}
 use Rattle.mgs_model.specs.Outcome.{Unbound}
-use Rattle.mgs_model.specs.declared.message.Message.TheVariants.{KeyNotBound}
+use Rattle.mgs_model.specs.declared.echo_text.Message.TheVariants.{KeyNotBound}
 use Rattle.mgs_buffers.specs.MarkedBuffer.{MarkedBuffer}
 use Rattle.mgs_session.specs.declared.Session.{Session}
 use Rattle.mgs_plan.specs.Deciding.{IsOutcome}

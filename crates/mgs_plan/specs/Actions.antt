@@ -12,17 +12,20 @@ use Rattle.mgs_model.specs.Outcome.{Outcome, No_effect, Unmodified, PointPlan, K
 use Rattle.mgs_model.specs.Outcome as outcomes
 use Rattle.mgs_model.specs.Plans as plans
 use Rattle.mgs_model.specs.Plans.{alteration, insertion, motion, reading_insertion, scrolling, undo, undone}
+use Rattle.mgs_model.specs.Commands.{command_for}
 use Rattle.mgs_model.specs.SearchCommands.{AroundSearch, SearchChange, seek}
 use Rattle.mgs_model.specs.Acts.{effects, fails, finished, edit_of, is_full, is_too_large, moved_by, permitted, search_finished, sought_by}
 use Rattle.mgs_model.specs.declared.right.Right.{Right}
 use Rattle.mgs_model.specs.declared.right.Right.TheVariants.{ReadData}
-use Rattle.mgs_model.specs.declared.message.Message.{Message}
-use Rattle.mgs_model.specs.declared.message.Message.TheVariants.{KeyNotBound, BufferFull, Silent}
+use Rattle.mgs_model.specs.declared.echo_text.Message.{Message}
+use Rattle.mgs_model.specs.declared.echo_text.Message.TheVariants.{KeyNotBound, BufferFull, Silent}
 use Rattle.mgs_model.specs.declared.session.Command.{Command}
-use Rattle.mgs_model.specs.declared.session.Command.TheVariants.{Insert, InsertReading, Move, Alter, Scroll, Set, Rearrange, Ask, Entries, ListEntries, UndoEdit, NotModified, SaveBuffer}
+use Rattle.mgs_model.specs.declared.session.Command.TheVariants.{Insert, InsertReading, Move, Alter, Seek, Scroll, Set, Rearrange, Ask, Entries, ListEntries, SetOwner, SetGroup, UndoEdit, NotModified, SaveBuffer}
+use Rattle.mgs_model.specs.declared.session.Command.TheVariants as commands
 use Rattle.mgs_model.specs.declared.search.Direction.{Direction}
 use Rattle.mgs_model.specs.declared.session.Kind.{Kind}
 use Rattle.mgs_model.specs.declared.session.Kind.TheVariants.{Other}
+use Rattle.mgs_model.specs.declared.session.Motion.TheVariants.{GoToLine}
 use Rattle.mgs_model.specs.declared.session.Seeking.{Seeking}
 use Rattle.mgs_model.specs.declared.session.Seeking.TheVariants.{SearchFor}
 use Rattle.mgs_model.specs.declared.session.EntryChange.{EntryChange}
@@ -43,7 +46,6 @@ use Rattle.mgs_edit.specs.declared.plan.Finish.{Finish}
 use Rattle.mgs_edit.specs.declared.plan.Undone.{Undone}
 use Rattle.mgs_undo.specs.History.{has_serial}
 use Rattle.mgs_model.specs.declared.session.Question.{Question}
-use Rattle.mgs_model.specs.declared.session.Question.TheVariants.{RunWhich, ReplaceWhat, ReplaceWith}
 use Rattle.mgs_world.specs.Marking.{IsReserved, session_marked}
 use Rattle.mgs_world.specs.Worlds.{idle, state_of}
 use Rattle.mgs_plan.specs.declared.key_act.KeyAct.{KeyAct}
@@ -91,12 +93,19 @@ is_command_done ListEntries = true
 is_command_done SaveBuffer = true
 is_command_done c = is_on_text c
 
--- the questions whose answers are done here: a command's name is looked up elsewhere, and so is what is to be replaced
+-- the commands whose answers are done here: the name of a command is looked up elsewhere, and so is what is to be replaced
+abbrev pub takes_answer : Command → Bool
+takes_answer (commands.Named c) = true
+takes_answer (Entries c) = true
+takes_answer SetOwner = true
+takes_answer SetGroup = true
+takes_answer (Move GoToLine) = true
+takes_answer (Seek (SearchFor d)) = true
+takes_answer _ = false
+
+-- the questions that are for one of them
 abbrev pub is_answered : Question → Bool
-is_answered RunWhich = false
-is_answered ReplaceWhat = false
-is_answered ReplaceWith = false
-is_answered _ = true
+is_answered question = takes_answer (command_for question)
 
 abbrev pub is_done_here : KeyAct → Bool
 is_done_here Unbound = true

@@ -9,7 +9,7 @@ use Rattle.mgs_model.specs.View.{View, view}
 use Rattle.mgs_model.specs.World.{State}
 use Rattle.mgs_model.specs.declared.entry.Decision.{Decision}
 use Rattle.mgs_model.specs.declared.entry.Decision.TheVariants.{Granted}
-use Rattle.mgs_model.specs.declared.message.Message.{Message}
+use Rattle.mgs_model.specs.declared.echo_text.Message.{Message}
 use Rattle.mgs_model.specs.declared.session.Command.TheVariants.{Ask, Rearrange, Set}
 use Rattle.mgs_model.specs.declared.session.Scrolling.{Scrolling}
 use Rattle.mgs_buffers.specs.Changing.{writes}

@@ -7,7 +7,7 @@ use Rattle.mgs_model.specs.Plans as plans
 use Rattle.mgs_model.specs.Acts.{edit_of, fails, finished, is_full, or_else, permitted}
 use Rattle.mgs_model.specs.Apply.{change_first}
 use Rattle.mgs_model.specs.declared.entry.Decision.{Decision}
-use Rattle.mgs_model.specs.declared.message.Message.TheVariants.{NoBuffer, NoSuchBuffer, Silent}
+use Rattle.mgs_model.specs.declared.echo_text.Message.TheVariants.{NoBuffer, NoSuchBuffer, Silent}
 use Rattle.mgs_model.specs.declared.right.Right.TheVariants.{ReadData}
 use Rattle.mgs_model.specs.declared.session.Kind.TheVariants.{Other}
 use Rattle.mgs_buffers.specs.MarkedBuffer.{HasBuffer, MarkedBuffer, has_buffer, mark_at, marked_at, marked_named, marked_placed}

@@ -6,8 +6,8 @@ use Rattle.mgs_model.specs.Outcome.{Outcome, Kill}
 use Rattle.mgs_model.specs.Acts.{effects, fails, permitted}
 use Rattle.mgs_model.specs.declared.entry.Decision.{Decision}
 use Rattle.mgs_model.specs.declared.entry.Decision.TheVariants.{Granted}
-use Rattle.mgs_model.specs.declared.message.Message.{Message}
-use Rattle.mgs_model.specs.declared.message.Message.TheVariants.{NoBuffer, NoSuchBuffer}
+use Rattle.mgs_model.specs.declared.echo_text.Message.{Message}
+use Rattle.mgs_model.specs.declared.echo_text.Message.TheVariants.{NoBuffer, NoSuchBuffer}
 use Rattle.mgs_buffers.specs.MarkedBuffer.{MarkedBuffer, marked_named}
 
 -- the name that was typed, or else that of the buffer whose text or access list a window shows; none where it shows neither

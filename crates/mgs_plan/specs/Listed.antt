@@ -2,7 +2,7 @@
 use Rattle.std.specs.Prelude.{◌≡◌, ℕ, List, [], Result, Ok}
 use Rattle.mgs_model.specs.Plans.{entries_changed, entry_inserted, entry_replaced, new_number}
 use Rattle.mgs_model.specs.declared.entry.Entry.{Entry}
-use Rattle.mgs_model.specs.declared.message.Message.{Message}
+use Rattle.mgs_model.specs.declared.echo_text.Message.{Message}
 use Rattle.mgs_model.specs.declared.session.EntryChange.TheVariants.{DeleteEntry}
 use Rattle.mgs_buffers.specs.MarkedBuffer.{HasBuffer, MarkedBuffer, marked_at}
 use Rattle.mgs_plan.specs.declared.outcome.EntryPlan.{EntryPlan}

@@ -6,7 +6,7 @@ use Rattle.mgs_model.specs.View.{View}
 use Rattle.mgs_model.specs.Outcome.{Outcome, No_effect}
 use Rattle.mgs_model.specs.Plans.{comes}
 use Rattle.mgs_model.specs.Acts.{arranges, fails, permitted}
-use Rattle.mgs_model.specs.declared.message.Message.TheVariants.{NoBuffer}
+use Rattle.mgs_model.specs.declared.echo_text.Message.TheVariants.{NoBuffer}
 use Rattle.mgs_buffers.specs.MarkedBuffer.{MarkedBuffer}
 use Rattle.mgs_plan.specs.Inserting.{rights_decision}
 

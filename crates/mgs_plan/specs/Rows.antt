@@ -5,7 +5,7 @@ use Rattle.mgs_model.specs.Outcome.{Outcome}
 use Rattle.mgs_model.specs.Plans.{row_scrolled}
 use Rattle.mgs_model.specs.Acts.{fails, scrolls_rows}
 use Rattle.mgs_model.specs.Apply.{change_at}
-use Rattle.mgs_model.specs.declared.message.Message.TheVariants.{NoBuffer}
+use Rattle.mgs_model.specs.declared.echo_text.Message.TheVariants.{NoBuffer}
 use Rattle.mgs_model.specs.declared.session.Command.{Command}
 use Rattle.mgs_model.specs.declared.session.Command.TheVariants.{Scroll}
 use Rattle.mgs_model.specs.declared.session.Kind.TheVariants.{Other}

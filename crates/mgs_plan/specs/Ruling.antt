@@ -7,8 +7,8 @@ use Rattle.mgs_model.specs.declared.owners.NewOwner.TheVariants.{ToUser, ToGroup
 use Rattle.mgs_model.specs.Plans.{entries_changed}
 use Rattle.mgs_model.specs.Acts.{effects, fails, permitted, list_set}
 use Rattle.mgs_model.specs.declared.entry.Entry.{Entry}
-use Rattle.mgs_model.specs.declared.message.Message.{Message}
-use Rattle.mgs_model.specs.declared.message.Message.TheVariants.{NoBuffer, NoSuchUser, NoSuchGroup}
+use Rattle.mgs_model.specs.declared.echo_text.Message.{Message}
+use Rattle.mgs_model.specs.declared.echo_text.Message.TheVariants.{NoBuffer, NoSuchUser, NoSuchGroup}
 use Rattle.mgs_model.specs.declared.session.Command.{Command}
 use Rattle.mgs_model.specs.declared.session.Command.TheVariants as commands
 use Rattle.mgs_buffers.specs.MarkedBuffer.{MarkedBuffer, marked_at}

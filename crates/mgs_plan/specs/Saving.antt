@@ -6,8 +6,8 @@ use Rattle.mgs_model.specs.Outcome.{Outcome, Keep_kill, Stay, Save}
 use Rattle.mgs_model.specs.Plans.{acted_state}
 use Rattle.mgs_model.specs.Acts.{fails, permitted}
 use Rattle.mgs_model.specs.declared.entry.Decision.{Decision}
-use Rattle.mgs_model.specs.declared.message.Message.{Message}
-use Rattle.mgs_model.specs.declared.message.Message.TheVariants.{InMacro, NoFile, SaveFailed, Wrote}
+use Rattle.mgs_model.specs.declared.echo_text.Message.{Message}
+use Rattle.mgs_model.specs.declared.echo_text.Message.TheVariants.{InMacro, NoFile, SaveFailed, Wrote}
 use Rattle.mgs_buffers.specs.MarkedBuffer.{MarkedBuffer, marked_at}
 use Rattle.mgs_plan.specs.Inserting.{rights_decision}
 

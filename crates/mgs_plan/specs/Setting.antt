@@ -1,6 +1,6 @@
 -- What a setting leaves of a session that has nothing half read.
 use Rattle.std.specs.Prelude.{ℕ, ◌==◌, ◌||◌, Option, None, Some, cond, if◌then◌else◌}
-use Rattle.mgs_model.specs.declared.message.Message.TheVariants.{Quitting, NoArgument, BadColumn, InMacro, NotInMacro}
+use Rattle.mgs_model.specs.declared.echo_text.Message.TheVariants.{Quitting, NoArgument, BadColumn, InMacro, NotInMacro}
 use Rattle.mgs_model.specs.declared.session.Kind.TheVariants.{Other}
 use Rattle.mgs_model.specs.declared.session.Setting.{Setting}
 use Rattle.mgs_model.specs.declared.session.Setting.TheVariants.{SetFillColumn, KeyboardQuit, StartMacro, EndMacro, CallMacro}

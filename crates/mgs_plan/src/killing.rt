@@ -9,21 +9,13 @@ ghost use Rattle.mgs_buffers.specs.MarkedBuffer.{HasBuffer};
 ghost use Rattle.mgs_plan.specs.Deciding.{CanPerform, IsPlanned};
 ghost use Rattle.mgs_plan.specs.Killing.{IsKillRefused, name_meant};
 
-use crate::actor::Actor;
 use crate::judging::judged;
 use crate::outcome::Outcome;
 use mgs_buffers::Buffers;
 use mgs_marks::Marked;
-use mgs_model::{Mask, Message, Name, Right};
+use mgs_model::{Message, Name, Right};
 use mgs_policy::Directory;
 use mgs_session::{Session, subject};
-
-/// The right that it needs.
-fn right_to_kill() -> Mask
-    ensures { result ≡ 65536 }
-{
-    Mask::of(Right::Delete)
-}
 
 /// The name of the buffer that is meant, or that there is none.
 fn meant<T: Marked + Drop>(
@@ -62,13 +54,8 @@ pub(crate) fn plan_kill<T: Marked + Drop>(
     match meant(buffers, subject(session), typed) {
         Err(message) => Outcome::Fails(message),
         Ok(name) => {
-            let mask = right_to_kill();
             let kills = Outcome::Kills(name);
-            let actor = Actor {
-                directory,
-                user: &session.user,
-            };
-            judged(buffers, &actor, &name, mask, kills)
+            judged(buffers, directory, session, &name, Right::Delete, kills)
         }
     }
 }

@@ -5,6 +5,7 @@ mod action;
 mod actor;
 mod acts;
 mod answering;
+mod by_name;
 mod entry_list;
 mod following;
 mod given;

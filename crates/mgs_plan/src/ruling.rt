@@ -12,14 +12,13 @@ ghost use Rattle.mgs_plan.specs.Deciding.{CanPerform, CanRule, CanWhereGranted, 
 ghost use Rattle.mgs_plan.specs.Listed.{entries_planned};
 ghost use Rattle.mgs_plan.specs.Ruling.{command_of, group_plan, owner_plan, ruling_mask, ruling_plan};
 
-use crate::actor::Actor;
 use crate::judging::judged;
 use crate::outcome::{EntryPlan, Outcome};
 use crate::subject::subject_in;
 use mgs_acl::{List, ListFault, entry_typed};
 use mgs_buffers::Buffers;
 use mgs_marks::Marked;
-use mgs_model::{Entry, EntryChange, Mask, Message, Name, NewOwner, Right};
+use mgs_model::{Entry, EntryChange, Message, Name, NewOwner, Right};
 use mgs_policy::Directory;
 use mgs_session::Session;
 
@@ -227,11 +226,7 @@ pub(crate) fn plan_rule<T: Marked + Drop>(
     let Some(name) = subject_in(buffers, session) else {
         return Outcome::Fails(Message::NoBuffer);
     };
-    let mask = Mask::of(right_for(ruling));
+    let right = right_for(ruling);
     let ruled = granted(buffers, directory, name, ruling, argument, typed);
-    let actor = Actor {
-        directory,
-        user: &session.user,
-    };
-    judged(buffers, &actor, &name, mask, ruled)
+    judged(buffers, directory, session, &name, right, ruled)
 }

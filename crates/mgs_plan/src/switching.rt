@@ -8,22 +8,14 @@ ghost use Rattle.mgs_buffers.specs.MarkedBuffer.{has_buffer};
 ghost use Rattle.mgs_session.specs.declared.Session as code;
 ghost use Rattle.mgs_plan.specs.Deciding.{CanPerform, IsCreation, IsPlanned};
 
-use crate::actor::Actor;
 use crate::judging::judged;
 use crate::naming::name_typed;
 use crate::outcome::Outcome;
 use mgs_buffers::Buffers;
 use mgs_marks::Marked;
-use mgs_model::{BUFFER_LIMIT, Mask, Message, Right};
+use mgs_model::{BUFFER_LIMIT, Message, Right};
 use mgs_policy::Directory;
 use mgs_session::Session;
-
-/// The right to come to a buffer.
-fn right_to_come() -> Mask
-    ensures { result ≡ 128 }
-{
-    Mask::of(Right::ReadAttributes)
-}
 
 /// What a switch to a buffer that is not there comes to: the name is judged first, and then whether there is room.
 fn switch_new<T: Marked + Drop>(buffers: &Buffers<T>, typed: &[char]) -> Outcome
@@ -53,13 +45,15 @@ pub(crate) fn plan_switch<T: Marked + Drop>(
     match buffers.name_typed(typed) {
         None => switch_new(buffers, typed),
         Some(name) => {
-            let mask = right_to_come();
             let shows = Outcome::Shows(name);
-            let actor = Actor {
+            judged(
+                buffers,
                 directory,
-                user: &session.user,
-            };
-            judged(buffers, &actor, &name, mask, shows)
+                session,
+                &name,
+                Right::ReadAttributes,
+                shows,
+            )
         }
     }
 }

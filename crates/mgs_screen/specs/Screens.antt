@@ -5,8 +5,8 @@ use Rattle.mgs_model.specs.World.{Buffer, State, may}
 use Rattle.mgs_model.specs.Lines.{column, line_of, line_start}
 use Rattle.mgs_model.specs.Picture.{Picture}
 use Rattle.mgs_model.specs.Prompts.{line_in_mode, prompt_line, search_text}
-use Rattle.mgs_model.specs.declared.message.Message.{Message}
-use Rattle.mgs_model.specs.declared.message.Message.TheVariants.{Silent}
+use Rattle.mgs_model.specs.declared.echo_text.Message.{Message}
+use Rattle.mgs_model.specs.declared.echo_text.Message.TheVariants.{Silent}
 use Rattle.mgs_model.specs.declared.session.Mode.{Mode}
 use Rattle.mgs_model.specs.declared.session.Mode.TheVariants.{Plain}
 use Rattle.mgs_model.specs.Rows.{Row, mode_row, echo_row, line_row, line_end_column, shift_for, buffer_mode, unless_told}

@@ -1,9 +1,9 @@
 // The last row of a screen, and the cursor.
-ghost use Rattle.std.specs.Prelude.{◌≡◌, ◌+◌, ◌<◌, ◌≤◌, [], ◌∷◌, None, true, length};
+ghost use Rattle.std.specs.Prelude.{◌≡◌, ◌<◌, [], ◌∷◌, None, true, length};
 ghost use Rattle.mgs_model.specs.Rows.{is_silent, plain_row};
 ghost use Rattle.mgs_grid.specs.Cells.{rows_put};
 ghost use Rattle.mgs_grid.specs.Panes.{with_rows};
-ghost use Rattle.mgs_model.specs.declared.message.Message.TheVariants.{Silent};
+ghost use Rattle.mgs_model.specs.declared.echo_text.Message.TheVariants.{Silent};
 ghost use Rattle.mgs_model.specs.declared.session.Mode.TheVariants.{Plain};
 ghost use Rattle.mgs_world.specs.Worlds.{input_in, mode_in, state_of};
 ghost use Rattle.mgs_screen.specs.Canvas.{IsDrawnOn, IsLastRow};

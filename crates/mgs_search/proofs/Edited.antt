@@ -7,7 +7,7 @@ use Rattle.mgs_model.specs.Outcome.{Keep_position, At}
 use Rattle.mgs_model.specs.Text.{edited}
 use Rattle.mgs_model.specs.Searching.{begins, first_in, first_match, matches_at, match_from, match_past, found_places, Sought, places_after, sought_after}
 use Rattle.mgs_model.specs.SearchCommands.{AroundSearch, SearchFinish, SearchChange, met, next_match, seek, replace}
-use Rattle.mgs_model.specs.declared.message.Message.{Message}
+use Rattle.mgs_model.specs.declared.echo_text.Message.{Message}
 use Rattle.mgs_model.specs.declared.search.SearchPlaces.{SearchPlaces}
 use Rattle.mgs_model.specs.declared.search.SearchStep.{SearchStep}
 use Rattle.mgs_model.specs.declared.search.SearchStep.TheVariants.{Stays, FromAnchor, PastAnchor, FromOrigin, ToOrigin, Ends, Quits, Leaves}

@@ -3,7 +3,7 @@ use Rattle.std.specs.Prelude.{◌≡◌, ℕ, ◌+◌, Bool, true, List, [], Opt
 use Rattle.mgs_model.specs.Outcome.{Keep_position, At, Keep_search, Begin, Anchor_at}
 use Rattle.mgs_model.specs.Searching.{directed, is_looking}
 use Rattle.mgs_model.specs.SearchCommands.{AroundSearch, Keep_mode, Over, Failing, SearchFinish, SearchChange, met, seek, replace}
-use Rattle.mgs_model.specs.declared.message.Message.{Message}
+use Rattle.mgs_model.specs.declared.echo_text.Message.{Message}
 use Rattle.mgs_model.specs.declared.search.Direction.{Direction}
 use Rattle.mgs_model.specs.declared.search.SearchPlaces.{SearchPlaces}
 use Rattle.mgs_model.specs.declared.search.SearchStep.{SearchStep}

@@ -48,7 +48,7 @@ use Rattle.mgs_seek.proofs.Lifts.{acts_sound, found_at, in_this, acts, does_fail
 use Rattle.mgs_seek.proofs.Meets.{counts, met_does, only_met, replaces}
 use Rattle.mgs_seek.proofs.Seeks.{held_so}
 use Rattle.mgs_seek.proofs.Skips.{none_counted, same_replacing}
-use Rattle.mgs_model.specs.declared.message.Message.{Message}
+use Rattle.mgs_model.specs.declared.echo_text.Message.{Message}
 use Rattle.mgs_model.specs.declared.touched.Touched.TheVariants.{Nowhere}
 use Rattle.mgs_session.specs.Sessions.{failed}
 use Rattle.mgs_seek.specs.Acting.{as_is}

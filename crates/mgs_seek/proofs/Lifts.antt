@@ -13,7 +13,7 @@ use Rattle.mgs_model.specs.SearchCommands.{SearchFinish}
 use Rattle.mgs_model.specs.View.{view}
 use Rattle.mgs_model.specs.World.{State, World, has_id}
 use Rattle.mgs_model.specs.World as model
-use Rattle.mgs_model.specs.declared.message.Message.{Message}
+use Rattle.mgs_model.specs.declared.echo_text.Message.{Message}
 use Rattle.mgs_model.proofs.Basics.{cons_head}
 use Rattle.mgs_model.proofs.Firsts.{find-change_first}
 use Rattle.mgs_marks.specs.Marks.{mark_in}

@@ -6,8 +6,8 @@ use Rattle.mgs_model.specs.Acts.{edit_of, fails, is_full, outcome, search_finish
 use Rattle.mgs_model.specs.Outcome.{Act, Outcome, Run}
 use Rattle.mgs_model.specs.SearchCommands.{AroundSearch, SearchChange, SearchFinish, met, replace}
 use Rattle.mgs_model.specs.View.{view}
-use Rattle.mgs_model.specs.declared.message.Message.{Message}
-use Rattle.mgs_model.specs.declared.message.Message.TheVariants.{BufferFull}
+use Rattle.mgs_model.specs.declared.echo_text.Message.{Message}
+use Rattle.mgs_model.specs.declared.echo_text.Message.TheVariants.{BufferFull}
 use Rattle.mgs_model.specs.declared.session.Command.TheVariants as commands
 use Rattle.mgs_model.specs.declared.session.Seeking.TheVariants.{SkipMatch}
 use Rattle.mgs_buffers.specs.MarkedBuffer.{MarkedBuffer, marked_at}

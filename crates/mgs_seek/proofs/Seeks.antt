@@ -14,8 +14,8 @@ use Rattle.mgs_model.specs.SearchCommands.{Failing, Keep_mode, SearchFinish}
 use Rattle.mgs_model.specs.Searching.{Sought, is_looking, looked_for, places_after}
 use Rattle.mgs_model.specs.Acts.{mode_left, outcome, search_finished, search_finished_state, sought_by}
 use Rattle.mgs_model.specs.Apply.{change_at, change_first, is_search_mode, session_arranged, window_adjusted}
-use Rattle.mgs_model.specs.declared.message.Message.{Message}
-use Rattle.mgs_model.specs.declared.message.Message.TheVariants.{Quitting, Silent}
+use Rattle.mgs_model.specs.declared.echo_text.Message.{Message}
+use Rattle.mgs_model.specs.declared.echo_text.Message.TheVariants.{Quitting, Silent}
 use Rattle.mgs_model.specs.declared.search.SearchPlaces.{SearchPlaces}
 use Rattle.mgs_model.specs.declared.search.SearchStep.{SearchStep}
 use Rattle.mgs_model.specs.declared.session.Command.TheVariants.{LeaveSearch, Seek}

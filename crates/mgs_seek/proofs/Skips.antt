@@ -8,7 +8,7 @@ use Rattle.mgs_model.specs.View.{view}
 use Rattle.mgs_model.specs.Outcome.{Keep_position, No_effect, Run}
 use Rattle.mgs_model.specs.SearchCommands.{AroundSearch, SearchFinish, met, seek}
 use Rattle.mgs_model.specs.Acts.{counted, outcome, search_finished, sought_by}
-use Rattle.mgs_model.specs.declared.message.Message.{Message}
+use Rattle.mgs_model.specs.declared.echo_text.Message.{Message}
 use Rattle.mgs_model.specs.declared.session.Command.TheVariants.{Seek}
 use Rattle.mgs_model.specs.declared.session.Replacement.TheVariants.{ReplaceMatch}
 use Rattle.mgs_model.specs.declared.session.Seeking.TheVariants.{SkipMatch}

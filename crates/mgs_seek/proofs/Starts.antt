@@ -11,8 +11,8 @@ use Rattle.mgs_model.specs.SearchCommands.{AroundSearch, Keep_mode, SearchFinish
 use Rattle.mgs_model.specs.Acts.{fails, outcome, search_finished, search_finished_state, sought_by}
 use Rattle.mgs_model.specs.Apply.{session_arranged, is_search_mode}
 use Rattle.mgs_model.specs.Events.{state_set}
-use Rattle.mgs_model.specs.declared.message.Message.{Message}
-use Rattle.mgs_model.specs.declared.message.Message.TheVariants.{Silent}
+use Rattle.mgs_model.specs.declared.echo_text.Message.{Message}
+use Rattle.mgs_model.specs.declared.echo_text.Message.TheVariants.{Silent}
 use Rattle.mgs_model.specs.declared.search.Direction.{Direction}
 use Rattle.mgs_model.specs.declared.session.Command.TheVariants.{Seek}
 use Rattle.mgs_model.specs.declared.session.Kind.TheVariants.{Other}

@@ -7,8 +7,8 @@ use Rattle.mgs_model.specs.Outcome.{Outcome}
 use Rattle.mgs_model.specs.SearchCommands.{AroundSearch, SearchFinish, replace, seek}
 use Rattle.mgs_model.specs.View.{search_seen}
 use Rattle.mgs_model.specs.World.{State}
-use Rattle.mgs_model.specs.declared.message.Message.{Message}
-use Rattle.mgs_model.specs.declared.message.Message.TheVariants.{NoBuffer}
+use Rattle.mgs_model.specs.declared.echo_text.Message.{Message}
+use Rattle.mgs_model.specs.declared.echo_text.Message.TheVariants.{NoBuffer}
 use Rattle.mgs_model.specs.declared.session.Seeking.{Seeking}
 use Rattle.mgs_buffers.specs.MarkedBuffer.{HasBuffer, MarkedBuffer}
 use Rattle.mgs_windows.specs.declared.WindowMarks.{WindowMarks}

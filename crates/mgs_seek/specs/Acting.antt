@@ -9,8 +9,8 @@ use Rattle.mgs_model.specs.SearchCommands.{AroundSearch, SearchFinish, seek}
 use Rattle.mgs_model.specs.View.{view}
 use Rattle.mgs_model.specs.World.{State}
 use Rattle.mgs_model.specs.World as model
-use Rattle.mgs_model.specs.declared.message.Message.{Message}
-use Rattle.mgs_model.specs.declared.message.Message.TheVariants.{NoBuffer}
+use Rattle.mgs_model.specs.declared.echo_text.Message.{Message}
+use Rattle.mgs_model.specs.declared.echo_text.Message.TheVariants.{NoBuffer}
 use Rattle.mgs_model.specs.declared.session.Command.{Command}
 use Rattle.mgs_model.specs.declared.session.Command.TheVariants.{Replace, Seek}
 use Rattle.mgs_model.specs.declared.session.Replacement.{Replacement}

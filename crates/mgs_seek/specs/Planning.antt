@@ -12,8 +12,8 @@ use Rattle.mgs_model.specs.Plans as plans
 use Rattle.mgs_model.specs.Plans.{stays}
 use Rattle.mgs_model.specs.SearchCommands.{met}
 use Rattle.mgs_model.specs.View.{view}
-use Rattle.mgs_model.specs.declared.message.Message.{Message}
-use Rattle.mgs_model.specs.declared.message.Message.TheVariants.{BufferFull}
+use Rattle.mgs_model.specs.declared.echo_text.Message.{Message}
+use Rattle.mgs_model.specs.declared.echo_text.Message.TheVariants.{BufferFull}
 use Rattle.mgs_model.specs.declared.session.Command.TheVariants as commands
 use Rattle.mgs_model.specs.declared.session.Seeking.TheVariants.{SkipMatch, StartReplace}
 use Rattle.mgs_model.specs.declared.touched.Touched.{Touched}

@@ -3,7 +3,7 @@ use Rattle.std.specs.Prelude.{ℕ, ◌+◌, ◌-◌, min, Bool, true, false, Lis
 use Rattle.mgs_model.specs.Acts.{counted, without_all}
 use Rattle.mgs_model.specs.Outcome.{At, PointPlan}
 use Rattle.mgs_model.specs.World.{State}
-use Rattle.mgs_model.specs.declared.message.Message.TheVariants.{Replaced}
+use Rattle.mgs_model.specs.declared.echo_text.Message.TheVariants.{Replaced}
 use Rattle.mgs_model.specs.declared.session.Kind.TheVariants.{Other}
 use Rattle.mgs_model.specs.declared.session.Mode.TheVariants.{Replacing}
 use Rattle.mgs_model.specs.declared.session.Replacement.{Replacement}

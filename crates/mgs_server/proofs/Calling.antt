@@ -2,7 +2,7 @@
 use Rattle.std.proofs.Common.{◌≡◌, ℕ, Bool, true, false, nat_le, MatchBool, List, [], ◌∷◌, ◌++◌, length, Option, Some, None, Result, Ok, Err, refl, subst}
 use Rattle.mgs_model.specs.declared.errors.OpenFault.{OpenFault}
 use Rattle.mgs_model.specs.declared.errors.Keyed.{Keyed}
-use Rattle.mgs_model.specs.declared.limits.TheConstants.{LOGIN_LIMIT}
+use Rattle.mgs_wire.specs.declared.login.TheConstants.{LOGIN_LIMIT}
 use Rattle.mgs_wire.specs.declared.refusal.Refusal.{Refusal}
 use Rattle.mgs_wire.specs.declared.refusal.Refusal.TheVariants as refusals
 use Rattle.mgs_wire.specs.declared.pump.PumpedIn.{PumpedIn}

@@ -1,8 +1,8 @@
 -- What a session is at first, what it is told, and what it shows.
 use Rattle.std.specs.Prelude.{ℕ, ◌-◌, List, [], ◌∷◌, Option, None, Some, slice_get, cond}
 use Rattle.std.specs.Option.{option_and_then}
-use Rattle.mgs_model.specs.declared.message.Message.{Message}
-use Rattle.mgs_model.specs.declared.message.Message.TheVariants.{Silent, KeyNotBound, MacroTooLong}
+use Rattle.mgs_model.specs.declared.echo_text.Message.{Message}
+use Rattle.mgs_model.specs.declared.echo_text.Message.TheVariants.{Silent, KeyNotBound, MacroTooLong}
 use Rattle.mgs_model.specs.Plans.{kind_failed}
 use Rattle.mgs_model.specs.World.{first_state}
 use Rattle.mgs_model.specs.declared.session.Kind.{Kind}

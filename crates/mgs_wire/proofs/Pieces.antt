@@ -3,7 +3,7 @@ use Rattle.std.proofs.Common.{◌≡◌, ℕ, Bool, true, false, nat_le, MatchBo
 use Rattle.std.proofs.lemmas.Bool.{lt-leb, leb-false}
 use Rattle.mgs_model.specs.declared.errors.OpenFault.{OpenFault}
 use Rattle.mgs_model.specs.declared.errors.Keyed.{Keyed}
-use Rattle.mgs_model.specs.declared.limits.TheConstants.{LOGIN_LIMIT}
+use Rattle.mgs_wire.specs.declared.login.TheConstants.{LOGIN_LIMIT}
 use Rattle.mgs_wire.specs.declared.refusal.Refusal.{Refusal}
 use Rattle.mgs_wire.specs.declared.refusal.Refusal.TheVariants as refusals
 use Rattle.mgs_wire.specs.Login.{Opening, line_in, after_line, admission, name_in, refusal_of}

@@ -1,7 +1,7 @@
 -- CONNECTIONS: what becomes of one by the bytes that are read of it, and by how reading and writing end.
 use Rattle.std.specs.Prelude.{◌≡◌, ◌==◌, ℕ, nat_le, Bool, true, false, MatchBool, List, [], ◌++◌, drop, length, Option, Some, None, Result, Ok, Err}
 use Rattle.mgs_model.specs.declared.errors.OpenFault.{OpenFault}
-use Rattle.mgs_model.specs.declared.limits.TheConstants.{LOGIN_LIMIT}
+use Rattle.mgs_wire.specs.declared.login.TheConstants.{LOGIN_LIMIT}
 use Rattle.mgs_wire.specs.declared.refusal.Refusal.{Refusal}
 use Rattle.mgs_wire.specs.declared.refusal.Refusal.TheVariants as refusals
 use Rattle.mgs_wire.specs.Login.{Opening, line_in, after_line, admission, name_in, refusal_of, refusal_line}

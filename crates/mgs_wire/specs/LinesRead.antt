@@ -1,6 +1,6 @@
 -- What reading a login line comes to.
 use Rattle.std.specs.Prelude.{◌≡◌, ℕ, ◌<◌, ◌≤◌, List, length, None, Some}
-use Rattle.mgs_model.specs.declared.limits.TheConstants.{LOGIN_LIMIT}
+use Rattle.mgs_wire.specs.declared.login.TheConstants.{LOGIN_LIMIT}
 use Rattle.mgs_wire.specs.declared.line.LineRead.{LineRead}
 use Rattle.mgs_wire.specs.declared.line.LineRead.TheVariants.{Part, Whole, TooLong}
 use Rattle.mgs_wire.specs.Login.{line_in, after_line}

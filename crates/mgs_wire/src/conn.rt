@@ -8,10 +8,10 @@ ghost use Rattle.mgs_wire.specs.Stages.{connection, IsStage, LogsIn};
 ghost use Rattle.mgs_wire.specs.LinesRead.{IsLoginLine};
 
 use crate::line::{LineRead, append, drop_front, read_line};
-use crate::login::{admission, name_in};
+use crate::login::{LOGIN_LIMIT, admission, name_in};
 use crate::refusal::Refusal;
 use crate::sessions::Sessions;
-use mgs_model::{LOGIN_LIMIT, SessionId, Short, Tickets};
+use mgs_model::{SessionId, Short, Tickets};
 use std::alloc::Global;
 use std::marker::Model;
 
@@ -42,7 +42,7 @@ impl Model for Conn {
 
     ghost Value = { Connection };
 
-    ghost use Rattle.mgs_model.specs.declared.limits.TheConstants.{LOGIN_LIMIT};
+    ghost use Rattle.mgs_wire.specs.declared.login.TheConstants.{LOGIN_LIMIT};
     ghost use Rattle.mgs_wire.specs.Stages.{connection, IsStage};
 
     ghost view = { λ c. connection c.stage c.line.items };

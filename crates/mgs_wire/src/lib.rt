@@ -16,6 +16,7 @@ mod stream;
 
 pub use conn::Conn;
 pub use law::reads_in_pieces;
+pub use login::LOGIN_LIMIT;
 pub use pump::{PumpedIn, PumpedOut, pump_in, pump_in_by, pump_out};
 pub use refusal::Refusal;
 pub use served::Served;

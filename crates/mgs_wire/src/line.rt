@@ -4,8 +4,8 @@ ghost use Rattle.std.specs.Option.{option_map};
 ghost use Rattle.mgs_wire.specs.Login.{line_in, after_line};
 ghost use Rattle.mgs_wire.specs.LinesRead.{IsLoginLine, GivesLine};
 
+use crate::login::LOGIN_LIMIT;
 use mgs_keys::cut_at;
-use mgs_model::LOGIN_LIMIT;
 
 // Puts bytes after those of a line that has the room for them.
 pub(crate) fn append(line: &mut Vec<u8>, bytes: &[u8])

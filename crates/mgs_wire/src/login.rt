@@ -10,6 +10,9 @@ use crate::refusal::Refusal;
 use mgs_keys::{cut_word, read_number, utf8};
 use mgs_model::Tickets;
 
+/// The most bytes of a login line before its line feed; a carriage return there is one of them.
+pub const LOGIN_LIMIT: usize = 128;
+
 // What a login line says. The texts are the line's own.
 #[derive(Clone, Copy)]
 struct Login<'a> {

@@ -5,7 +5,7 @@ use Rattle.mgs_model.specs.Apply.{is_search_mode}
 use Rattle.mgs_model.specs.View.{View}
 use Rattle.mgs_model.specs.Acts.{asks}
 use Rattle.mgs_model.specs.Turns.{prompt_turn}
-use Rattle.mgs_model.specs.declared.message.Message.TheVariants.{Silent}
+use Rattle.mgs_model.specs.declared.echo_text.Message.TheVariants.{Silent}
 use Rattle.mgs_model.specs.declared.session.Mode.TheVariants.{Plain, Prompt}
 use Rattle.mgs_model.specs.declared.session.Question.{Question}
 use Rattle.mgs_mini.specs.Typing.{PromptInput, stepped, typed_state}

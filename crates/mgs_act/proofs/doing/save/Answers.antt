@@ -1,7 +1,7 @@
 use Rattle.std.proofs.Common.{get_or, refl, ap, true, false, ◌∙◌}
 use Rattle.std.specs.Prelude.{Err}
 use Rattle.mgs_model.specs.declared.session.Kind.TheVariants.{Other}
-use Rattle.mgs_model.specs.declared.message.Message.TheVariants.{SaveFailed, Wrote}
+use Rattle.mgs_model.specs.declared.echo_text.Message.TheVariants.{SaveFailed, Wrote}
 use Rattle.mgs_buffers.specs.MarkedBuffer.{marked_at}
 use Rattle.mgs_session.specs.Sessions.{acted, failed, told}
 use Rattle.mgs_world.proofs.Soundness.{sound_set}

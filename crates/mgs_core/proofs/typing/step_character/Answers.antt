@@ -1,5 +1,5 @@
 use Rattle.std.proofs.Common.{◌∙◌, ap, sym}
-use Rattle.mgs_model.specs.declared.message.Message.TheVariants.{Silent}
+use Rattle.mgs_model.specs.declared.echo_text.Message.TheVariants.{Silent}
 use Rattle.mgs_model.specs.declared.sequence.Sequence.TheVariants.{Whole, Begun, Broken}
 use Rattle.mgs_session.specs.declared.search.Aim.TheVariants.{Find}
 use Rattle.mgs_session.specs.Seeking.{searching}

@@ -1,5 +1,5 @@
 use Rattle.std.proofs.Common.{ℕ, ap, ◌∙◌}
-use Rattle.mgs_model.specs.declared.message.Message.TheVariants.{Replaced}
+use Rattle.mgs_model.specs.declared.echo_text.Message.TheVariants.{Replaced}
 use Rattle.mgs_session.specs.Sessions.{told, unprompted}
 use Rattle.mgs_core.proofs.Replaced.{replace_ends, replace_one, replace_skips}
 use Rattle.mgs_core.proofs.typing.step_replace.Goals as goal

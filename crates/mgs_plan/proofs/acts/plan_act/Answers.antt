@@ -4,7 +4,7 @@ use Rattle.mgs_plan.specs.Actions.{act_of}
 use Rattle.mgs_plan.specs.Deciding.{IsPlanned}
 use Rattle.mgs_plan.specs.declared.outcome.Outcome.TheVariants.{Fails}
 use Rattle.mgs_model.specs.declared.session.Command.TheVariants.{Entries}
-use Rattle.mgs_model.specs.declared.message.Message.TheVariants.{KeyNotBound}
+use Rattle.mgs_model.specs.declared.echo_text.Message.TheVariants.{KeyNotBound}
 use Rattle.mgs_plan.proofs.Unbound.{unbound_planned}
 use Rattle.mgs_plan.proofs.acts.plan_act.Goals as goal
 

@@ -14,7 +14,7 @@ returns-clause-value g c = λ n xs next.
     let named = c.name_typed.ensures in
     list_planned c.args.directory.now c.args.buffers.now xs next n c.args.session.now
     (no_empty_name c.args.buffers.now c.name_typed.result named.value named.form named.there)
-    c.in-Some.name c.right_to_list-mask.result c.judged.result (sym c.in-Some.is ∙ c.subject_in.ensures.value) c.right_to_list-mask.ensures c.judged.ensures.value
+    c.in-Some.name c.judged.result (sym c.in-Some.is ∙ c.subject_in.ensures.value) c.judged.ensures.value
 
 pub returns-clause-can : goal.returns-clause-can
 returns-clause-can g c = c.judged.ensures.can c.args.session.now (λ granted. tt)

@@ -1,6 +1,6 @@
 use Rattle.std.proofs.Common.{◌≡◌, ℕ, List, ap, subst, sym, ◌∙◌}
 use Rattle.std.specs.Prelude.{IfSome}
-use Rattle.mgs_model.specs.declared.message.Message.TheVariants.{NoSuchBuffer}
+use Rattle.mgs_model.specs.declared.echo_text.Message.TheVariants.{NoSuchBuffer}
 use Rattle.mgs_plan.specs.Actions.{AreMarks}
 use Rattle.mgs_plan.specs.Deciding.{outcome_read}
 use Rattle.mgs_plan.specs.Inserting.{copy_outcome, outcome_from}

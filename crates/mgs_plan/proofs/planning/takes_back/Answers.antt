@@ -4,7 +4,7 @@ use Rattle.std.specs.Prelude.{Bool, Ok, Err, if◌then◌else◌}
 use Rattle.mgs_model.specs.Plans as plans
 use Rattle.mgs_model.specs.Plans.{taken_back}
 use Rattle.mgs_model.specs.World.{Item}
-use Rattle.mgs_model.specs.declared.message.Message.TheVariants.{BufferFull}
+use Rattle.mgs_model.specs.declared.echo_text.Message.TheVariants.{BufferFull}
 use Rattle.mgs_undo.specs.History.{has_serial}
 use Rattle.mgs_undo.specs.Numbered.{item_of}
 use Rattle.mgs_edit.specs.Reading.{undoing, undone_read}

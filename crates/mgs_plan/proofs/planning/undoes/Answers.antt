@@ -8,7 +8,7 @@ use Rattle.mgs_undo.specs.Numbered.{item_of}
 use Rattle.mgs_buffers.specs.MarkedBuffer.{marked_at}
 use Rattle.mgs_edit.specs.Reading.{undoing}
 use Rattle.mgs_plan.specs.Actions.{CanDo, action_outcome, edit_outcome}
-use Rattle.mgs_model.specs.declared.message.Message.TheVariants.{NoFurtherUndo}
+use Rattle.mgs_model.specs.declared.echo_text.Message.TheVariants.{NoFurtherUndo}
 use Rattle.mgs_plan.specs.declared.action.Action.TheVariants.{Fails}
 use Rattle.mgs_plan.proofs.Plans.{at_buffer}
 use Rattle.mgs_plan.proofs.planning.undoes.Goals as goal

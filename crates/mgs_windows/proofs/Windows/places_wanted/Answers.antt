@@ -1,4 +1,4 @@
-use Rattle.std.proofs.Common.{◌≡◌, ℕ, length, arith, ap}
+use Rattle.std.proofs.Common.{length, arith, ap}
 use Rattle.mgs_windows.specs.Panes.{WindowList, shown_in}
 use Rattle.mgs_windows.proofs.Heights.{shown_most}
 use Rattle.mgs_windows.proofs.Windows.places_wanted.Goals as goal

@@ -1,4 +1,4 @@
-use Rattle.std.proofs.Common.{◌≡◌, length, rules}
+use Rattle.std.proofs.Common.{rules}
 use Rattle.mgs_ledger.proofs.ledger.Ledger.resume.Goals as goal
 
 pub returns : goal.returns

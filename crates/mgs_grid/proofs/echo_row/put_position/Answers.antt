@@ -1,5 +1,5 @@
 use Rattle.mgs_grid.proofs.CellLemmas.{wrote_more}
-use Rattle.mgs_grid.proofs.echo_text.put_position.Goals as goal
+use Rattle.mgs_grid.proofs.echo_row.put_position.Goals as goal
 
 pub returns-clause-wrote : goal.returns-clause-wrote
 returns-clause-wrote c =

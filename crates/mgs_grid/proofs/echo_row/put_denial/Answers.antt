@@ -1,5 +1,5 @@
 use Rattle.mgs_grid.proofs.CellLemmas.{wrote_more}
-use Rattle.mgs_grid.proofs.echo_text.put_denial.Goals as goal
+use Rattle.mgs_grid.proofs.echo_row.put_denial.Goals as goal
 
 pub returns-in-DeniedBy-clause-wrote : goal.returns-in-DeniedBy-clause-wrote
 returns-in-DeniedBy-clause-wrote c =

@@ -1,10 +1,8 @@
 // The texts of the echo line: what came of a command.
 ghost use Rattle.std.specs.Prelude.{◌≡◌, ◌+◌, ◌<◌, ◌≤◌, ◌^◌, ◌++◌, codes, false};
-ghost use Rattle.std.specs.Option.{option_map};
 ghost use Rattle.mgs_model.specs.Rights.{right_name};
-ghost use Rattle.mgs_model.specs.Messages.{denial_text, fault_name, message_text, position_text};
+ghost use Rattle.mgs_model.specs.Messages.{denial_text, fault_name, is_fixed, message_text, position_text};
 ghost use Rattle.mgs_grid.specs.Cells.{Wrote};
-ghost use Rattle.mgs_grid.specs.Messages.{fixed_text, is_fixed};
 
 use crate::cells::{put_bytes, put_decimal, put_name};
 use mgs_model::{CursorPosition, Decision, EntryFault, Message, Right};
@@ -68,58 +66,6 @@ fn put_position(row: &mut [char], column: usize, at: &CursorPosition) -> usize
     put_decimal(row, at_column, at.column)
 }
 
-// The text of a message that says the same each time. `None`: it tells what came of a command.
-fn fixed_text(message: &Message) -> Option<&'static [u8]>
-    ensures { option_map (λ t. t.now) result ≡ fixed_text message.now }
-{
-    match *message {
-        Message::Silent => Some(b""),
-        Message::KeyNotBound => Some(b"Key not bound"),
-        Message::NoBuffer => Some(b"No buffer"),
-        Message::BeginningOfBuffer => Some(b"Beginning of buffer"),
-        Message::EndOfBuffer => Some(b"End of buffer"),
-        Message::BufferFull => Some(b"Buffer full"),
-        Message::NoMemory => Some(b"No memory"),
-        Message::Quitting => Some(b"Quit"),
-        Message::MarkSet => Some(b"Mark set"),
-        Message::NoMark => Some(b"No mark"),
-        Message::KillTooLarge => Some(b"Kill too large"),
-        Message::NothingToYank => Some(b"Nothing to yank"),
-        Message::NoArgument => Some(b"No argument"),
-        Message::BadColumn => Some(b"Bad column"),
-        Message::InMacro => Some(b"In macro"),
-        Message::NotInMacro => Some(b"Not in macro"),
-        Message::NoMacro => Some(b"No macro"),
-        Message::TooMany => Some(b"Too many"),
-        Message::OnlyOneWindow => Some(b"Only one window"),
-        Message::WindowTooSmall => Some(b"Window too small"),
-        Message::TooManyWindows => Some(b"Too many windows"),
-        Message::ImpossibleChange => Some(b"Impossible change"),
-        Message::NoSuchBuffer => Some(b"No such buffer"),
-        Message::BadName => Some(b"Bad name"),
-        Message::TooManyBuffers => Some(b"Too many buffers"),
-        Message::NoMatch => Some(b"No match"),
-        Message::NoSuchCommand => Some(b"No such command"),
-        Message::NotANumber => Some(b"Not a number"),
-        Message::NoSuchEntry => Some(b"No such entry"),
-        Message::ListFull => Some(b"List full"),
-        Message::NoSuchUser => Some(b"No such user"),
-        Message::NoSuchGroup => Some(b"No such group"),
-        Message::NoFurtherUndo => Some(b"No further undo information"),
-        Message::NoFile => Some(b"No file"),
-        Message::SaveFailed => Some(b"Save failed"),
-        Message::NoPattern => Some(b"No pattern"),
-        Message::NotFound => Some(b"Not found"),
-        Message::MacroTooLong => Some(b"Macro too long"),
-        Message::Denied(_)
-        | Message::CharacterAt(_, _)
-        | Message::EndAt(_)
-        | Message::BadEntry(_)
-        | Message::Wrote(_)
-        | Message::Replaced(_) => None,
-    }
-}
-
 // Writes the echo text of a message that tells what came of a command, and tells the column after it.
 fn put_told(row: &mut [char], message: &Message) -> usize
     requires told { is_fixed message.now ≡ false }
@@ -156,7 +102,7 @@ pub(crate) fn put_message(row: &mut [char], message: &Message) -> usize
     ensures wrote { Wrote row.old 0 (message_text message.now) row.new result }
     ensures few { result ≤ 160 }
 {
-    match fixed_text(message) {
+    match message.fixed_text() {
         Some(text) => put_bytes(row, 0, text),
         None => put_told(row, message),
     }

@@ -1,4 +1,8 @@
 // Echo texts.
+ghost use Rattle.std.specs.Prelude.{◌≡◌};
+ghost use Rattle.std.specs.Option.{option_map};
+ghost use Rattle.mgs_model.specs.Messages.{fixed_text};
+
 use crate::entry::{Decision, EntryFault};
 use crate::name::Name;
 
@@ -107,4 +111,58 @@ pub enum Message {
     MacroTooLong,
     /// `Replaced` and how many matches a query-replace replaced.
     Replaced(usize),
+}
+
+impl Message {
+    /// The text of a message that says the same each time. `None`: it tells what came of a command, such as a name or a number.
+    pub fn fixed_text(self) -> Option<&'static [u8]>
+        ensures { option_map (λ t. t.now) result ≡ fixed_text self }
+    {
+        match self {
+            Message::Silent => Some(b""),
+            Message::KeyNotBound => Some(b"Key not bound"),
+            Message::NoBuffer => Some(b"No buffer"),
+            Message::BeginningOfBuffer => Some(b"Beginning of buffer"),
+            Message::EndOfBuffer => Some(b"End of buffer"),
+            Message::BufferFull => Some(b"Buffer full"),
+            Message::NoMemory => Some(b"No memory"),
+            Message::Quitting => Some(b"Quit"),
+            Message::MarkSet => Some(b"Mark set"),
+            Message::NoMark => Some(b"No mark"),
+            Message::KillTooLarge => Some(b"Kill too large"),
+            Message::NothingToYank => Some(b"Nothing to yank"),
+            Message::NoArgument => Some(b"No argument"),
+            Message::BadColumn => Some(b"Bad column"),
+            Message::InMacro => Some(b"In macro"),
+            Message::NotInMacro => Some(b"Not in macro"),
+            Message::NoMacro => Some(b"No macro"),
+            Message::TooMany => Some(b"Too many"),
+            Message::OnlyOneWindow => Some(b"Only one window"),
+            Message::WindowTooSmall => Some(b"Window too small"),
+            Message::TooManyWindows => Some(b"Too many windows"),
+            Message::ImpossibleChange => Some(b"Impossible change"),
+            Message::NoSuchBuffer => Some(b"No such buffer"),
+            Message::BadName => Some(b"Bad name"),
+            Message::TooManyBuffers => Some(b"Too many buffers"),
+            Message::NoMatch => Some(b"No match"),
+            Message::NoSuchCommand => Some(b"No such command"),
+            Message::NotANumber => Some(b"Not a number"),
+            Message::NoSuchEntry => Some(b"No such entry"),
+            Message::ListFull => Some(b"List full"),
+            Message::NoSuchUser => Some(b"No such user"),
+            Message::NoSuchGroup => Some(b"No such group"),
+            Message::NoFurtherUndo => Some(b"No further undo information"),
+            Message::NoFile => Some(b"No file"),
+            Message::SaveFailed => Some(b"Save failed"),
+            Message::NoPattern => Some(b"No pattern"),
+            Message::NotFound => Some(b"Not found"),
+            Message::MacroTooLong => Some(b"Macro too long"),
+            Message::Denied(_)
+            | Message::CharacterAt(_, _)
+            | Message::EndAt(_)
+            | Message::BadEntry(_)
+            | Message::Wrote(_)
+            | Message::Replaced(_) => None,
+        }
+    }
 }
