@@ -2,11 +2,11 @@
 #![tactic(auto)]
 
 mod characters;
+mod entry_printer;
+mod entry_reader;
 mod list;
-mod printing;
-mod spelling;
 
+pub use entry_printer::print_entry;
+pub use entry_reader::{entry_typed, group_named, read_entry, user_named};
 pub use list::{List, ListFault};
 pub use mgs_model::{Entry, EntryFault, EntryType, Who};
-pub use printing::print_entry;
-pub use spelling::{entry_typed, group_named, read_entry, user_named};

@@ -23,8 +23,8 @@ use Rattle.mgs_plan.specs.declared.outcome.Outcome.{Outcome}
 use Rattle.mgs_plan.specs.declared.action.Action.{Action}
 use Rattle.mgs_plan.specs.declared.outcome.Outcome.TheVariants.{Acts, Copies}
 use Rattle.mgs_act.specs.declared.acts.Reply.{Reply}
-use Rattle.mgs_act.specs.declared.inserting.Copying.{Copying}
-use Rattle.mgs_act.specs.declared.performing.Spot.{Spot}
+use Rattle.mgs_act.specs.declared.copy.Copying.{Copying}
+use Rattle.mgs_act.specs.declared.text_action.Spot.{Spot}
 pub use Rattle.mgs_world.specs.Acted.{IsRefusable}
 use Rattle.mgs_world.specs.Sound.{IsSound}
 use Rattle.mgs_world.specs.Worlds.{idle, state_at, session_id, world_of}

@@ -2,10 +2,10 @@
 #![tactic(auto)]
 
 mod acts;
-mod doing;
-mod inserting;
-mod performing;
-mod setting;
-mod switching;
+mod copy;
+mod creation;
+mod deeds;
+mod session_settings;
+mod text_action;
 
 pub use acts::{Reply, act, answer};

@@ -2,14 +2,14 @@
 //! something else.
 #![tactic(auto)]
 
-mod arranging;
-mod leaving;
-mod listing;
-mod resizing;
-mod room;
-mod showing;
-mod splitting;
+mod arrangements;
+mod heights;
+mod lists;
+mod place_room;
+mod removal;
+mod shown_buffer;
+mod split;
 
-pub use arranging::rearrange;
-pub use listing::show_entries;
-pub use showing::show;
+pub use arrangements::rearrange;
+pub use lists::show_entries;
+pub use shown_buffer::show;

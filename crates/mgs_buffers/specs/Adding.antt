@@ -6,8 +6,8 @@ use Rattle.mgs_model.specs.declared.owners.Owners.{Owners}
 use Rattle.mgs_model.specs.declared.entry.Entry.{Entry}
 use Rattle.mgs_laws.specs.Apart.{Rules}
 use Rattle.mgs_buffers.specs.MarkedBuffer.{MarkedBuffer, has_buffer, marked_new, marked_restored}
-use Rattle.mgs_buffers.specs.declared.fault.AddFault.{AddFault}
-use Rattle.mgs_buffers.specs.declared.fault.AddFault.TheVariants.{Name, Twice, Full, Long, Short}
+use Rattle.mgs_buffers.specs.declared.refusals.AddFault.{AddFault}
+use Rattle.mgs_buffers.specs.declared.refusals.AddFault.TheVariants.{Name, Twice, Full, Long, Short}
 
 -- these have the form of a buffer's name, of a user's, and of a group's where there is one
 abbrev pub are_names : List ℕ → List ℕ → Option (List ℕ) → Bool

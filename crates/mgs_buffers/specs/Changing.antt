@@ -4,8 +4,8 @@ use Rattle.mgs_model.specs.Rights.{has_right}
 use Rattle.mgs_model.specs.declared.owners.NewOwner.TheVariants.{ToUser, ToGroup}
 use Rattle.mgs_model.specs.declared.right.Right.TheVariants.{WriteData, AppendData}
 use Rattle.mgs_buffers.specs.MarkedBuffer.{MarkedBuffer, marked_list_set, marked_owners_set, marked_unmodified}
-use Rattle.mgs_buffers.specs.declared.changing.Update.{Update}
-use Rattle.mgs_buffers.specs.declared.changing.Update.TheVariants.{Unmodify, SetOwners, Regroup, SetList}
+use Rattle.mgs_buffers.specs.declared.user_changes.Update.{Update}
+use Rattle.mgs_buffers.specs.declared.user_changes.Update.TheVariants.{Unmodify, SetOwners, Regroup, SetList}
 
 -- the rights of a mask let a text be written to: WRITE_DATA or APPEND_DATA is among them
 abbrev pub writes : ℕ → Bool

@@ -5,8 +5,8 @@ use Rattle.mgs_model.specs.World.{Buffer}
 use Rattle.mgs_model.specs.declared.right.Right.{Right}
 use Rattle.mgs_model.specs.declared.entry.Decision.{Decision}
 use Rattle.mgs_model.specs.declared.entry.Decision.TheVariants.{Granted}
-use Rattle.mgs_buffers.specs.declared.fault.EditFault.{EditFault}
-use Rattle.mgs_buffers.specs.declared.fault.EditFault.TheVariants.{Denied, Short}
+use Rattle.mgs_buffers.specs.declared.refusals.EditFault.{EditFault}
+use Rattle.mgs_buffers.specs.declared.refusals.EditFault.TheVariants.{Denied, Short}
 
 -- what a buffer's access list decides for a user: on one right, and on those of a mask
 abbrev pub right_decision : Directory → Buffer → List ℕ → Right → Decision

@@ -7,10 +7,10 @@ use Rattle.mgs_model.specs.declared.entry.Decision.TheVariants.{Granted}
 use Rattle.mgs_model.specs.declared.entry.Entry.{Entry}
 use Rattle.mgs_acl.specs.declared.list.ListFault.{ListFault}
 use Rattle.mgs_acl.specs.declared.list.ListFault.TheVariants.{Full, NoSuchEntry}
-use Rattle.mgs_buffers.specs.declared.fault.EntriesFault.{EntriesFault}
-use Rattle.mgs_buffers.specs.declared.fault.EntriesFault.TheVariants as entries
-use Rattle.mgs_buffers.specs.declared.fault.OwnersFault.{OwnersFault}
-use Rattle.mgs_buffers.specs.declared.fault.OwnersFault.TheVariants as owners
+use Rattle.mgs_buffers.specs.declared.refusals.EntriesFault.{EntriesFault}
+use Rattle.mgs_buffers.specs.declared.refusals.EntriesFault.TheVariants as entries
+use Rattle.mgs_buffers.specs.declared.refusals.OwnersFault.{OwnersFault}
+use Rattle.mgs_buffers.specs.declared.refusals.OwnersFault.TheVariants as owners
 use Rattle.mgs_model.specs.Apply.{change_first}
 use Rattle.mgs_buffers.specs.MarkedBuffer.{MarkedBuffer, has_buffer, marked_at, marked_named, marked_list_set}
 use Rattle.mgs_buffers.specs.Permitting.{mask_decision}

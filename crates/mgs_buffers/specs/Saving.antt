@@ -4,8 +4,8 @@ use Rattle.mgs_model.specs.Events.{Saved}
 use Rattle.mgs_model.specs.declared.entry.Decision.{Decision}
 use Rattle.mgs_model.specs.declared.entry.Decision.TheVariants.{Granted}
 use Rattle.mgs_store.specs.Stores.{saved_of}
-use Rattle.mgs_buffers.specs.declared.fault.SaveFault.{SaveFault}
-use Rattle.mgs_buffers.specs.declared.fault.SaveFault.TheVariants.{Denied, NoFile, Store}
+use Rattle.mgs_buffers.specs.declared.refusals.SaveFault.{SaveFault}
+use Rattle.mgs_buffers.specs.declared.refusals.SaveFault.TheVariants.{Denied, NoFile, Store}
 
 -- the rights first, then whether there is a file; the store is asked only where both stand
 abbrev pub SaveAnswers : Result (Unit {0}) SaveFault → Decision → Bool → Type 0

@@ -5,7 +5,7 @@ use Rattle.mgs_model.specs.World.{Buffer, may}
 use Rattle.mgs_model.specs.Seen.{Attributes}
 use Rattle.mgs_model.specs.declared.right.Right.TheVariants.{ReadAttributes}
 use Rattle.mgs_buffers.specs.MarkedBuffer.{MarkedBuffer}
-use Rattle.mgs_buffers.specs.declared.telling.Attributes as declared
+use Rattle.mgs_buffers.specs.declared.list_row.Attributes as declared
 
 -- its attributes, as the model has them
 abbrev pub attributes_read : declared.Attributes → Attributes

@@ -12,7 +12,7 @@ ghost use Rattle.mgs_buffers.specs.Permitting.{PermitAnswers};
 ghost use Rattle.mgs_buffers.specs.Placing.{CanStand, marked_placed_if};
 ghost use Rattle.mgs_cache.specs.Kept.{AreRight};
 
-use crate::judging::judged;
+use crate::judgement::judged;
 use crate::searched_text::SearchedText;
 use mgs_acl::{Entry, EntryType, Who};
 use mgs_cache::Judge;

@@ -21,12 +21,12 @@ ghost use Rattle.mgs_buffers.specs.MarkedBuffer.{AreUnmarked, AreWithinLimit, Ha
 ghost use Rattle.mgs_buffers.specs.MarkedBuffer.{has_buffer, mark_at, marked_at, marked_created, marked_named, marked_placed, marked_restored};
 
 use crate::buffer::{Buffer, new_buffer, owners_list};
-use crate::completing::completion;
-use crate::fault::AddFault;
+use crate::completion::completion;
 use crate::found::Found;
-use crate::naming::name_typed;
+use crate::list_row::{Attributes, is_shown, told};
+use crate::refusals::AddFault;
 use crate::rights::Rights;
-use crate::telling::{Attributes, is_shown, told};
+use crate::typed_name::name_typed;
 use indexmap::IndexMap;
 use mgs_acl::{group_named, user_named};
 use mgs_cache::Judge;

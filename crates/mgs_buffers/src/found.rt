@@ -13,7 +13,7 @@ ghost use Rattle.mgs_buffers.specs.Permitting.{mask_decision, right_decision};
 
 use crate::buffer::Buffer;
 use crate::buffers::Buffers;
-use crate::judging::is_outright;
+use crate::judgement::is_outright;
 use mgs_acl::Entry;
 use mgs_cache::Judge;
 use mgs_marks::Marked;

@@ -10,7 +10,7 @@ ghost use Rattle.mgs_buffers.specs.Rules.{ChangeAnswers, EntriesAnswer, GroupAns
 ghost use Rattle.mgs_buffers.specs.Rules.{entries_changed, fault_of, is_group_known, list_changed};
 
 use crate::buffers::Buffers;
-use crate::fault::{EntriesFault, OwnersFault};
+use crate::refusals::{EntriesFault, OwnersFault};
 use mgs_acl::{Entry, List, ListFault};
 use mgs_marks::Marked;
 use mgs_model::{Mask, Name, Right};

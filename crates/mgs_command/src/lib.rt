@@ -2,9 +2,9 @@
 #![tactic(auto)]
 
 mod arguments;
-mod preparing;
+mod preparation;
+mod standard_error;
 mod streams;
-mod telling;
 
-pub use preparing::{DONE, FAILED, NO_MEMORY, NO_SOCKETS, WRONG_ARGUMENTS, Work, prepare};
-pub use telling::tell;
+pub use preparation::{DONE, FAILED, NO_MEMORY, NO_SOCKETS, WRONG_ARGUMENTS, Work, prepare};
+pub use standard_error::tell;

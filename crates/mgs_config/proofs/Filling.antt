@@ -10,7 +10,7 @@ use Rattle.toml.specs.declared.value.Value.{Value}
 use Rattle.mgs_model.specs.Names.{same_name}
 use Rattle.mgs_model.specs.Access.{Directory, is_among}
 use Rattle.mgs_buffers.specs.MarkedBuffer.{MarkedBuffer, has_buffer, marked_named}
-use Rattle.mgs_config.specs.declared.fault.TableFault.{TableFault}
+use Rattle.mgs_config.specs.declared.config_fault.TableFault.{TableFault}
 use Rattle.mgs_config.specs.Faults.{first_fault}
 use Rattle.mgs_config.specs.Buffers.{name_of, are_known, listed, path_of, is_entry, refused_where, names_refused, contents_refused, or_else, buffer_refused}
 use Rattle.mgs_config.specs.Files.{Tells, file_fault, table_refused, IsTableFault, IsAdded, AreBuffers, IsTextOf, buffer_of, IsBufferFault}

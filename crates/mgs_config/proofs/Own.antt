@@ -10,10 +10,10 @@ use Rattle.mgs_model.specs.Tickets.{ticket_fault}
 use Rattle.mgs_policy.specs.declared.directory.DirectoryFault.{DirectoryFault}
 use Rattle.mgs_policy.specs.declared.directory.DirectoryFault.TheVariants as directory
 use Rattle.mgs_policy.specs.Directories.{group_fault}
-use Rattle.mgs_config.specs.declared.fault.TableFault.{TableFault}
-use Rattle.mgs_config.specs.declared.fault.TableFault.TheVariants.{Toml, Key, Name, Twice, Unknown, Entry, Long, File, Short}
-use Rattle.mgs_config.specs.declared.fault.ConfigTable.TheVariants.{Top}
-use Rattle.mgs_config.specs.declared.fault.ConfigFault.{ConfigFault}
+use Rattle.mgs_config.specs.declared.config_fault.TableFault.{TableFault}
+use Rattle.mgs_config.specs.declared.config_fault.TableFault.TheVariants.{Toml, Key, Name, Twice, Unknown, Entry, Long, File, Short}
+use Rattle.mgs_config.specs.declared.config_fault.ConfigTable.TheVariants.{Top}
+use Rattle.mgs_config.specs.declared.config_fault.ConfigFault.{ConfigFault}
 use Rattle.mgs_config.specs.Rows.{user_row, group_row}
 use Rattle.mgs_config.specs.Document.{is_configuration, rows_at}
 use Rattle.mgs_config.specs.Faults.{or_later, first_fault, of_ticket, of_directory, user_of, user_refused, ticket_refused, names_of, group_of, group_refused, added_refused}

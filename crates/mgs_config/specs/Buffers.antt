@@ -10,8 +10,8 @@ use Rattle.mgs_acl.specs.Spelling.{entry_in}
 use Rattle.mgs_buffers.specs.Adding.{are_names}
 use Rattle.mgs_buffers.specs.MarkedBuffer.{MarkedBuffer, has_buffer}
 use Rattle.mgs_config.specs.Rows.{has_only, text_at, values_at, is_text, text_of}
-use Rattle.mgs_config.specs.declared.fault.TableFault.{TableFault}
-use Rattle.mgs_config.specs.declared.fault.TableFault.TheVariants.{Key, Name, Twice, Unknown, Entry as NoEntry, Long}
+use Rattle.mgs_config.specs.declared.config_fault.TableFault.{TableFault}
+use Rattle.mgs_config.specs.declared.config_fault.TableFault.TheVariants.{Key, Name, Twice, Unknown, Entry as NoEntry, Long}
 
 -- WHAT A TABLE GIVES
 

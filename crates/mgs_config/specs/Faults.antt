@@ -10,8 +10,8 @@ use Rattle.mgs_policy.specs.Directories.{group_fault}
 use Rattle.mgs_policy.specs.declared.directory.DirectoryFault.{DirectoryFault}
 use Rattle.mgs_policy.specs.declared.directory.DirectoryFault.TheVariants as directory
 use Rattle.mgs_config.specs.Rows.{user_row, group_row}
-use Rattle.mgs_config.specs.declared.fault.TableFault.{TableFault}
-use Rattle.mgs_config.specs.declared.fault.TableFault.TheVariants.{Key, Name, Twice, Unknown, Long, Short}
+use Rattle.mgs_config.specs.declared.config_fault.TableFault.{TableFault}
+use Rattle.mgs_config.specs.declared.config_fault.TableFault.TheVariants.{Key, Name, Twice, Unknown, Long, Short}
 
 -- LISTS OF TABLES
 

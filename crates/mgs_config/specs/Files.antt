@@ -5,8 +5,8 @@ use Rattle.mgs_model.specs.Access.{Directory, owners_of}
 use Rattle.mgs_buffers.specs.MarkedBuffer.{MarkedBuffer, marked_new}
 use Rattle.mgs_config.specs.Faults.{first_fault}
 use Rattle.mgs_config.specs.Buffers.{name_of, owner_of, owning_group, listed, entries_in, written, path_of, has_file, or_else, refused_beside, buffer_refused}
-use Rattle.mgs_config.specs.declared.fault.TableFault.{TableFault}
-use Rattle.mgs_config.specs.declared.fault.TableFault.TheVariants.{Long, File, Short}
+use Rattle.mgs_config.specs.declared.config_fault.TableFault.{TableFault}
+use Rattle.mgs_config.specs.declared.config_fault.TableFault.TheVariants.{Long, File, Short}
 
 -- WHAT IS TOLD OF FILES
 

@@ -8,11 +8,11 @@ use Rattle.mgs_config.specs.Buffers.{name_of, path_of}
 use Rattle.mgs_config.specs.Files.{Tells, table_refused, IsBufferFault}
 use Rattle.mgs_config.specs.Document.{is_configuration, rows_at}
 use Rattle.mgs_config.specs.declared.config.BufferFile.{BufferFile}
-use Rattle.mgs_config.specs.declared.fault.TableFault.{TableFault}
-use Rattle.mgs_config.specs.declared.fault.TableFault.TheVariants.{Toml, Key}
-use Rattle.mgs_config.specs.declared.fault.ConfigTable.{ConfigTable}
-use Rattle.mgs_config.specs.declared.fault.ConfigTable.TheVariants.{Top, User, Group, Buffer}
-use Rattle.mgs_config.specs.declared.fault.ConfigFault.{ConfigFault}
+use Rattle.mgs_config.specs.declared.config_fault.TableFault.{TableFault}
+use Rattle.mgs_config.specs.declared.config_fault.TableFault.TheVariants.{Toml, Key}
+use Rattle.mgs_config.specs.declared.config_fault.ConfigTable.{ConfigTable}
+use Rattle.mgs_config.specs.declared.config_fault.ConfigTable.TheVariants.{Top, User, Group, Buffer}
+use Rattle.mgs_config.specs.declared.config_fault.ConfigFault.{ConfigFault}
 
 -- the users, each with his ticket
 abbrev pub users_in : Data → List (List ℕ × List ℕ)

@@ -6,11 +6,11 @@ ghost use Rattle.mgs_config.specs.Buffers.{listed, path_of, has_file, refused_be
 ghost use Rattle.mgs_config.specs.Faults.{first_fault};
 ghost use Rattle.mgs_config.specs.Files.{IsTold, told_fault, file_fault, table_refused, IsFileFault, IsFaultAt, IsTextOf, IsCounted, buffer_of};
 ghost use Rattle.mgs_config.specs.Files.{IsAdded, AreBuffers, IsRowFault, IsBufferFault};
-ghost use Rattle.mgs_config.specs.declared.fault.TableFault.TheVariants.{Short};
+ghost use Rattle.mgs_config.specs.declared.config_fault.TableFault.TheVariants.{Short};
 
-use crate::buffers::{chars_of, listed, read_list, refusal, string_at};
-use crate::fault::TableFault;
-use crate::files::{Files, FilesFault};
+use crate::buffer_tables::{chars_of, listed, read_list, refusal, string_at};
+use crate::config_fault::TableFault;
+use crate::named_files::{Files, FilesFault};
 use crate::row::text_at;
 use mgs_buffers::Buffers;
 use mgs_gap::GapText;

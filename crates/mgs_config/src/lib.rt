@@ -1,15 +1,15 @@
 //! The configuration of a server, read from a TOML document: its users with their tickets, its groups and its buffers.
 #![tactic(auto)]
 
-mod buffers;
+mod buffer_tables;
 mod config;
+mod config_fault;
 mod document;
-mod fault;
-mod files;
 mod fill;
+mod named_files;
 mod row;
-mod users;
+mod user_tables;
 
 pub use config::{BufferFile, Config, read_config};
-pub use fault::{ConfigFault, ConfigTable, TableFault};
-pub use files::{Files, FilesFault};
+pub use config_fault::{ConfigFault, ConfigTable, TableFault};
+pub use named_files::{Files, FilesFault};

@@ -43,8 +43,8 @@ use Rattle.mgs_core.specs.declared.byte_acts.ByteAct.{ByteAct}
 use Rattle.mgs_core.specs.declared.byte_acts.ByteAct.TheVariants as byte_acts
 use Rattle.mgs_core.specs.declared.byte_acts.ModeBefore.{ModeBefore}
 use Rattle.mgs_core.specs.declared.byte_acts.ModeBefore.TheVariants as befores
-use Rattle.mgs_core.specs.declared.keying.ByteStep.{ByteStep}
-use Rattle.mgs_core.specs.declared.keying.ByteStep.TheVariants.{Kept, Acts}
+use Rattle.mgs_core.specs.declared.key_byte.ByteStep.{ByteStep}
+use Rattle.mgs_core.specs.declared.key_byte.ByteStep.TheVariants.{Kept, Acts}
 use Rattle.mgs_core.specs.Prompted.{names_for, state_turn}
 use Rattle.mgs_core.specs.ByteActs.{asked_of, before_turn, model_act, deciding_state, refused}
 use Rattle.mgs_core.specs.ByteSteps.{IsAlone, IsAnswerStep, IsAskedStep, IsByteStep, IsNamedStep, IsReplyStep, SeesNames, second_input}

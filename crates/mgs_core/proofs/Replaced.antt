@@ -25,10 +25,10 @@ use Rattle.mgs_world.specs.Worlds.{state_of}
 use Rattle.mgs_core.specs.declared.byte_acts.ByteAct.TheVariants as byte_acts
 use Rattle.mgs_core.specs.declared.byte_acts.ModeBefore.{ModeBefore}
 use Rattle.mgs_core.specs.declared.byte_acts.ModeBefore.TheVariants as befores
-use Rattle.mgs_core.specs.declared.typing.SearchPlace.{SearchPlace}
-use Rattle.mgs_core.specs.declared.keying.ByteStep.TheVariants.{Kept, Acts}
-use Rattle.mgs_core.specs.declared.typing.ReplaceKey.{ReplaceKey}
-use Rattle.mgs_core.specs.declared.typing.ReplaceKey.TheVariants as keys
+use Rattle.mgs_core.specs.declared.typed_byte.SearchPlace.{SearchPlace}
+use Rattle.mgs_core.specs.declared.key_byte.ByteStep.TheVariants.{Kept, Acts}
+use Rattle.mgs_core.specs.declared.typed_byte.ReplaceKey.{ReplaceKey}
+use Rattle.mgs_core.specs.declared.typed_byte.ReplaceKey.TheVariants as keys
 use Rattle.mgs_core.specs.Prompted.{state_turn}
 use Rattle.mgs_core.specs.ByteSteps.{IsAlone, IsByteStep, IsLeft, SeesNames, replace_key, search_for}
 use Rattle.mgs_core.specs.Turns.{IsWithin}

@@ -32,9 +32,9 @@ use Rattle.mgs_world.specs.Worlds.{aim_mode, mode_in, state_of, search_of}
 use Rattle.mgs_core.specs.declared.byte_acts.ModeBefore.{ModeBefore}
 use Rattle.mgs_core.specs.declared.byte_acts.ModeBefore.TheVariants as befores
 use Rattle.mgs_core.specs.declared.byte_acts.ByteAct.TheVariants as byte_acts
-use Rattle.mgs_core.specs.declared.keying.ByteStep.{ByteStep}
-use Rattle.mgs_core.specs.declared.typing.SearchPlace.{SearchPlace}
-use Rattle.mgs_core.specs.declared.keying.ByteStep.TheVariants.{Kept, Acts}
+use Rattle.mgs_core.specs.declared.key_byte.ByteStep.{ByteStep}
+use Rattle.mgs_core.specs.declared.typed_byte.SearchPlace.{SearchPlace}
+use Rattle.mgs_core.specs.declared.key_byte.ByteStep.TheVariants.{Kept, Acts}
 use Rattle.mgs_core.specs.Prompted.{state_turn}
 use Rattle.mgs_core.specs.ByteSteps.{IsAlone, IsByteStep, IsLeft, SearchStays, SeesNames, is_keyed, search_for}
 use Rattle.mgs_session.specs.declared.search.Aim.{Aim}

@@ -58,8 +58,8 @@ use Rattle.mgs_core.specs.declared.byte_acts.ByteAct.TheVariants as byte_acts
 use Rattle.mgs_core.specs.declared.byte_acts.Before.{Before}
 use Rattle.mgs_core.specs.declared.byte_acts.ModeBefore.{ModeBefore}
 use Rattle.mgs_core.specs.declared.byte_acts.ModeBefore.TheVariants as befores
-use Rattle.mgs_core.specs.declared.keying.ByteStep.{ByteStep}
-use Rattle.mgs_core.specs.declared.keying.ByteStep.TheVariants.{Kept, Failed, Ends, Acts}
+use Rattle.mgs_core.specs.declared.key_byte.ByteStep.{ByteStep}
+use Rattle.mgs_core.specs.declared.key_byte.ByteStep.TheVariants.{Kept, Failed, Ends, Acts}
 use Rattle.mgs_act.specs.Doing.{ActedBy, DoneBy}
 use Rattle.mgs_core.specs.KeyActs.{started_by, started_state}
 use Rattle.mgs_core.specs.Calls.{closed}

@@ -21,7 +21,7 @@ use Rattle.mgs_mini.specs.Typing.{PromptInput}
 use Rattle.mgs_session.specs.declared.search.Aim.TheVariants.{Find, Replace}
 use Rattle.mgs_session.specs.declared.Session.{Session}
 use Rattle.mgs_session.specs.declared.search.Search.{Search}
-use Rattle.mgs_session.specs.declared.playing.Pending.TheVariants as tasks
+use Rattle.mgs_session.specs.declared.player.Pending.TheVariants as tasks
 use Rattle.mgs_session.specs.Playing.{IsNext, Playing, are_played}
 use Rattle.mgs_session.specs.Sessions.{acted, playing_as}
 use Rattle.mgs_world.specs.Worlds.{aim_mode, mode_in, state_of}
@@ -29,8 +29,8 @@ use Rattle.mgs_core.specs.declared.byte_acts.ByteAct.{ByteAct}
 use Rattle.mgs_core.specs.declared.byte_acts.ByteAct.TheVariants as byte_acts
 use Rattle.mgs_core.specs.declared.byte_acts.ModeBefore.{ModeBefore}
 use Rattle.mgs_core.specs.declared.byte_acts.ModeBefore.TheVariants as befores
-use Rattle.mgs_core.specs.declared.keying.ByteStep.{ByteStep}
-use Rattle.mgs_core.specs.declared.keying.ByteStep.TheVariants.{Kept, Failed, Ends, Acts}
+use Rattle.mgs_core.specs.declared.key_byte.ByteStep.{ByteStep}
+use Rattle.mgs_core.specs.declared.key_byte.ByteStep.TheVariants.{Kept, Failed, Ends, Acts}
 use Rattle.mgs_core.specs.Prompted.{state_turn}
 use Rattle.mgs_core.specs.ByteActs.{IsReady, before_turn, model_act, deciding_state, finds, is_replacing, refused}
 use Rattle.mgs_core.specs.ByteSteps.{IsByteStep, IsFirstStep, IsLeft, IsStep, IsTurnStep, SeesNames, TurnLeft, replaces}

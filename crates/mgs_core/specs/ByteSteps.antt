@@ -45,11 +45,11 @@ use Rattle.mgs_core.specs.declared.byte_acts.ByteAct.{ByteAct}
 use Rattle.mgs_core.specs.declared.byte_acts.ByteAct.TheVariants as byte_acts
 use Rattle.mgs_core.specs.declared.byte_acts.ModeBefore.{ModeBefore}
 use Rattle.mgs_core.specs.declared.byte_acts.ModeBefore.TheVariants as befores
-use Rattle.mgs_core.specs.declared.keying.ByteStep.{ByteStep}
-use Rattle.mgs_core.specs.declared.keying.ByteStep.TheVariants.{Kept, Failed, Ends, Acts}
-use Rattle.mgs_core.specs.declared.typing.ReplaceKey.{ReplaceKey}
-use Rattle.mgs_core.specs.declared.typing.SearchPlace.{SearchPlace}
-use Rattle.mgs_core.specs.declared.typing.ReplaceKey.TheVariants as keys
+use Rattle.mgs_core.specs.declared.key_byte.ByteStep.{ByteStep}
+use Rattle.mgs_core.specs.declared.key_byte.ByteStep.TheVariants.{Kept, Failed, Ends, Acts}
+use Rattle.mgs_core.specs.declared.typed_byte.ReplaceKey.{ReplaceKey}
+use Rattle.mgs_core.specs.declared.typed_byte.SearchPlace.{SearchPlace}
+use Rattle.mgs_core.specs.declared.typed_byte.ReplaceKey.TheVariants as keys
 use Rattle.mgs_core.specs.Prompted.{state_turn}
 use Rattle.mgs_core.specs.KeyActs.{command_act}
 use Rattle.mgs_core.specs.ByteActs.{CanDo, IsReady, before_turn, deciding_state, is_replacement, may_want_memory, model_act, refused, search_before, starts_replacing}

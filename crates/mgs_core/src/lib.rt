@@ -2,12 +2,12 @@
 #![tactic(auto)]
 
 mod byte_acts;
-mod keying;
+mod key_byte;
 mod laws;
 mod secrecy;
 mod server;
-mod turning;
-mod typing;
+mod turn;
+mod typed_byte;
 mod world;
 
 pub use laws::{kill_stays, outcomes_are_lawful, settled_stays};

@@ -2,7 +2,7 @@
 use Rattle.std.proofs.Common.{◌≡◌, ℕ, List, [], ◌∷◌, ◌++◌, map, ap, ◌∙◌, sym, append_assoc, append-nil, refl}
 use Rattle.mgs_disk.specs.Places.{row_of, row_in}
 use Rattle.mgs_config.specs.declared.config.BufferFile.{BufferFile}
-use Rattle.mgs_disk.specs.declared.places.Place.{Place}
+use Rattle.mgs_disk.specs.declared.save_places.Place.{Place}
 
 map_behind : (xs : List Place) (x : Place) → map row_in (xs ++ x ∷ []) ≡ map row_in xs ++ row_in x ∷ []
 map_behind [] x = refl

@@ -7,7 +7,7 @@ use Rattle.std.specs.declared.path.PathBuf.{PathBuf}
 use Rattle.mgs_model.specs.Names.{same_name}
 use Rattle.mgs_config.specs.declared.config.BufferFile.{BufferFile}
 use Rattle.mgs_written.specs.Steps.{Step, told, saved, IsUnsaved}
-use Rattle.mgs_disk.specs.declared.places.Place.{Place}
+use Rattle.mgs_disk.specs.declared.save_places.Place.{Place}
 
 -- the name of a buffer, and the path of its file
 abbrev pub row_of : BufferFile → List ℕ × List ℕ

@@ -6,7 +6,7 @@ use Rattle.mgs_config.specs.Document.{document_in}
 use Rattle.mgs_config.specs.Files.{AreBuffers}
 use Rattle.mgs_config.specs.World.{IsConfigFault, buffer_rows, directory_in, files_in, paths_of, people_refused, users_in}
 use Rattle.mgs_config.specs.Configured.{Config}
-use Rattle.mgs_config.specs.declared.fault.ConfigFault.{ConfigFault}
+use Rattle.mgs_config.specs.declared.config_fault.ConfigFault.{ConfigFault}
 
 -- the characters of a file's bytes: all of them, or more than a text may have
 pub record IsTextIn (bytes text : List ℕ) : Type 0 where

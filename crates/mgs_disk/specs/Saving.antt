@@ -2,8 +2,8 @@
 use Rattle.std.specs.Prelude.{ℕ, List, Option, map}
 use Rattle.mgs_written.specs.Steps.{Step}
 use Rattle.mgs_disk.specs.Places.{row_in, saved_at}
-use Rattle.mgs_disk.specs.declared.places.Place.{Place}
-use Rattle.mgs_disk.specs.declared.files.FileStore.{FileStore}
+use Rattle.mgs_disk.specs.declared.save_places.Place.{Place}
+use Rattle.mgs_disk.specs.declared.file_store.FileStore.{FileStore}
 
 -- where its buffers are saved
 abbrev pub places_in : {D : Type 0} → FileStore D → List Place

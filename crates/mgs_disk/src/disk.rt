@@ -1,7 +1,7 @@
 // The files that a configuration names.
 ghost use Rattle.std.specs.Prelude.{◌≡◌, ◌<◌, ◌≤◌, ◌+◌, ◌*◌, length, false, IsSome, IfSome, IfOk, IsErrOf};
 ghost use Rattle.std.specs.Str.{chars, IsUtf8};
-ghost use Rattle.mgs_config.specs.declared.files.FilesFault.TheVariants.{Unreadable};
+ghost use Rattle.mgs_config.specs.declared.named_files.FilesFault.TheVariants.{Unreadable};
 ghost use Rattle.mgs_disk.specs.Reading.{IsTextIn};
 
 use mgs_config::{Files, FilesFault};

@@ -4,18 +4,18 @@
 
 mod attributes;
 mod disk;
-mod files;
+mod file_store;
 mod folder;
 mod load;
-mod opening;
-mod places;
-mod replacing;
+mod open_file;
+mod replacement;
+mod save_places;
 mod store;
 
 pub use attributes::Gives;
 pub use disk::Disk;
-pub use files::FileStore;
+pub use file_store::FileStore;
 pub use load::{load_config, load_config_from};
-pub use opening::RegularFiles;
-pub use places::Finds;
-pub use replacing::DiskFiles;
+pub use open_file::RegularFiles;
+pub use replacement::DiskFiles;
+pub use save_places::Finds;

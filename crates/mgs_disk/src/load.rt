@@ -2,12 +2,12 @@
 ghost use Rattle.std.specs.Prelude.{◌≡◌, ◌≢◌, IfOk, IfErr, IfSome};
 ghost use Rattle.mgs_buffers.specs.MarkedBuffer.{AreUnmarked};
 ghost use Rattle.mgs_config.specs.World.{fault_of};
-ghost use Rattle.mgs_config.specs.declared.fault.ConfigTable.TheVariants.{Top};
-ghost use Rattle.mgs_config.specs.declared.fault.TableFault.TheVariants.{File, Short};
+ghost use Rattle.mgs_config.specs.declared.config_fault.ConfigTable.TheVariants.{Top};
+ghost use Rattle.mgs_config.specs.declared.config_fault.TableFault.TheVariants.{File, Short};
 ghost use Rattle.mgs_disk.specs.Reading.{IsLoaded, IsRefusedIn};
 
 use crate::disk::{Disk, fault_of};
-use crate::opening::RegularFiles;
+use crate::open_file::RegularFiles;
 use mgs_config::{Config, ConfigFault, ConfigTable, FilesFault, TableFault, read_config};
 use mgs_written::{Opens, read_at};
 use std::alloc::Global;

@@ -6,8 +6,8 @@ ghost use Rattle.mgs_store.specs.Stores.{IsCounted};
 ghost use Rattle.mgs_disk.specs.Places.{AreFound, IsKeptAt, IsSavedAt, saved_at};
 ghost use Rattle.mgs_disk.specs.Saving.{places_in, rows_in, steps_of, file_of};
 
-use crate::files::FileStore;
-use crate::places::{Finds, Place, path_of, places_of};
+use crate::file_store::FileStore;
+use crate::save_places::{Finds, Place, path_of, places_of};
 use mgs_config::BufferFile;
 use mgs_store::{Store, StoreFault};
 use mgs_written::{Replaces, replace};

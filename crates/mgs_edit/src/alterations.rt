@@ -6,7 +6,7 @@ ghost use Rattle.mgs_edit.specs.Reading.{ChangeWithin, IsWithin, deleted, killin
 
 use crate::around::{goes, is_at_end, is_at_start, joins_behind, joins_in_front, times};
 use crate::plan::{Around, Change, Finish, Joins, Piece, Put};
-use crate::rewriting::{given_of, planned};
+use crate::rewrite_changes::{given_of, planned};
 use mgs_fill::{
     Case, case_region, case_words, delete_blank_lines, delete_horizontal_space, fill_paragraph,
     join_line, just_one_space,

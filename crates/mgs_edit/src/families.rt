@@ -7,7 +7,7 @@ use crate::alterations::alteration;
 use crate::insertions::{insertion, reading_insertion};
 use crate::motions::motion;
 use crate::plan::{Around, Change, Finish};
-use crate::scrolling::scroll;
+use crate::scrolls::scroll;
 use mgs_model::{Command, Message};
 use mgs_text::Text;
 

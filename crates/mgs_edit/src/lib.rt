@@ -9,10 +9,10 @@ mod insertions;
 mod motions;
 mod numbers;
 mod plan;
-mod rewriting;
-mod scrolling;
+mod rewrite_changes;
+mod scrolls;
 mod sizes;
-mod undoing;
+mod undos;
 mod written;
 
 pub use alterations::alteration;
@@ -22,9 +22,9 @@ pub use mgs_fill::{Case, refill};
 pub use motions::motion;
 pub use numbers::line_wanted;
 pub use plan::{Around, Change, Finish, Goes, Joins, Piece, Put, Undone};
-pub use scrolling::{scroll, scrolled_row};
+pub use scrolls::{scroll, scrolled_row};
 pub use sizes::{
     is_edit, is_kill_too_large, is_too_long, is_undo_an_edit, is_undo_too_long, put_len,
 };
-pub use undoing::{undo, undo_target};
+pub use undos::{undo, undo_target};
 pub use written::put_chars;

@@ -32,8 +32,8 @@ use Rattle.mgs_core.proofs.Ids.{found_sizes, none_of, same_some}
 use Rattle.mgs_wire.specs.Calls as wire
 use Rattle.mgs_engine.specs.declared.tape.Answer.{Answer}
 use Rattle.mgs_engine.specs.declared.tape.Answer.TheVariants as answers
-use Rattle.mgs_engine.specs.declared.ending.Cause.{Cause}
-use Rattle.mgs_engine.specs.declared.ending.Cause.TheVariants.{Slow}
+use Rattle.mgs_engine.specs.declared.session_end.Cause.{Cause}
+use Rattle.mgs_engine.specs.declared.session_end.Cause.TheVariants.{Slow}
 use Rattle.mgs_engine.specs.Does.{Does}
 use Rattle.mgs_engine.specs.Drives.{Asked, Opens, Types, Closes, Takes, Asks, Makes, Taped, Runs, RunsSome, answered}
 use Rattle.mgs_engine.specs.Driven.{AreTaped, Gives, HasEvents, IsRun, IsRunOfSome, IsTaped}

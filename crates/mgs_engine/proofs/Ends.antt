@@ -3,7 +3,7 @@ use Rattle.std.proofs.Common.{◌≡◌, ℕ, ◌+◌, ◌<◌, cond, List, leng
 use Rattle.std.specs.Prelude.{◌≢◌, find}
 use Rattle.std.proofs.lemmas.Bool.{ne_eqb}
 use Rattle.std.proofs.lemmas.List.{drop_more}
-use Rattle.mgs_engine.specs.declared.ending.Cause.{Cause}
+use Rattle.mgs_engine.specs.declared.session_end.Cause.{Cause}
 use Rattle.mgs_engine.specs.Serving.{is_end_of}
 
 -- one that is another's end is passed

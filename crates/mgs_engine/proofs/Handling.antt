@@ -12,9 +12,9 @@ use Rattle.mgs_world.specs.Worlds.{sizes, IsUnique}
 use Rattle.mgs_core.specs.Calls.{KeyedBy, closed, sizes_keyed}
 use Rattle.mgs_core.specs.Kept.{Kept}
 use Rattle.mgs_core.proofs.Ids.{All-remove_first}
-use Rattle.mgs_engine.specs.declared.ending.Cause.{Cause}
-use Rattle.mgs_engine.specs.declared.ending.Cause.TheVariants.{Quit, Slow}
-use Rattle.mgs_engine.specs.declared.screen.Screen.{Screen}
+use Rattle.mgs_engine.specs.declared.session_end.Cause.{Cause}
+use Rattle.mgs_engine.specs.declared.session_end.Cause.TheVariants.{Quit, Slow}
+use Rattle.mgs_engine.specs.declared.session_screen.Screen.{Screen}
 use Rattle.mgs_engine.specs.Handled.{Handles}
 use Rattle.mgs_engine.specs.Queues.{queue_id}
 use Rattle.mgs_engine.specs.Screens.{late_ids, queues_of, screen_id, shown_size, AreRedrawn, IsDrawn, IsSessionScreen}

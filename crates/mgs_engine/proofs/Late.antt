@@ -12,8 +12,8 @@ use Rattle.mgs_model.specs.World.{World, Session, find_session}
 use Rattle.mgs_world.specs.Worlds.{session_size, sizes, IsOther, IsUnique}
 use Rattle.mgs_core.specs.Kept.{Kept}
 use Rattle.mgs_core.proofs.Ids.{All-found, All-unmap, some_of, unique_found}
-use Rattle.mgs_engine.specs.declared.ending.Cause.{Cause}
-use Rattle.mgs_engine.specs.declared.screen.Screen.{Screen}
+use Rattle.mgs_engine.specs.declared.session_end.Cause.{Cause}
+use Rattle.mgs_engine.specs.declared.session_screen.Screen.{Screen}
 use Rattle.mgs_engine.specs.Queues.{IsTaken}
 use Rattle.mgs_engine.specs.Screens.{is_late, late_ids, queue_of, queues_of, screen_id, shown_size, AreRedrawn, IsDrawn, IsOnTime, IsRedrawn}
 use Rattle.mgs_engine.specs.Served.{serving_of}

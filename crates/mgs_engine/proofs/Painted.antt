@@ -19,9 +19,9 @@ use Rattle.mgs_model.proofs.Firsts.{found_passes}
 use Rattle.mgs_world.specs.Worlds.{find_size, sizes, is_size_of, IsUnique}
 use Rattle.mgs_world.specs.Worlds as core
 use Rattle.mgs_screen.specs.TextsDrawn.{AreStanding}
-use Rattle.mgs_engine.specs.declared.screen.Screen.{Screen}
+use Rattle.mgs_engine.specs.declared.session_screen.Screen.{Screen}
 use Rattle.mgs_engine.specs.Queues.{waiting_in, is_queue_of}
-use Rattle.mgs_engine.specs.declared.ending.Cause.{Cause}
+use Rattle.mgs_engine.specs.declared.session_end.Cause.{Cause}
 use Rattle.mgs_engine.specs.Screens.{queue_of, queues_of, shown_size, Drawn, drawn_of, screen_id, IsDrawn, IsOnTime, IsRedrawn, IsRepaint, AreAmong, AreRedrawn, IsFirst}
 use Rattle.mgs_core.specs.Kept.{Kept}
 use Rattle.mgs_core.proofs.Ids.{All-found, find-remove_first_other, found_sizes, none_of, others_left, same_some, some_of}

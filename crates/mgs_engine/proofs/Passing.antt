@@ -6,8 +6,8 @@ use Rattle.std.proofs.lemmas.Bool.{lt-ltb}
 use Rattle.std.proofs.lemmas.Bool.Decides.{nat_tests}
 use Rattle.mgs_core.specs.Held.{AreRising}
 use Rattle.mgs_wire.specs.Calls.{IsBefore, PassesNoEnd}
-use Rattle.mgs_engine.specs.declared.ending.Cause.{Cause}
-use Rattle.mgs_engine.specs.declared.screen.Screen.{Screen}
+use Rattle.mgs_engine.specs.declared.session_end.Cause.{Cause}
+use Rattle.mgs_engine.specs.declared.session_screen.Screen.{Screen}
 use Rattle.mgs_engine.specs.Due.{is_due}
 use Rattle.mgs_engine.specs.Queues.{find_queue, waiting_in}
 use Rattle.mgs_engine.specs.Screens.{queue_of, queues_of, shown_size}

@@ -6,7 +6,7 @@ use Rattle.std.proofs.lemmas.Bool.{eq-eqb}
 use Rattle.std.proofs.lemmas.List.{length-map}
 use Rattle.mgs_model.proofs.Firsts.{get_or-map}
 use Rattle.mgs_world.specs.Worlds.{IsOther, IsUnique}
-use Rattle.mgs_engine.specs.declared.screen.Screen.{Screen}
+use Rattle.mgs_engine.specs.declared.session_screen.Screen.{Screen}
 use Rattle.mgs_engine.specs.Screens.{screen_id, shown_size}
 
 -- what stands where an id is found is the first of that id

@@ -14,12 +14,12 @@ use Rattle.mgs_model.specs.declared.errors.Keyed.{Keyed}
 use Rattle.mgs_model.specs.declared.errors.Keyed.TheVariants.{Done, Short, Quit, NoSession}
 use Rattle.mgs_world.specs.declared.size.Size.{Size}
 use Rattle.mgs_core.specs.Calls.{closed, sizes_keyed}
-use Rattle.mgs_engine.specs.declared.screen.Screen.{Screen}
+use Rattle.mgs_engine.specs.declared.session_screen.Screen.{Screen}
 use Rattle.mgs_engine.specs.Screens.{queue_of, queues_of, screen_id}
 use Rattle.mgs_engine.specs.Served.{serving_of}
 use Rattle.mgs_core.specs.Kept.{Kept, kept}
 use Rattle.mgs_store.specs.Stores.{StoreTold}
-use Rattle.mgs_engine.specs.declared.ending.Cause.{Cause}
+use Rattle.mgs_engine.specs.declared.session_end.Cause.{Cause}
 use Rattle.mgs_engine.specs.Serving.{Serving, ended_by, ended_keyed, ids_keyed, to_tell}
 use Rattle.mgs_engine.proofs.Screens.{queues_removed}
 

@@ -18,7 +18,7 @@ use Rattle.mgs_screen.proofs.TextsDrawn.{standing_none}
 use Rattle.mgs_world.specs.declared.size.Size.{Size}
 use Rattle.mgs_world.specs.Worlds.{find_size, sizes, IsOfSize, IsUnique}
 use Rattle.mgs_world.specs.Worlds as core
-use Rattle.mgs_engine.specs.declared.screen.Screen.{Screen}
+use Rattle.mgs_engine.specs.declared.session_screen.Screen.{Screen}
 use Rattle.mgs_engine.specs.Queues.{IsTaken}
 use Rattle.mgs_engine.specs.Screens.{queue_of, shown_size, texts_left, Texts, IsSessionScreen, IsKnown, IsDrawn, IsReady, IsReadyApart, IsAhead, IsOnTime, IsRedrawn, IsRepaint, AreRedrawn, IsFirst}
 use Rattle.mgs_engine.specs.Served.{IsDrawnInTime}

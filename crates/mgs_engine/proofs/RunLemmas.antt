@@ -3,7 +3,7 @@ use Rattle.std.proofs.Common.{◌≡◌, ℕ, List, [], ◌∷◌, ◌++◌, map
 use Rattle.mgs_laws.proofs.Saves.{closes_save_none, saves_next}
 use Rattle.mgs_model.specs.Events.{Event, Close, Saved, event_saves, run, run_saves, step}
 use Rattle.mgs_model.specs.World.{World}
-use Rattle.mgs_engine.specs.declared.ending.Cause.{Cause}
+use Rattle.mgs_engine.specs.declared.session_end.Cause.{Cause}
 use Rattle.mgs_engine.specs.Serving.{Serving, all_ended_by, ended_by}
 
 pub run-append : (w : World) (es fs : List Event) → run w (es ++ fs) ≡ run (run w es) fs

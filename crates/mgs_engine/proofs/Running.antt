@@ -9,7 +9,7 @@ use Rattle.mgs_laws.proofs.Saves.{saves_behind}
 use Rattle.mgs_store.specs.Stores.{StoreTold, told_more}
 use Rattle.mgs_store.proofs.Told.{told_none, told_twice}
 use Rattle.mgs_wire.specs.Calls.{AreMade, Call, Open, Refuse, Byte, Close, Took}
-use Rattle.mgs_engine.specs.declared.ending.Cause.TheVariants.{Slow}
+use Rattle.mgs_engine.specs.declared.session_end.Cause.TheVariants.{Slow}
 use Rattle.mgs_engine.specs.declared.tape.Answer.{Answer}
 use Rattle.mgs_engine.specs.declared.tape.Answer.TheVariants as answers
 use Rattle.mgs_engine.specs.Does.{Does}

@@ -8,7 +8,7 @@ use Rattle.mgs_model.proofs.Firsts.{find-map, find_at_place}
 use Rattle.mgs_model.specs.Picture.{IsSize, IsPicture}
 use Rattle.mgs_model.specs.declared.limits.TheConstants.{QUEUE_LIMIT}
 use Rattle.mgs_paint.specs.Painting.{bound_of}
-use Rattle.mgs_engine.specs.declared.screen.Screen.{Screen}
+use Rattle.mgs_engine.specs.declared.session_screen.Screen.{Screen}
 use Rattle.mgs_engine.specs.Queues.{IsTaken, waiting_in, find_queue, is_queue_of}
 use Rattle.mgs_engine.specs.Screens.{queue_of, queues_of, screen_id}
 

@@ -12,8 +12,8 @@ use Rattle.mgs_model.specs.declared.errors.OpenFault.TheVariants.{Full}
 use Rattle.mgs_model.specs.declared.limits.TheConstants.{SESSION_LIMIT}
 use Rattle.mgs_world.specs.Worlds.{session_size, sizes}
 use Rattle.mgs_core.specs.Kept.{Kept}
-use Rattle.mgs_engine.specs.declared.ending.Cause.{Cause}
-use Rattle.mgs_engine.specs.declared.screen.Screen.{Screen}
+use Rattle.mgs_engine.specs.declared.session_end.Cause.{Cause}
+use Rattle.mgs_engine.specs.declared.session_screen.Screen.{Screen}
 use Rattle.mgs_engine.specs.Screens.{shown_size}
 use Rattle.mgs_engine.specs.Served.{HasSlots, serving_of}
 use Rattle.mgs_engine.specs.Serving.{Serving, opening_fault, slots_used}

@@ -12,7 +12,7 @@ use Rattle.mgs_world.specs.declared.size.Size.{Size}
 use Rattle.mgs_world.specs.Worlds.{find_size, is_size_of, sizes, IsUnique}
 use Rattle.mgs_core.specs.Calls.{closed}
 use Rattle.mgs_core.proofs.Ids.{All-remove_first, find-remove_first_other, others_left, unique_opened, unique_removed}
-use Rattle.mgs_engine.specs.declared.screen.Screen.{Screen}
+use Rattle.mgs_engine.specs.declared.session_screen.Screen.{Screen}
 use Rattle.mgs_engine.specs.Screens.{IsDrawn, IsOnTime, IsSessionScreen, screen_id, shown_size}
 use Rattle.mgs_engine.specs.Served.{IsDrawnInTime, IsServed, IsServedInTime}
 use Rattle.mgs_engine.proofs.Screens.{sizes_opened, sizes_removed}

@@ -20,9 +20,9 @@ use Rattle.mgs_screen.specs.TextsDrawn.{AreStanding}
 use Rattle.mgs_world.specs.Worlds.{sizes, IsUnique}
 use Rattle.mgs_core.specs.Kept.{Kept}
 use Rattle.mgs_core.specs.Calls.{IsStill, KeyedBy, sizes_keyed}
-use Rattle.mgs_engine.specs.declared.ending.Cause.{Cause}
-use Rattle.mgs_engine.specs.declared.ending.Cause.TheVariants.{Slow}
-use Rattle.mgs_engine.specs.declared.screen.Screen.{Screen}
+use Rattle.mgs_engine.specs.declared.session_end.Cause.{Cause}
+use Rattle.mgs_engine.specs.declared.session_end.Cause.TheVariants.{Slow}
+use Rattle.mgs_engine.specs.declared.session_screen.Screen.{Screen}
 use Rattle.mgs_engine.specs.Handled.{Handles}
 use Rattle.mgs_engine.specs.Painted.{Painted}
 use Rattle.mgs_engine.specs.Screens.{IsDrawn}

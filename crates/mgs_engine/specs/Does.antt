@@ -7,7 +7,7 @@ use Rattle.mgs_model.specs.World.{Session, World, find_session}
 use Rattle.mgs_model.specs.Draw.{screen}
 use Rattle.mgs_paint.specs.Painting.{Paints}
 use Rattle.mgs_wire.specs.Calls.{Call, Open, Refuse, Byte, Close, Took}
-use Rattle.mgs_engine.specs.declared.ending.Cause.TheVariants.{Closed}
+use Rattle.mgs_engine.specs.declared.session_end.Cause.TheVariants.{Closed}
 use Rattle.mgs_engine.specs.Handled.{Admits, Handles}
 use Rattle.mgs_engine.specs.Painted.{Painted}
 use Rattle.mgs_engine.specs.Queues.{after_taking, is_queue_of}

@@ -6,7 +6,7 @@ use Rattle.mgs_model.specs.declared.errors.Keyed.{Keyed}
 use Rattle.mgs_model.specs.declared.errors.OpenFault.{OpenFault}
 use Rattle.mgs_world.specs.Worlds.{sizes}
 use Rattle.mgs_wire.specs.Calls as wire
-use Rattle.mgs_engine.specs.declared.ending.Cause.{Cause}
+use Rattle.mgs_engine.specs.declared.session_end.Cause.{Cause}
 use Rattle.mgs_engine.specs.declared.tape.Answer.{Answer}
 use Rattle.mgs_engine.specs.declared.tape.Answer.TheVariants as answers
 use Rattle.mgs_engine.specs.declared.tape.Call.{Call}

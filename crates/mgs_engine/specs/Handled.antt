@@ -6,7 +6,7 @@ use Rattle.mgs_model.specs.declared.errors.Keyed.TheVariants as keyed
 use Rattle.mgs_model.specs.declared.errors.OpenFault.{OpenFault}
 use Rattle.mgs_world.specs.Worlds.{sizes}
 use Rattle.mgs_core.specs.Calls.{KeyedBy, OpenAnswers, sizes_keyed}
-use Rattle.mgs_engine.specs.declared.ending.Cause.TheVariants.{Quit, Slow}
+use Rattle.mgs_engine.specs.declared.session_end.Cause.TheVariants.{Quit, Slow}
 use Rattle.mgs_engine.specs.Serving.{NoneWaits, Serving, all_ended_by, ended_by, ended_keyed, ids_keyed, opening_fault, queue_ids}
 use Rattle.mgs_engine.specs.Slow.{slow_ids}
 

@@ -14,7 +14,7 @@ use Rattle.mgs_screen.specs.TextsDrawn.{AreStanding}
 use Rattle.mgs_screen.specs.declared.drawn_texts.DrawnText.{DrawnText}
 use Rattle.mgs_paint.specs.Painting.{Paints, bound_of, cells_of, shown}
 use Rattle.mgs_term.specs.Drawing.{Draws, IsFaithful}
-use Rattle.mgs_engine.specs.declared.screen.Screen.{Screen}
+use Rattle.mgs_engine.specs.declared.session_screen.Screen.{Screen}
 use Rattle.mgs_engine.specs.Queues.{IsTaken, Queue}
 use Rattle.mgs_engine.specs.Slow.{falls_behind}
 

@@ -4,9 +4,9 @@ use Rattle.mgs_world.specs.Worlds.{sizes, IsUnique}
 use Rattle.mgs_model.specs.World.{World}
 use Rattle.mgs_core.specs.Kept.{Kept}
 use Rattle.mgs_model.specs.declared.limits.TheConstants.{SESSION_LIMIT}
-use Rattle.mgs_engine.specs.declared.ending.Cause.{Cause}
-use Rattle.mgs_engine.specs.declared.screen.Screen.{Screen}
-use Rattle.mgs_engine.specs.declared.ending.Cause.TheVariants.{Slow}
+use Rattle.mgs_engine.specs.declared.session_end.Cause.{Cause}
+use Rattle.mgs_engine.specs.declared.session_screen.Screen.{Screen}
+use Rattle.mgs_engine.specs.declared.session_end.Cause.TheVariants.{Slow}
 use Rattle.mgs_engine.specs.Screens.{late_ids, IsDrawn, IsOnTime, IsSessionScreen, queues_of, shown_size}
 use Rattle.mgs_engine.specs.Serving.{Serving, all_ended_by}
 

@@ -13,8 +13,8 @@ use Rattle.mgs_core.specs.Calls.{closed}
 use Rattle.mgs_store.specs.Stores.{StoreTold}
 use Rattle.mgs_world.specs.declared.size.Size.{Size}
 use Rattle.mgs_world.specs.Worlds.{sizes}
-use Rattle.mgs_engine.specs.declared.ending.Cause.{Cause}
-use Rattle.mgs_engine.specs.declared.ending.Cause.TheVariants.{Quit}
+use Rattle.mgs_engine.specs.declared.session_end.Cause.{Cause}
+use Rattle.mgs_engine.specs.declared.session_end.Cause.TheVariants.{Quit}
 use Rattle.mgs_engine.specs.Queues.{Queue, is_queue_of, waiting_in, find_queue, queue_id}
 
 -- the sessions that ended stand with their causes until they are told, the oldest first

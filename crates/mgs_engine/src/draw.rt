@@ -7,8 +7,8 @@ ghost use Rattle.mgs_grid.specs.RowSets.{AreSameApart};
 ghost use Rattle.mgs_engine.specs.Screens.{IsSessionScreen, IsKnown, IsAhead, IsDrawn, IsReady, IsReadyApart, IsOnTime, IsRepaint, IsRedrawn, IsFirst, AreRedrawn, AreDrawnApart, texts_left, shown_size, queue_of};
 ghost use Rattle.mgs_engine.specs.Slow.{falls_behind, is_past, same_picture};
 
-use crate::same::same_grid;
-use crate::screen::Screen;
+use crate::grid_equality::same_grid;
+use crate::session_screen::Screen;
 use mgs_core::{Core, Size};
 use mgs_grid::RowSet;
 use mgs_marks::Marked;

@@ -5,8 +5,8 @@ ghost use Rattle.mgs_wire.specs.Calls.{IsBefore};
 ghost use Rattle.mgs_engine.specs.Due.{is_due};
 ghost use Rattle.mgs_engine.specs.Serving.{has_ended};
 
-use crate::ending::Cause;
-use crate::screen::Screen;
+use crate::session_end::Cause;
+use crate::session_screen::Screen;
 use mgs_model::SessionId;
 
 /// The first session above an id for whose terminal bytes wait.

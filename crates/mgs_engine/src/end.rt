@@ -3,14 +3,14 @@ ghost use Rattle.std.specs.Prelude.{◌≡◌, ◌++◌, ◌∷◌, [], Some, ma
 ghost use Rattle.std.specs.Option.{option_map};
 ghost use Rattle.mgs_model.specs.Apply.{remove_first};
 ghost use Rattle.mgs_model.specs.Events.{Close, run, step};
-ghost use Rattle.mgs_engine.specs.declared.ending.Cause.TheVariants.{Slow};
+ghost use Rattle.mgs_engine.specs.declared.session_end.Cause.TheVariants.{Slow};
 ghost use Rattle.mgs_engine.specs.Screens.{AreAmong, is_late, late_ids, screen_id};
 ghost use Rattle.mgs_engine.specs.Served.{HasSlots, IsServed, IsServedInTime, late_ended, serving_of};
 ghost use Rattle.mgs_engine.specs.Serving.{ended_by};
 
-use crate::ending::Cause;
 use crate::place::place_of;
-use crate::screen::Screen;
+use crate::session_end::Cause;
+use crate::session_screen::Screen;
 use mgs_core::Core;
 use mgs_marks::Marked;
 use mgs_model::SessionId;

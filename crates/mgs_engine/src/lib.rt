@@ -5,21 +5,21 @@
 #![tactic(auto)]
 
 mod draw;
-mod driving;
+mod driver;
 mod due;
 mod end;
-mod ending;
 mod engine;
+mod grid_equality;
 mod place;
 mod queue;
-mod same;
-mod screen;
 mod served;
+mod session_end;
+mod session_screen;
 mod sessions;
 mod take;
 mod tape;
 
-pub use driving::drive;
-pub use ending::Cause;
+pub use driver::drive;
 pub use engine::Engine;
+pub use session_end::Cause;
 pub use tape::{Answer, Call, Tape};

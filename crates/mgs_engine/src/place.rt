@@ -4,7 +4,7 @@ ghost use Rattle.std.specs.List.{position_or_len};
 ghost use Rattle.mgs_world.specs.Worlds.{IsUnique};
 ghost use Rattle.mgs_engine.specs.Screens.{screen_id, shown_size};
 
-use crate::screen::Screen;
+use crate::session_screen::Screen;
 use mgs_model::SessionId;
 
 /// The place of the first screen of an id, or how many there are where none has it.

@@ -6,7 +6,7 @@ ghost use Rattle.mgs_engine.specs.Queues.{after_taking, waiting_in, find_queue, 
 ghost use Rattle.mgs_engine.specs.Screens.{IsSessionScreen, drawn_of, queue_of, queues_of, shown_size};
 
 use crate::place::find_place;
-use crate::screen::Screen;
+use crate::session_screen::Screen;
 use mgs_model::SessionId;
 
 // Takes bytes from the front of a screen's queue.

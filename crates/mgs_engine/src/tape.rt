@@ -3,7 +3,7 @@ ghost use Rattle.std.specs.Prelude.{◌≡◌, ◌≤◌, ◌++◌, ◌∷◌, [
 ghost use Rattle.std.specs.List.{position_or_len};
 ghost use Rattle.mgs_engine.specs.Tapes.{IsAdded, bytes_on, has_piece_id, piece_queue, pieces_of, with_more};
 
-use crate::ending::Cause;
+use crate::session_end::Cause;
 use mgs_model::{Keyed, OpenFault, SessionId, Short};
 use std::alloc::Global;
 use std::marker::Model;

@@ -7,7 +7,7 @@ ghost use Rattle.mgs_gap.specs.RawPlaces.{text_place, IsRaw, marks_at};
 
 use crate::block::{Block, MOST};
 use crate::feeds::Feeds;
-use crate::lined::{edit_lined, gather_lined};
+use crate::lined_block::{edit_lined, gather_lined};
 use crate::places::{
     Gap, Splice, add_place, leaves_marks, move_places, place_of, put_place, to_raw, to_text,
 };

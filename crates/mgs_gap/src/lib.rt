@@ -5,7 +5,7 @@ mod block;
 mod cells;
 mod feeds;
 mod gap;
-mod lined;
+mod lined_block;
 mod moves;
 mod places;
 mod slides;

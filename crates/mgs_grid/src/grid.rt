@@ -7,8 +7,8 @@ ghost use Rattle.mgs_grid.specs.Lists.{acl_mode, listed_text, unlisted_text};
 ghost use Rattle.mgs_grid.specs.Panes.{CompletesPanes, text_put, with_rows};
 ghost use Rattle.mgs_grid.specs.RowSets.{AreSameApart};
 
-use crate::line::Line;
 use crate::row_set::RowSet;
+use crate::screen_row::Line;
 use crate::shift::ShiftedRow;
 use crate::window::{clear_rows, draw_rows, take_some};
 use mgs_model::{Decision, Direction, Message, Name, Owners, Question, ROWS_MAX, Short};

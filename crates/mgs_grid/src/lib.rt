@@ -7,16 +7,16 @@
 mod cells;
 mod echo_row;
 mod grid;
-mod line;
 mod lists;
-mod masked;
+mod mask;
 mod mode_line;
 mod prompts;
 mod row_set;
+mod screen_row;
 mod shift;
 mod window;
 
 pub use grid::Grid;
-pub use line::Line;
 pub use row_set::RowSet;
+pub use screen_row::Line;
 pub use shift::{ShiftedRow, shift_for};

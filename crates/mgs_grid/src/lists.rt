@@ -7,7 +7,7 @@ ghost use Rattle.mgs_grid.specs.Cells.{Wrote};
 ghost use Rattle.mgs_grid.specs.Lists.{acl_mode};
 
 use crate::cells::{put_blanks, put_bytes, put_decimal, put_name};
-use crate::masked::put_cause;
+use crate::mask::put_cause;
 use mgs_model::{Decision, Name, Owners};
 
 fn put_spaces(row: &mut [char], column: usize, count: usize) -> usize

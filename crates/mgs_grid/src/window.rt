@@ -4,8 +4,8 @@ ghost use Rattle.mgs_model.specs.Rows.{blank_rows, text_rows, shift_at};
 ghost use Rattle.mgs_grid.specs.Cells.{HasWidth};
 ghost use Rattle.mgs_grid.specs.RowSets.{AreSameApart};
 
-use crate::line::Line;
 use crate::row_set::RowSet;
+use crate::screen_row::Line;
 use crate::shift::ShiftedRow;
 use mgs_model::ROWS_MAX;
 use mgs_text::Text;

@@ -1,15 +1,15 @@
 //! What a journal is: where it is kept by what access to each buffer is decided, and what is told of events.
 #![tactic(auto)]
 
+mod access_equality;
 mod room;
-mod same;
 mod snapshot;
 
+pub use access_equality::{are_same, is_same_name};
 use mgs_buffers::Rights;
 use mgs_model::{Decision, Name};
 use mgs_wire::Refusal;
 pub use room::Room;
-pub use same::{are_same, is_same_name};
 pub use snapshot::Snapshot;
 use thiserror::Error;
 

@@ -2,11 +2,11 @@
 ghost use Rattle.std.specs.Prelude.{◌≡◌, ◌+◌, None, IfOk, length, false, []};
 ghost use Rattle.mgs_keep.specs.Keeping.{AreKept, HasChanged, OrFails, TellsEnds, held};
 
-use crate::changes::{keep, keep_all};
+use crate::access_changes::{keep, keep_all};
+use crate::kept_texts::{keep_next, keep_saved};
 use crate::round::Round;
+use crate::session_users::Users;
 use crate::tellings::{name_in_bytes, opening_told, refused, said_to, tell, tick};
-use crate::texts::{keep_next, keep_saved};
-use crate::users::Users;
 use mgs_engine::Engine;
 use mgs_journal::{Journal, JournalFault, Room};
 use mgs_marks::Marked;

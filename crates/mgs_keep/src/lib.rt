@@ -4,14 +4,14 @@
 //! its [`Journal`] keeps, and has that keep what differs. Where the journal fails nothing more is shown.
 #![tactic(auto)]
 
-mod changes;
+mod access_changes;
 mod difference;
 mod kept;
+mod kept_texts;
 mod round;
+mod session_users;
 mod tellings;
-mod texts;
-mod users;
 
 pub use kept::Kept;
+pub use kept_texts::text_sum;
 pub use mgs_journal::{Journal, JournalFault, Told};
-pub use texts::text_sum;

@@ -1,8 +1,8 @@
 // The events that the journal tells.
 ghost use Rattle.std.specs.Prelude.{◌≢◌};
 
-use crate::arguments::Wanted;
 use crate::folder::journal_path;
+use crate::keep_arguments::Wanted;
 use crate::status::{FAILED, IN_USE, PRINTED};
 use jiff::Timestamp;
 use jiff::civil::Date;

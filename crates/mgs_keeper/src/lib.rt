@@ -1,9 +1,9 @@
 //! What `mgd-keep` does: it serves a configuration with a journal of rights and events in a folder, and prints what the journal tells.
 #![tactic(auto)]
 
-mod arguments;
 mod events;
 mod folder;
+mod keep_arguments;
 mod launch;
 mod program;
 mod service;

@@ -1,6 +1,6 @@
 // What the program does.
-use crate::arguments::{Task, read_task};
 use crate::events::print_events;
+use crate::keep_arguments::{Task, read_task};
 use crate::service::serve;
 use crate::status::{FAILED, WRONG_ARGUMENTS};
 use mgs_command::{NO_MEMORY, tell};

@@ -1,9 +1,9 @@
 // A configuration that is served with a journal.
 ghost use Rattle.std.specs.Prelude.{◌≡◌, ◌≢◌, ◌<◌, IfErr, IfSome, length};
 
-use crate::arguments::Mending;
 use crate::events::end_open;
 use crate::folder::{is_private_folder, journal_path, make_private};
+use crate::keep_arguments::Mending;
 use crate::launch::{StartFault, start};
 use crate::status::{FAILED, JOURNAL_FAILED};
 use crate::turns::serve_kept;

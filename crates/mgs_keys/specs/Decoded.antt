@@ -3,7 +3,7 @@ use Rattle.std.specs.Prelude.{ℕ, nat_lt, ◌==◌, Bool, true, false, List, []
 use Rattle.mgs_model.specs.Sequences.{sequence_read}
 use Rattle.mgs_model.specs.declared.sequence.Sequence.{Sequence}
 use Rattle.mgs_model.specs.declared.sequence.Sequence.TheVariants.{Whole, Begun, Broken}
-use Rattle.mgs_keys.specs.declared.spelling.TheConstants.{ESCAPE}
+use Rattle.mgs_keys.specs.declared.token_texts.TheConstants.{ESCAPE}
 use Rattle.mgs_keys.specs.declared.decoder.Key.{Key}
 use Rattle.mgs_keys.specs.declared.decoder.Key.TheVariants.{Plain, Meta, Wide}
 use Rattle.mgs_keys.specs.declared.decoder.Held.{Held}

@@ -7,10 +7,10 @@ use Rattle.mgs_model.specs.Names.{is_visible}
 use Rattle.mgs_keys.specs.Words.{is_quotable, words_of}
 use Rattle.mgs_keys.specs.declared.KeysFault.{KeysFault}
 use Rattle.mgs_keys.specs.declared.KeysFault.TheVariants.{BadToken, Short}
-use Rattle.mgs_keys.specs.declared.spelling.TheConstants.{ESCAPE}
+use Rattle.mgs_keys.specs.declared.token_texts.TheConstants.{ESCAPE}
 use Rattle.mgs_keys.specs.declared.tokens.TheConstants.{DELETE}
-use Rattle.mgs_keys.specs.declared.spelling.Spelling.{Spelling}
-use Rattle.mgs_keys.specs.declared.spelling.Spelling.TheVariants.{One, Escaped, Each}
+use Rattle.mgs_keys.specs.declared.token_texts.Spelling.{Spelling}
+use Rattle.mgs_keys.specs.declared.token_texts.Spelling.TheVariants.{One, Escaped, Each}
 
 -- the keys that have a name of their own
 abbrev pub named_byte_of : List ℕ → Option ℕ

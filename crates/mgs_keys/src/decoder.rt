@@ -3,7 +3,7 @@ ghost use Rattle.std.specs.Prelude.{◌≡◌};
 ghost use Rattle.mgs_keys.specs.Decoded.{decoded, held_after, begun_key, held_begun, key_within, held_within, is_in_character, is_nothing};
 ghost use Rattle.mgs_keys.specs.declared.decoder.Held.TheVariants.{Nothing};
 
-use crate::spelling::ESCAPE;
+use crate::token_texts::ESCAPE;
 use mgs_model::{Sequence, read_sequence};
 use std::marker::Model;
 

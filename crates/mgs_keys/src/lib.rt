@@ -3,14 +3,14 @@
 
 mod decoder;
 mod numbers;
-mod spelling;
+mod token_texts;
 mod tokens;
 mod words;
 
 pub use decoder::{Decoder, Key};
 pub use numbers::read_number;
-pub use spelling::{Spelling, Tokens, cut_word, quoted, read_tokens};
 use thiserror::Error;
+pub use token_texts::{Spelling, Tokens, cut_word, quoted, read_tokens};
 pub use tokens::read_keys;
 pub use words::{cut_at, utf8};
 

@@ -3,7 +3,7 @@ ghost use Rattle.std.specs.Prelude.{◌≡◌};
 ghost use Rattle.mgs_keys.specs.Tokens.{named_byte_of, control_byte_of, meta_byte_of, token_bytes, keys_of, GivesKeys};
 
 use crate::KeysFault;
-use crate::spelling::{ESCAPE, Spelling, Tokens, quoted, read_tokens};
+use crate::token_texts::{ESCAPE, Spelling, Tokens, quoted, read_tokens};
 use std::alloc::Global;
 
 const DELETE: u8 = 0x7F;

@@ -2,7 +2,7 @@
 use Rattle.std.specs.Prelude.{◌≡◌, ℤ, nat_lt, cond, List, [], ◌∷◌, ◌++◌, length}
 use Rattle.mgs_journal.specs.Acts.{Act, Put, Tell}
 use Rattle.mgs_journal.specs.declared.Told.{Told}
-use Rattle.mgs_ledger.specs.declared.gathering.Gathered.{Gathered}
+use Rattle.mgs_ledger.specs.declared.batch.Gathered.{Gathered}
 
 -- what is left of what is gathered once there is room for one more: all is committed where 256 are gathered
 abbrev pub made_room : List Gathered → List Gathered

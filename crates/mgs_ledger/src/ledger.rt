@@ -7,12 +7,12 @@ ghost use Rattle.mgs_ledger.specs.Keeping.{IsAdded, IsRemoved, IsSet};
 ghost use Rattle.mgs_ledger.specs.Reading.{AreResumed};
 ghost use Rattle.mgs_ledger.specs.Snapshots.{IsTextPut};
 
-use crate::fault::LedgerFault;
+use crate::ledger_fault::LedgerFault;
 use crate::log::Log;
-use crate::reading::read_values;
 use crate::snapshot::{SnapshotValue, snapshot_at, snapshot_in};
+use crate::stored_rights::read_values;
+use crate::stored_texts::read_snapshots;
 use crate::taken::{free, has_name, read_taken};
-use crate::texts::read_snapshots;
 use crate::value::{RightsValue, lent, lent_at, value_of};
 use mgs_buffers::Rights;
 use mgs_journal::{Journal, JournalFault, Snapshot, Told};

@@ -5,22 +5,22 @@
 //! writer once it is committed. [`audit`] prints the lines of all events again. A text is kept whole, in the place of the one before.
 #![tactic(auto)]
 
-mod events;
-mod fault;
-mod gathering;
+mod batch;
+mod event_line;
+mod event_lines;
 mod ledger;
-mod line;
+mod ledger_fault;
 mod log;
-mod reading;
-mod same;
+mod rights_equality;
+mod rights_spelling;
 mod snapshot;
-mod spelling;
+mod stored_rights;
+mod stored_texts;
 mod tables;
 mod taken;
-mod texts;
 mod value;
 
-pub use events::{AuditFault, Filter, audit};
-pub use fault::LedgerFault;
+pub use event_lines::{AuditFault, Filter, audit};
 pub use ledger::Ledger;
+pub use ledger_fault::LedgerFault;
 pub use log::GATHER_LIMIT;

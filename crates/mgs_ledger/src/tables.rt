@@ -8,8 +8,8 @@ ghost use Rattle.mgs_tables.specs.Texts.{insert_buffer, update_buffer, delete_bu
 ghost use Rattle.mgs_tables.specs.Rows.{event_values};
 ghost use Rattle.mgs_ledger.specs.Spelling.{group_text, values_of};
 
-use crate::fault::LedgerFault;
-use crate::spelling::{entry_lines, group_text, name_text};
+use crate::ledger_fault::LedgerFault;
+use crate::rights_spelling::{entry_lines, group_text, name_text};
 use mgs_buffers::Rights;
 use mgs_model::{Name, Owners};
 use mgs_tables::{EventRow, RightsRow, add_buffer, drop_buffer, set_buffer};

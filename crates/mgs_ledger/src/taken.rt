@@ -2,7 +2,7 @@
 ghost use Rattle.std.specs.Prelude.{◌≡◌};
 ghost use Rattle.mgs_model.specs.Access.{is_among};
 
-use crate::fault::LedgerFault;
+use crate::ledger_fault::LedgerFault;
 use mgs_model::Name;
 use mgs_tables::{Event, read_events};
 use sqlite::{Alter, Connection};

@@ -9,21 +9,21 @@ ghost use Rattle.mgs_model.specs.Cells.{glyph};
 ghost use Rattle.mgs_model.specs.Lines.{line_of, line_start, line_end, column, settled_top};
 
 mod columns;
-mod filling;
+mod fill_lines;
 mod kills;
 mod paragraphs;
 mod vertical;
-mod whites;
+mod white_space;
 mod words;
 
 pub use columns::column_from;
-pub use filling::{paragraph_end, paragraph_start};
+pub use fill_lines::{paragraph_end, paragraph_start};
 pub use kills::kill_line_end;
 use mgs_model::own_columns;
 use mgs_text::Text;
 pub use paragraphs::{backward_paragraph, forward_paragraph};
 pub use vertical::{column_place, indent_end, is_first_line, is_last_line, lines_down, lines_up};
-pub use whites::{blanks_end, blanks_start, is_blank_at, white_end, white_start};
+pub use white_space::{blanks_end, blanks_start, is_blank_at, white_end, white_start};
 pub use words::{backward_word, forward_word};
 
 /// Where the line of a position starts: after the line feed before it, or at the text's start.

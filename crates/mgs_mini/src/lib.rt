@@ -14,13 +14,13 @@ ghost use Rattle.mgs_mini.specs.Typing.{IsCompletion, IsFirst, IsPromptTurn, IsT
 ghost use Rattle.mgs_mini.specs.declared.Waiting.TheVariants.{NoKey};
 ghost use Rattle.mgs_mini.specs.declared.Step.TheVariants.{Answered, Unbound};
 
-mod completing;
-mod recording;
+mod common_start;
+mod macro_bytes;
 
 use arrayvec::ArrayVec;
-pub use completing::{completion, narrowed};
+pub use common_start::{completion, narrowed};
+pub use macro_bytes::Recorder;
 use mgs_model::{Question, Sequence, TYPED_LIMIT, Wanted, read_sequence};
-pub use recording::Recorder;
 use std::marker::Model;
 
 const ESCAPE: u8 = 0x1B;

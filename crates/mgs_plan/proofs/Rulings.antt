@@ -27,8 +27,8 @@ use Rattle.mgs_plan.specs.Deciding.{IsJudged, IsOutcome, IsRuled, view_at}
 use Rattle.mgs_plan.specs.Inserting.{rights_decision}
 use Rattle.mgs_plan.specs.declared.outcome.Outcome.{Outcome}
 use Rattle.mgs_plan.specs.declared.outcome.Outcome.TheVariants.{Fails}
-use Rattle.mgs_plan.specs.declared.ruling.Ruling.{Ruling}
-use Rattle.mgs_plan.specs.declared.ruling.Ruling.TheVariants.{Owner, Group, Entries}
+use Rattle.mgs_plan.specs.declared.rule_change.Ruling.{Ruling}
+use Rattle.mgs_plan.specs.declared.rule_change.Ruling.TheVariants.{Owner, Group, Entries}
 use Rattle.mgs_world.specs.Worlds.{buffers_of, state_of, session_of, world_of}
 use Rattle.mgs_world.proofs.Found.{found_seen, name_kept}
 use Rattle.mgs_world.proofs.Marks.{same_is}

@@ -13,8 +13,8 @@ use Rattle.mgs_model.specs.declared.session.Command.{Command}
 use Rattle.mgs_model.specs.declared.session.Command.TheVariants as commands
 use Rattle.mgs_buffers.specs.MarkedBuffer.{MarkedBuffer, marked_at}
 use Rattle.mgs_plan.specs.Inserting.{rights_decision}
-use Rattle.mgs_plan.specs.declared.ruling.Ruling.{Ruling}
-use Rattle.mgs_plan.specs.declared.ruling.Ruling.TheVariants.{Owner, Group, Entries}
+use Rattle.mgs_plan.specs.declared.rule_change.Ruling.{Ruling}
+use Rattle.mgs_plan.specs.declared.rule_change.Ruling.TheVariants.{Owner, Group, Entries}
 
 abbrev pub command_of : Ruling → Command
 command_of Owner = commands.SetOwner

@@ -6,10 +6,10 @@ ghost use Rattle.mgs_session.specs.Sessions.{window_marks_of};
 ghost use Rattle.mgs_plan.specs.Actions.{AreMarks};
 ghost use Rattle.mgs_plan.specs.Deciding.{CanPerform, IsPlanned};
 
-use crate::inserting::plan_insertion;
-use crate::killing::plan_kill;
+use crate::insertion::plan_insertion;
+use crate::kill::plan_kill;
 use crate::outcome::Outcome;
-use crate::switching::plan_switch;
+use crate::switch::plan_switch;
 use mgs_buffers::Buffers;
 use mgs_marks::Marked;
 use mgs_model::ByName;

@@ -4,7 +4,7 @@ ghost use Rattle.mgs_model.specs.Outcome.{Run};
 ghost use Rattle.mgs_model.specs.declared.session.Command.TheVariants.{ListEntries};
 ghost use Rattle.mgs_plan.specs.Deciding.{CanPerform, IsPlanned};
 
-use crate::judging::judged;
+use crate::judgement::judged;
 use crate::outcome::Outcome;
 use crate::subject::subject_in;
 use mgs_buffers::Buffers;

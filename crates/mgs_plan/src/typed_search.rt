@@ -10,7 +10,7 @@ ghost use Rattle.mgs_world.specs.Worlds.{idle, state_of};
 use crate::action::Action;
 use crate::actor::Actor;
 use crate::outcome::Outcome;
-use crate::planning::denial;
+use crate::text_command::denial;
 use mgs_buffers::{Buffers, Found};
 use mgs_edit::{Finish, Goes};
 use mgs_marks::Marked;

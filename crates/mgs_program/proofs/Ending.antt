@@ -1,8 +1,8 @@
 -- How the program ends.
 use Rattle.std.proofs.Common.{ℕ, List, Option}
 use Rattle.std.specs.Prelude.{◌≢◌}
-use Rattle.mgs_command.specs.declared.preparing.Work.{Work}
-use Rattle.mgs_command.specs.declared.preparing.Work.TheVariants.{Replay, Serve}
+use Rattle.mgs_command.specs.declared.preparation.Work.{Work}
+use Rattle.mgs_command.specs.declared.preparation.Work.TheVariants.{Replay, Serve}
 use Rattle.mgs_program.specs.Endings.{EndsBy, EndsWell}
 
 -- what was done ends well only as a replay

@@ -8,7 +8,7 @@ use Rattle.mgs_config.specs.Configured.{Config}
 use Rattle.mgs_written.specs.Steps.{Step}
 use Rattle.mgs_disk.specs.Places.{AreFound}
 use Rattle.mgs_disk.specs.Saving.{places_in, rows_in, steps_of}
-use Rattle.mgs_disk.specs.declared.files.FileStore.{FileStore}
+use Rattle.mgs_disk.specs.declared.file_store.FileStore.{FileStore}
 use Rattle.mgs_server.specs.Listening.{EngineListening, at_first, first_world}
 use Rattle.mgs_program.specs.Serves.{Serves}
 

@@ -1,7 +1,7 @@
 -- How the program ends.
 use Rattle.std.specs.Prelude.{◌≡◌, ◌≢◌, ℕ, List, Option}
-use Rattle.mgs_command.specs.declared.preparing.Work.{Work}
-use Rattle.mgs_command.specs.declared.preparing.Work.TheVariants.{Replay, Serve}
+use Rattle.mgs_command.specs.declared.preparation.Work.{Work}
+use Rattle.mgs_command.specs.declared.preparation.Work.TheVariants.{Replay, Serve}
 use Rattle.mgs_program.specs.Replays.{Replays}
 
 -- a replay ends by its status, and serving never well

@@ -1,6 +1,6 @@
 -- How the program ends by a script that it replays.
 use Rattle.std.specs.Prelude.{◌≡◌, ℕ, ◌+◌, List, Option, Result, Ok, Err, IfSome, codes}
-use Rattle.mgs_command.specs.declared.preparing.TheConstants.{DONE, FAILED}
+use Rattle.mgs_command.specs.declared.preparation.TheConstants.{DONE, FAILED}
 use Rattle.mgs_model.specs.declared.limits.TheConstants.{SCRIPT_LIMIT}
 use Rattle.mgs_replay.specs.Faults.{IsCounted}
 use Rattle.mgs_replay.specs.Reads.{TakesAtMost, LeavesUnread, KeepsLimit}

@@ -2,13 +2,13 @@
 use Rattle.std.specs.Prelude.{◌≡◌, ◌≢◌, ℕ, List, [], Option}
 use Rattle.mgs_model.specs.Events.{Saved}
 use Rattle.mgs_store.specs.Stores.{store_told}
-use Rattle.mgs_command.specs.declared.preparing.TheConstants.{FAILED, NO_SOCKETS}
+use Rattle.mgs_command.specs.declared.preparation.TheConstants.{FAILED, NO_SOCKETS}
 use Rattle.mgs_config.specs.World.{paths_of}
 use Rattle.mgs_config.specs.Configured.{Config}
 use Rattle.mgs_written.specs.Steps.{Step}
 use Rattle.mgs_disk.specs.Places.{AreFound}
 use Rattle.mgs_disk.specs.Saving.{places_in, rows_in, steps_of}
-use Rattle.mgs_disk.specs.declared.files.FileStore.{FileStore}
+use Rattle.mgs_disk.specs.declared.file_store.FileStore.{FileStore}
 use Rattle.mgs_server.specs.Listening.{EngineListening, at_first, first_world}
 use Rattle.mgs_program.specs.declared.service.StartFault.{StartFault}
 use Rattle.mgs_program.specs.declared.service.StartFault.TheVariants.{Store, Listen}

@@ -4,9 +4,9 @@
 #![tactic(auto)]
 
 mod program;
-mod script;
+mod script_replay;
 mod service;
 
 pub use program::{run, run_over};
-pub use script::replay_script;
+pub use script_replay::replay_script;
 pub use service::{StartFault, open_server, serve, serve_config};

@@ -2,7 +2,7 @@
 ghost use Rattle.std.specs.Prelude.{◌≡◌};
 ghost use Rattle.mgs_program.specs.Endings.{EndsBy, EndsWell};
 
-use crate::script::replay_script;
+use crate::script_replay::replay_script;
 use crate::service::serve_config;
 use mgs_command::{Work, prepare};
 use std::env::Env;

@@ -14,8 +14,8 @@ use Rattle.mgs_model.specs.World.{World, Buffer, is_named, find_buffer}
 use Rattle.mgs_model.specs.declared.entry.Entry.{Entry}
 use Rattle.mgs_buffers.specs.MarkedBuffer.{marked_named, has_buffer}
 use Rattle.mgs_buffers.specs.Adding.{add_fault, are_names as add_names, AddAnswers}
-use Rattle.mgs_buffers.specs.declared.fault.AddFault.{AddFault}
-use Rattle.mgs_buffers.specs.declared.fault.AddFault.TheVariants as adds
+use Rattle.mgs_buffers.specs.declared.refusals.AddFault.{AddFault}
+use Rattle.mgs_buffers.specs.declared.refusals.AddFault.TheVariants as adds
 use Rattle.mgs_replay.specs.declared.setup.Draft.{Draft}
 use Rattle.mgs_replay.specs.Settings.{are_names, is_group, is_user, unmarked, buffer_refused, owngroup_refused, with_group_owned, entry_refused, text_refused, with_entry, with_text, empty_buffer}
 use Rattle.mgs_replay.specs.Setups.{cannot_add, Changes, PutsGroup, drafted_buffer, buffer_of, buffers_in, buffer_name, IsFit, AreNew, AreFit, OnlyShort}

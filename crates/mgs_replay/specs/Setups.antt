@@ -3,8 +3,8 @@ use Rattle.std.specs.Prelude.{◌≡◌, ℕ, ◌+◌, ◌<◌, ◌≤◌, Bool,
 use Rattle.std.specs.Option.{option_map}
 use Rattle.mgs_model.specs.Names.{same_name}
 use Rattle.mgs_buffers.specs.Adding.{are_names as add_names}
-use Rattle.mgs_buffers.specs.declared.fault.AddFault.{AddFault}
-use Rattle.mgs_buffers.specs.declared.fault.AddFault.TheVariants as adds
+use Rattle.mgs_buffers.specs.declared.refusals.AddFault.{AddFault}
+use Rattle.mgs_buffers.specs.declared.refusals.AddFault.TheVariants as adds
 use Rattle.mgs_model.specs.Access.{Directory, owners_of}
 use Rattle.mgs_model.specs.Apply.{change_first}
 use Rattle.mgs_model.specs.World.{World, Buffer, is_named, find_buffer}

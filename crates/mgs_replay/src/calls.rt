@@ -4,7 +4,7 @@ ghost use Rattle.mgs_model.specs.Events.{Close, step};
 ghost use Rattle.mgs_model.specs.declared.errors.Keyed.{Keyed};
 ghost use Rattle.mgs_model.specs.declared.errors.OpenFault.{OpenFault};
 ghost use Rattle.mgs_wire.specs.Calls as wire;
-ghost use Rattle.mgs_engine.specs.declared.ending.Cause.{Cause};
+ghost use Rattle.mgs_engine.specs.declared.session_end.Cause.{Cause};
 ghost use Rattle.mgs_engine.specs.declared.tape.Answer.TheVariants as kinds;
 ghost use Rattle.mgs_engine.specs.Does.{Does};
 ghost use Rattle.mgs_engine.specs.Serving.{pending_of};

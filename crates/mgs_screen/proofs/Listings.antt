@@ -24,7 +24,7 @@ use Rattle.mgs_grid.specs.Lists.{acl_mode}
 use Rattle.mgs_world.specs.Worlds.{buffers_of}
 use Rattle.mgs_world.proofs.Found.{found_seen, name_kept}
 use Rattle.mgs_screen.specs.Listings.{entries_to, entries_told, name_to, past_sight, row_drawn, buffer_drawn, drawn, listed}
-use Rattle.mgs_screen.specs.declared.listing.Sight.{Sight}
+use Rattle.mgs_screen.specs.declared.list_rows.Sight.{Sight}
 use Rattle.mgs_screen.proofs.Sights.{row_more, drawn_past}
 
 -- WHAT IS TOLD OF A BUFFER

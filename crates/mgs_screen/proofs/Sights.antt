@@ -9,7 +9,7 @@ use Rattle.mgs_model.specs.Draw.{rows_from}
 use Rattle.mgs_model.specs.Picture.{Picture}
 use Rattle.mgs_grid.proofs.Pictures.{length-rows_put}
 use Rattle.mgs_screen.specs.Listings.{past_sight, row_drawn, drawn}
-use Rattle.mgs_screen.specs.declared.listing.Sight.{Sight}
+use Rattle.mgs_screen.specs.declared.list_rows.Sight.{Sight}
 use Rattle.mgs_screen.proofs.Drawings.{below_rows}
 
 -- A ROW IN A LIST OF ROWS

@@ -15,7 +15,7 @@ use Rattle.mgs_buffers.specs.MarkedBuffer.{MarkedBuffer, marked_at}
 use Rattle.mgs_windows.specs.declared.RowPane.{RowPane}
 use Rattle.mgs_windows.specs.declared.RowPane.TheVariants.{NoRows, Buffers, Entries}
 use Rattle.mgs_world.specs.Worlds.{buffers_of}
-use Rattle.mgs_screen.specs.declared.listing.Sight.{Sight}
+use Rattle.mgs_screen.specs.declared.list_rows.Sight.{Sight}
 
 -- the listing, as its user sees it
 abbrev pub listing_to : Directory → List ℕ → List MarkedBuffer → ℕ → Pane

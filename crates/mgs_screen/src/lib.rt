@@ -4,14 +4,14 @@
 mod change;
 mod drawn_texts;
 mod last_row;
-mod listing;
-mod measuring;
-mod redrawing;
+mod list_rows;
+mod measure;
+mod redraw;
 mod screen;
 mod tab_stops;
 mod viewer;
 
 pub use drawn_texts::DrawnTexts;
-pub use listing::{Sight, draw_entries, draw_listing};
+pub use list_rows::{Sight, draw_entries, draw_listing};
 pub use screen::redraw_session;
 pub use viewer::Viewer;

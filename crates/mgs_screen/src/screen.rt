@@ -18,9 +18,9 @@ ghost use Rattle.mgs_screen.specs.TextsDrawn.{AreStanding, AreStandingAround, Do
 use crate::change::stop_since;
 use crate::drawn_texts::{DrawnText, DrawnTexts, ModeLine, Shown};
 use crate::last_row::redraw_last_row;
-use crate::listing::draw_rows;
-use crate::measuring::measure;
-use crate::redrawing::redraw_pane;
+use crate::list_rows::draw_rows;
+use crate::measure::measure;
+use crate::redraw::redraw_pane;
 use crate::tab_stops::TabStop;
 use crate::viewer::Viewer;
 use mgs_buffers::{Buffers, Found};

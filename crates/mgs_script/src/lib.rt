@@ -4,10 +4,10 @@
 mod cut;
 mod kind;
 mod line;
-mod reading;
+mod line_reader;
 mod text;
 mod word;
 
 pub use cut::cut_line;
 pub use line::{Line, LineFault};
-pub use reading::{read_line, typed_label};
+pub use line_reader::{read_line, typed_label};

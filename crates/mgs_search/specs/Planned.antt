@@ -9,7 +9,7 @@ use Rattle.mgs_model.specs.declared.search.SearchPlaces.{SearchPlaces}
 use Rattle.mgs_model.specs.declared.search.SearchStep.{SearchStep}
 use Rattle.mgs_model.specs.declared.session.Replacement.{Replacement}
 use Rattle.mgs_model.specs.declared.session.Seeking.TheVariants.{SearchFor, SearchOn, StartReplace, SkipMatch}
-use Rattle.mgs_search.specs.declared.replacing.MatchPlan.{MatchPlan}
+use Rattle.mgs_search.specs.declared.query_matches.MatchPlan.{MatchPlan}
 
 -- a search by a prompt: the point goes there
 abbrev pub went : Result ℕ Message → Result SearchFinish Message

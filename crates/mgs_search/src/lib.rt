@@ -7,15 +7,15 @@ ghost use Rattle.mgs_model.specs.Searching.{matches_at, first_match, last_match,
 
 mod heads;
 mod incremental;
-mod prompted;
-mod replacing;
+mod prompted_search;
+mod query_matches;
 
 use heads::{borders_of, head_of, last_tailed, next_headed, tail_of};
 pub use incremental::IncrementalSearch;
 use mgs_model::Direction;
 use mgs_text::Text;
-pub use prompted::search_for;
-pub use replacing::{MatchPlan, begin_replacing, replace_last, replace_match, skip_match};
+pub use prompted_search::search_for;
+pub use query_matches::{MatchPlan, begin_replacing, replace_last, replace_match, skip_match};
 
 // The case of ASCII letters is ignored.
 fn is_same(a: char, b: char) -> bool

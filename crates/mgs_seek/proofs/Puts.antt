@@ -10,7 +10,7 @@ use Rattle.mgs_model.specs.Text.{edited}
 use Rattle.mgs_model.specs.declared.session.Replacement.TheVariants.{ReplaceLast, ReplaceMatch}
 use Rattle.mgs_edit.specs.Reading.{top_read}
 use Rattle.mgs_search.specs.Planned.{IsReplacement, replacement_read}
-use Rattle.mgs_search.specs.declared.replacing.MatchPlan.{MatchPlan}
+use Rattle.mgs_search.specs.declared.query_matches.MatchPlan.{MatchPlan}
 use Rattle.mgs_session.specs.Replacing.{Replacing}
 use Rattle.mgs_seek.specs.Planning.{IsPlan, one_met, put_by, to_by}
 use Rattle.mgs_seek.specs.Replacing.{replacement}

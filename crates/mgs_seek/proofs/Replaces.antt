@@ -13,7 +13,7 @@ use Rattle.mgs_model.specs.declared.session.Seeking.TheVariants.{SkipMatch}
 use Rattle.mgs_buffers.specs.MarkedBuffer.{MarkedBuffer, marked_at}
 use Rattle.mgs_windows.specs.declared.WindowMarks.{WindowMarks}
 use Rattle.mgs_edit.specs.Reading.{top_read}
-use Rattle.mgs_search.specs.declared.replacing.MatchPlan.{MatchPlan}
+use Rattle.mgs_search.specs.declared.query_matches.MatchPlan.{MatchPlan}
 use Rattle.mgs_session.specs.Replacing.{Replacing}
 use Rattle.mgs_session.specs.declared.Session.{Session}
 use Rattle.mgs_session.specs.declared.search.Aim.{Aim}

@@ -33,7 +33,7 @@ use Rattle.mgs_session.specs.declared.Session.{Session}
 use Rattle.mgs_session.specs.declared.search.Aim.{Aim}
 use Rattle.mgs_session.specs.declared.search.Aim.TheVariants.{Find, Replace}
 use Rattle.mgs_session.specs.declared.search.Search.{Search}
-use Rattle.mgs_seek.specs.declared.seeking.Seeker.{Seeker}
+use Rattle.mgs_seek.specs.declared.incremental_search.Seeker.{Seeker}
 use Rattle.mgs_seek.specs.Seekers.{as_search, gone_back, origin_plan, places_at, search_stepped, seek_in, seeker_of, session_sought}
 use Rattle.mgs_world.specs.Sound.{IsSessionSound}
 use Rattle.mgs_seek.specs.Acting.{Does, IsSought, SearchFails, as_is}

@@ -21,7 +21,7 @@ use Rattle.mgs_model.specs.declared.touched.Touched.TheVariants.{In, Nowhere}
 use Rattle.mgs_buffers.specs.MarkedBuffer.{IsMark, MarkedBuffer, marked_at, marked_named}
 use Rattle.mgs_edit.specs.Reading.{top_read}
 use Rattle.mgs_search.specs.Planned.{IsReplacement}
-use Rattle.mgs_search.specs.declared.replacing.MatchPlan.{MatchPlan}
+use Rattle.mgs_search.specs.declared.query_matches.MatchPlan.{MatchPlan}
 use Rattle.mgs_session.specs.Replacing.{Replacing}
 use Rattle.mgs_session.specs.Seeking.{search_edited, session_edited}
 use Rattle.mgs_session.specs.declared.Session.{Session}

@@ -26,7 +26,7 @@ use Rattle.mgs_session.specs.declared.search.Aim.{Aim}
 use Rattle.mgs_session.specs.declared.search.Aim.TheVariants.{Find, Replace}
 use Rattle.mgs_session.specs.declared.search.Search.{Search}
 use Rattle.mgs_world.specs.Worlds.{session_id, world_of}
-use Rattle.mgs_seek.specs.declared.seeking.Seeker.{Seeker}
+use Rattle.mgs_seek.specs.declared.incremental_search.Seeker.{Seeker}
 
 -- an incremental search by itself, and as its session holds it
 abbrev pub seek_in : Search → Aim → Option Seeker

@@ -5,13 +5,13 @@
 #![tactic(auto)]
 
 mod accept;
-mod fault;
 mod peer;
 mod server;
+mod server_fault;
 mod sockets;
 mod turns;
 
-pub use fault::{ListenFault, PollFailed};
 pub use peer::BYTES_AT_ONCE;
 pub use server::{EngineServer, Server};
+pub use server_fault::{ListenFault, PollFailed};
 pub use turns::TakesTurns;

@@ -5,7 +5,7 @@ ghost use Rattle.mgs_store.specs.Stores.{store_told};
 ghost use Rattle.mgs_server.specs.Listening.{at_first, first_world};
 ghost use Rattle.mgs_server.specs.Turns.{Turns};
 
-use crate::fault::{ListenFault, PollFailed};
+use crate::server_fault::{ListenFault, PollFailed};
 use crate::sockets::Sockets;
 use mgs_buffers::Buffers;
 use mgs_config::Config;

@@ -6,8 +6,8 @@ ghost use Rattle.mgs_model.specs.declared.limits.TheConstants.{SESSION_LIMIT};
 ghost use Rattle.mgs_server.specs.Peers.{FindsKey, IsOverAt, IsUnread, WritesAt, WritesDue, WritesOpen, ReadsConn, ReadsAt, Handles, HandlesAll, ServesReady, ClosesLogins, is_login, keys_in, is_conn_of, Moved, MovedByAny, Stepped, Taken, server_with, peers_of, slots_of};
 
 use crate::accept::accept_all;
-use crate::fault::{ListenFault, PollFailed};
 use crate::peer::{Peer, Reported};
+use crate::server_fault::{ListenFault, PollFailed};
 use mgs_model::{SESSION_LIMIT, SessionId, Tickets};
 use mgs_wire::{PumpedIn, Sessions, Stream};
 use mio::event::{Event, Source};

@@ -1,6 +1,6 @@
 // What is served turn by turn.
-use crate::fault::PollFailed;
 use crate::server::Server;
+use crate::server_fault::PollFailed;
 use mgs_wire::{Served, Stream};
 use mio::net::TcpStream;
 use std::time::Clock;

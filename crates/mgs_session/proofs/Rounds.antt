@@ -4,7 +4,7 @@ use Rattle.std.proofs.Math.Dec.{eqb-suc-zero}
 use Rattle.mgs_model.specs.Acts.{without_all}
 use Rattle.mgs_model.specs.World.{Played, Replace_all, Play}
 use Rattle.mgs_session.specs.Playing.{IsNext, Playing, are_behind, are_played, rounds, todo_in}
-use Rattle.mgs_session.specs.declared.playing.Pending.TheVariants.{Replacement, FirstReplacement}
+use Rattle.mgs_session.specs.declared.player.Pending.TheVariants.{Replacement, FirstReplacement}
 
 -- no bytes are no bytes, however often
 pub no_rounds : (n : ℕ) (bytes : List ℕ) → true ≡ (length bytes == 0) → rounds n bytes ≡ []

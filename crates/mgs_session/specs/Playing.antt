@@ -1,8 +1,8 @@
 -- What a session has still to do in an event: a byte that was typed, all further replacements, and what is left of a macro that is played.
 use Rattle.std.specs.Prelude.{◌≡◌, ℕ, zero, suc, Bool, true, false, List, [], ◌∷◌, ◌++◌, drop, map, Option, None, Some, cond}
 use Rattle.mgs_model.specs.World.{Todo, Typed, Played, Replace_all, Play}
-use Rattle.mgs_session.specs.declared.playing.Pending.{Pending}
-use Rattle.mgs_session.specs.declared.playing.Pending.TheVariants as tasks
+use Rattle.mgs_session.specs.declared.player.Pending.{Pending}
+use Rattle.mgs_session.specs.declared.player.Pending.TheVariants as tasks
 
 pub record Playing : Type 0 where
   -- the byte that is handled is a macro's

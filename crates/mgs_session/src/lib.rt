@@ -2,7 +2,7 @@
 #![tactic(auto)]
 
 mod kill_buffer;
-mod playing;
+mod player;
 mod search;
 mod search_string;
 
@@ -19,7 +19,7 @@ pub use mgs_mini::Recorder;
 use mgs_model::{Kind, Message, Name, Question, SessionId};
 use mgs_search::IncrementalSearch;
 use mgs_windows::{RowPane, Window, WindowMarks, Windows};
-pub use playing::{Pending, Player};
+pub use player::{Pending, Player};
 pub use search::{Aim, Edited, Replacing, Search};
 pub use search_string::SearchString;
 use std::alloc::Global;

@@ -1,8 +1,8 @@
 //! Stores: where the text of a buffer is saved.
 #![tactic(auto)]
 
-mod refusing;
+mod refusing_store;
 mod store;
 
-pub use refusing::RefusingStore;
+pub use refusing_store::RefusingStore;
 pub use store::{Store, StoreFault};

@@ -10,8 +10,8 @@ use Rattle.sqlite.specs.Held.{Held, state}
 use Rattle.sqlite.specs.Files.{file_state, over_files, IsOpened}
 use Rattle.sqlite.specs.Recovery.{Image}
 use Rattle.sqlite.specs.Start.{FindsIn}
-use Rattle.mgs_tables.specs.declared.opening.OpenFault.{OpenFault}
-use Rattle.mgs_tables.specs.declared.opening.OpenFault.TheVariants as fault
+use Rattle.mgs_tables.specs.declared.open_file.OpenFault.{OpenFault}
+use Rattle.mgs_tables.specs.declared.open_file.OpenFault.TheVariants as fault
 use Rattle.mgs_tables.specs.Texts.{select_version, count_objects, count_tables, table_texts}
 use Rattle.mgs_tables.specs.Making.{HasMade, HasGrown}
 use Rattle.mgs_tables.specs.Reading.{ShowsNumber}

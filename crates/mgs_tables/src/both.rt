@@ -7,7 +7,7 @@ ghost use Rattle.sqlite.specs.Held.{state};
 ghost use Rattle.mgs_tables.specs.Both.{RanBoth, RanWith, Left, IsUndone, HasOtherCount, FindsNone};
 ghost use Rattle.mgs_tables.specs.Rows.{event_values};
 
-use crate::events::put_all;
+use crate::event_table::put_all;
 use crate::rows::{EventRow, Fault};
 use sqlite::{Alter, Connection, Error, ErrorCode, Transaction};
 use sqlite_value::value::ValueRef;

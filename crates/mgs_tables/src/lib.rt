@@ -6,18 +6,18 @@
 #![tactic(auto)]
 
 mod both;
-mod changes;
-mod events;
-mod making;
-mod opening;
-mod reading;
+mod contents;
+mod event_table;
+mod open_file;
+mod rights_changes;
 mod rows;
-mod texts;
+mod schema;
+mod text_table;
 
-pub use changes::{add_buffer, drop_buffer, set_buffer};
-pub use events::{newest, put_event, put_events};
-pub use making::{grow, make, version};
-pub use opening::{OpenFault, open, open_over, prepare};
-pub use reading::{read_events, read_rights};
+pub use contents::{read_events, read_rights};
+pub use event_table::{newest, put_event, put_events};
+pub use open_file::{OpenFault, open, open_over, prepare};
+pub use rights_changes::{add_buffer, drop_buffer, set_buffer};
 pub use rows::{Event, EventRow, Fault, Rights, RightsRow, Text, TextRow};
-pub use texts::{put_text, read_texts};
+pub use schema::{grow, make, version};
+pub use text_table::{put_text, read_texts};

@@ -2,7 +2,7 @@
 //! where the session was in buffers that its windows left.
 #![tactic(auto)]
 
-mod places;
+mod left_places;
 mod without_buffer;
 
 ghost use Rattle.std.specs.Prelude.{◌≡◌, ◌≢◌, ◌-◌, ◌/◌, ◌+◌, ◌<◌, ◌≤◌, [], ◌∷◌, length, slice_get, vec_capacity, Some, ◌^◌};
@@ -11,7 +11,7 @@ ghost use Rattle.std.specs.Option.{option_map};
 ghost use Rattle.mgs_windows.specs.Panes.{WindowList, IsWindowList, closer, given, grown, height_at, left_by, list_without_buffer, lower_half, mark_set, marked, one_shown, places_after, rows_set, showing, showing_rows, shown_in, shows_at, shrunk, single_window, split_at, window_removed, window_rows_shown, window_shown, window_split, windows_without};
 ghost use Rattle.mgs_windows.specs.declared.RowPane.TheVariants.{NoRows};
 
-use crate::places::put_place;
+use crate::left_places::put_place;
 use crate::without_buffer::{leave_places, leave_windows};
 use arrayvec::ArrayVec;
 use mgs_model::{MarkId, Name};

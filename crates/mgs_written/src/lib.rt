@@ -2,12 +2,12 @@
 //! the place of a file.
 #![tactic(auto)]
 
-mod opening;
-mod reading;
-mod steps;
-mod writing;
+mod file_reader;
+mod paths;
+mod save_steps;
+mod text_writer;
 
-pub use opening::{Opens, read_at, read_start_at};
-pub use reading::{read_start, read_whole};
-pub use steps::{Replaces, replace};
-pub use writing::{encoded_len, write_text};
+pub use file_reader::{read_start, read_whole};
+pub use paths::{Opens, read_at, read_start_at};
+pub use save_steps::{Replaces, replace};
+pub use text_writer::{encoded_len, write_text};

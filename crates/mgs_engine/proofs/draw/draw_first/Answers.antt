@@ -1,5 +1,5 @@
 use Rattle.std.proofs.Common.{ap, ◌∙◌}
-use Rattle.mgs_engine.specs.declared.screen.Screen.{Screen}
+use Rattle.mgs_engine.specs.declared.session_screen.Screen.{Screen}
 use Rattle.mgs_engine.specs.Screens.{shown_size}
 use Rattle.mgs_engine.proofs.Repaints.{ahead_screen, ahead_drawn}
 use Rattle.mgs_engine.proofs.draw.draw_first.Goals as goal

@@ -5,7 +5,7 @@ use Rattle.std.proofs.lemmas.Option.{slice_get_within}
 use Rattle.std.proofs.lemmas.List.Elements.{All-push}
 use Rattle.mgs_world.specs.Worlds.{IsUnique, sizes}
 use Rattle.mgs_core.specs.Kept.{Kept}
-use Rattle.mgs_engine.specs.declared.screen.Screen.{Screen}
+use Rattle.mgs_engine.specs.declared.session_screen.Screen.{Screen}
 use Rattle.mgs_engine.specs.Screens.{IsSessionScreen, IsDrawn, IsFirst, IsOnTime, shown_size}
 use Rattle.mgs_engine.proofs.Repaints.{told_known, told_size, sizes_next, sizes_whole}
 use Rattle.mgs_engine.proofs.draw.first_screens.Goals as goal

@@ -1,5 +1,5 @@
 use Rattle.std.proofs.Common.{ap, ◌∙◌}
-use Rattle.mgs_engine.specs.declared.screen.Screen.{Screen}
+use Rattle.mgs_engine.specs.declared.session_screen.Screen.{Screen}
 use Rattle.mgs_engine.proofs.Repaints.{paint_repaint}
 use Rattle.mgs_engine.proofs.draw.paint_changed.Goals as goal
 

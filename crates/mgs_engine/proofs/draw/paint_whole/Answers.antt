@@ -1,5 +1,5 @@
 use Rattle.std.proofs.Common.{ap, ◌∙◌}
-use Rattle.mgs_engine.specs.declared.screen.Screen.{Screen}
+use Rattle.mgs_engine.specs.declared.session_screen.Screen.{Screen}
 use Rattle.mgs_engine.proofs.ScreenLemmas.{paint_room}
 use Rattle.mgs_engine.proofs.Repaints.{paint_first}
 use Rattle.mgs_engine.proofs.draw.paint_whole.Goals as goal

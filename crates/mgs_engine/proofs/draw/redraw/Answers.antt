@@ -1,5 +1,5 @@
 use Rattle.std.proofs.Common.{ap, ◌∙◌}
-use Rattle.mgs_engine.specs.declared.screen.Screen.{Screen}
+use Rattle.mgs_engine.specs.declared.session_screen.Screen.{Screen}
 use Rattle.mgs_engine.specs.Screens.{shown_size}
 use Rattle.mgs_engine.proofs.Repaints.{ahead_redrawn, ahead_screen}
 use Rattle.mgs_engine.proofs.draw.redraw.Goals as goal

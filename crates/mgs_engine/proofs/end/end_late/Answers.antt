@@ -3,8 +3,8 @@ use Rattle.std.specs.Prelude.{find, All}
 use Rattle.std.specs.Option.{option_map}
 use Rattle.mgs_model.specs.Events.{Close, run}
 use Rattle.mgs_core.proofs.Ids.{none_of}
-use Rattle.mgs_engine.specs.declared.ending.Cause.TheVariants.{Slow}
-use Rattle.mgs_engine.specs.declared.screen.Screen.{Screen}
+use Rattle.mgs_engine.specs.declared.session_end.Cause.TheVariants.{Slow}
+use Rattle.mgs_engine.specs.declared.session_screen.Screen.{Screen}
 use Rattle.mgs_engine.specs.Screens.{is_late, IsOnTime}
 use Rattle.mgs_engine.specs.Served.{serving_of}
 use Rattle.mgs_engine.specs.Serving.{all_ended_by}

@@ -1,7 +1,7 @@
 use Rattle.std.proofs.Common.{◌≡◌, length, map}
 use Rattle.std.specs.Prelude.{vec_capacity}
 use Rattle.mgs_model.specs.Events.{Close, run}
-use Rattle.mgs_engine.specs.declared.ending.Cause.TheVariants.{Slow}
+use Rattle.mgs_engine.specs.declared.session_end.Cause.TheVariants.{Slow}
 use Rattle.mgs_engine.specs.Screens.{AreAmong, late_ids}
 use Rattle.mgs_engine.specs.Served.{HasSlots, IsServedInTime, serving_of}
 use Rattle.mgs_engine.specs.Serving.{all_ended_by}

@@ -1,6 +1,6 @@
 use Rattle.std.proofs.Common.{◌∷◌, sym, ap, subst, ◌∙◌}
 use Rattle.mgs_world.specs.Worlds.{IsUnique}
-use Rattle.mgs_engine.specs.declared.ending.Cause.TheVariants.{Slow}
+use Rattle.mgs_engine.specs.declared.session_end.Cause.TheVariants.{Slow}
 use Rattle.mgs_engine.specs.Screens.{late_ids, screen_id}
 use Rattle.std.specs.Prelude.{find}
 use Rattle.mgs_engine.proofs.Late.{late_goes}

@@ -1,7 +1,7 @@
 use Rattle.std.proofs.Common.{sym, ap, ◌∙◌}
 use Rattle.mgs_buffers.specs.Changing.{marked_updated}
 use Rattle.mgs_buffers.specs.Contents.{marked_of}
-use Rattle.mgs_buffers.specs.declared.changing.Update.{Update}
+use Rattle.mgs_buffers.specs.declared.user_changes.Update.{Update}
 use Rattle.mgs_buffers.proofs.buffer.Buffer.update.Goals as goal
 
 pub returns-in-Unmodify : goal.returns-in-Unmodify

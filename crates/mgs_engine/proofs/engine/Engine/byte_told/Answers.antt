@@ -9,7 +9,7 @@ use Rattle.mgs_laws.specs.Apart.{rules_in}
 use Rattle.mgs_core.specs.Kept.{Kept}
 use Rattle.mgs_core.specs.Calls.{sizes_keyed}
 use Rattle.mgs_engine.specs.Screens.{late_ids}
-use Rattle.mgs_engine.specs.declared.ending.Cause.TheVariants.{Slow}
+use Rattle.mgs_engine.specs.declared.session_end.Cause.TheVariants.{Slow}
 use Rattle.mgs_engine.specs.Handled.{Handles}
 use Rattle.mgs_engine.specs.Serving.{Serving, all_ended_by}
 use Rattle.mgs_engine.specs.Painted.{Painted}

@@ -1,8 +1,8 @@
 use Rattle.std.proofs.Common.{List, map, nat_eq, sym, ap, subst, ◌∙◌}
 use Rattle.mgs_model.specs.Apply.{remove_first}
 use Rattle.mgs_world.specs.Worlds.{IsUnique}
-use Rattle.mgs_engine.specs.declared.screen.Screen.{Screen}
-use Rattle.mgs_engine.specs.declared.ending.Cause.TheVariants.{Closed}
+use Rattle.mgs_engine.specs.declared.session_screen.Screen.{Screen}
+use Rattle.mgs_engine.specs.declared.session_end.Cause.TheVariants.{Closed}
 use Rattle.mgs_engine.specs.Queues.{queue_id}
 use Rattle.mgs_engine.specs.Screens.{queues_of}
 use Rattle.mgs_engine.specs.Serving.{Serving, ended_by, queue_ids}

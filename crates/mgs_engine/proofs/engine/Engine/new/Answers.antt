@@ -7,7 +7,7 @@ use Rattle.mgs_engine.specs.Queues.{queue_id}
 use Rattle.mgs_engine.specs.Screens.{queues_of}
 use Rattle.mgs_engine.specs.Served.{IsServed, serving_of}
 use Rattle.mgs_engine.specs.Serving.{pending_of}
-use Rattle.mgs_engine.specs.declared.screen.Screen.{Screen}
+use Rattle.mgs_engine.specs.declared.session_screen.Screen.{Screen}
 use Rattle.mgs_world.specs.declared.size.Size.{Size}
 use Rattle.mgs_engine.proofs.Screens.{ids_are}
 use Rattle.mgs_engine.proofs.Painted.{first_all}

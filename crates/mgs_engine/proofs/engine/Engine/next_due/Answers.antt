@@ -4,7 +4,7 @@ use Rattle.std.specs.Option.{option_map}
 use Rattle.mgs_world.specs.Worlds.{sizes}
 use Rattle.mgs_core.specs.Held.{AreRising}
 use Rattle.mgs_wire.specs.Calls.{IsBefore}
-use Rattle.mgs_engine.specs.declared.screen.Screen.{Screen}
+use Rattle.mgs_engine.specs.declared.session_screen.Screen.{Screen}
 use Rattle.mgs_engine.specs.Due.{is_due}
 use Rattle.mgs_engine.specs.Screens.{shown_size}
 use Rattle.mgs_engine.specs.Serving.{Serving, pending_of}

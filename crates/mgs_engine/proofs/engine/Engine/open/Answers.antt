@@ -6,7 +6,7 @@ use Rattle.mgs_world.specs.declared.size.Size.{Size}
 use Rattle.mgs_world.specs.Worlds.{sizes, find_size}
 use Rattle.mgs_core.specs.Kept.{Kept}
 use Rattle.mgs_core.proofs.Ids.{known_last}
-use Rattle.mgs_engine.specs.declared.screen.Screen.{Screen}
+use Rattle.mgs_engine.specs.declared.session_screen.Screen.{Screen}
 use Rattle.mgs_engine.specs.Queues.{Queue, queue_id}
 use Rattle.mgs_engine.specs.Screens.{queues_of}
 use Rattle.mgs_engine.specs.Serving.{Serving, pending_of, queue_ids}

@@ -1,4 +1,0 @@
-use Rattle.mgs_buffers.proofs.telling.is_shown_by.Goals as goal
-
-pub returns-clause-value : goal.returns-clause-value
-returns-clause-value g c = c.grants_by.ensures.value c.args.name.now

@@ -1,0 +1,55 @@
+use Rattle.std.proofs.Common.{◌∙◌, None, refl, arith}
+use Rattle.mgs_model.specs.declared.touched.Touched.TheVariants.{Nowhere}
+use Rattle.mgs_laws.proofs.Apart.{apart_same}
+use Rattle.mgs_world.specs.Worlds.{world_of}
+use Rattle.mgs_world.proofs.Sizes.{sizes_seen}
+use Rattle.mgs_world.proofs.Soundness.{sound_set, sizes_set}
+use Rattle.mgs_core.proofs.Acted.{byte_act_apart, byte_act_sizes}
+use Rattle.mgs_core.proofs.Judged.{touched_judged}
+use Rattle.mgs_core.proofs.Taken.{refused_in_world}
+use Rattle.mgs_core.proofs.turn.act_turn.Goals as goal
+
+pub returns-in-Ok-clause-judged : goal.returns-in-Ok-clause-judged
+returns-in-Ok-clause-judged g c =
+    let d = c.args.world.now.directory in
+    let w = world_of d c.args.world.now.buffers c.args.world.now.sessions.items None in
+    let v = world_of d c.do_byte_act.new.world.buffers c.do_byte_act.new.world.sessions.items None in
+    let id = c.requires.place.0 in
+    let t = c.in-Ok.touched in
+    rw c.forget_touched.ensures (touched_judged d t id w v c.args.judge.now (byte_act_apart t c.args.was.now.mode c.args.act w v _ _ id _ (c.in-Ok.ensures.ok id None c.requires.place.1)) c.requires.judged)
+
+pub returns-in-Ok-clause-sizes : goal.returns-in-Ok-clause-sizes
+returns-in-Ok-clause-sizes g c =
+    byte_act_sizes c.in-Ok.touched c.args.was.now.mode c.args.act c.args.world.now.directory c.args.world.now.buffers c.do_byte_act.new.world.buffers c.args.world.now.sessions.items c.do_byte_act.new.world.sessions.items c.requires.place.0 c.args.at _ _ _
+    c.requires.place.1 c.requires.within c.do_byte_act.ensures.count (c.in-Ok.ensures.ok c.requires.place.0 None c.requires.place.1)
+
+pub returns-in-Ok-clause-touched : goal.returns-in-Ok-clause-touched
+returns-in-Ok-clause-touched g c id place next =
+    byte_act_apart c.in-Ok.touched c.args.was.now.mode c.args.act (world_of c.args.world.now.directory c.args.world.now.buffers c.args.world.now.sessions.items next)
+    (world_of c.args.world.now.directory c.do_byte_act.new.world.buffers c.do_byte_act.new.world.sessions.items next) _ _ id _ (c.in-Ok.ensures.ok id next place)
+
+pub returns-in-Err-clause-judged : goal.returns-in-Err-clause-judged
+returns-in-Err-clause-judged g c =
+    let d = c.args.world.now.directory in
+    let w = world_of d c.args.world.now.buffers c.args.world.now.sessions.items None in
+    let v = world_of d c.do_byte_act.new.world.buffers c.do_byte_act.new.world.sessions.items None in
+    touched_judged d Nowhere c.requires.place.0 w v c.args.judge.now (rw (c.in-Err.ensures.err None) (apart_same Nowhere c.requires.place.0 w)) c.requires.judged
+
+pub returns-in-Err-clause-sound : goal.returns-in-Err-clause-sound
+returns-in-Err-clause-sound g c =
+    rw c.refuse.ensures (sound_set c.do_byte_act.new.world.buffers c.do_byte_act.new.world.sessions.items c.args.at c.index_mut.result.now _ c.index_mut.ensures.value (λ n i. refl) c.do_byte_act.ensures.sound)
+
+pub returns-in-Err-clause-sizes : goal.returns-in-Err-clause-sizes
+returns-in-Err-clause-sizes g c =
+    let ys = c.do_byte_act.new.world.sessions.items in
+    rw c.refuse.ensures (sizes_set ys c.args.at c.index_mut.result.now _ c.index_mut.ensures.value refl)
+    ∙ sizes_seen c.args.world.now.directory c.args.world.now.buffers c.do_byte_act.new.world.buffers c.args.world.now.sessions.items ys None (c.in-Err.ensures.err None)
+
+pub returns-in-Err-clause-err : goal.returns-in-Err-clause-err
+returns-in-Err-clause-err g c = record {
+  wants = c.in-Err.ensures.wants;
+  told = λ x next is.
+      refused_in_world c.args.world.now.directory c.args.world.now.buffers c.do_byte_act.new.world.buffers c.args.world.now.sessions.items c.do_byte_act.new.world.sessions.items next c.args.at x c.index_mut.result.now c.refuse.new.session c.args.was.now
+      (omega (arith, c.requires.within, c.do_byte_act.ensures.count)) is c.index_mut.ensures.value c.refuse.ensures (c.in-Err.ensures.err next);
+  may = c.in-Err.ensures.may;
+}

@@ -1,0 +1,12 @@
+use Rattle.std.proofs.Common.{◌≡◌, ◌-◌, ◌≤◌, length, take}
+use Rattle.mgs_ledger.proofs.rights_equality.are_same_entries.Given as goal
+
+-- up to there both are alike
+abbrev pub invariant-loop-i : goal.invariant-loop-i
+invariant-loop-i l = record {
+  within : l.i ≤ length l.a;
+  alike : take l.i l.a ≡ take l.i l.b;
+}
+
+abbrev pub decreases-loop-i : goal.decreases-loop-i
+decreases-loop-i l = length l.a - l.i

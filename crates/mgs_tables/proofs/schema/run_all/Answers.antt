@@ -1,0 +1,46 @@
+use Rattle.std.proofs.Common.{◌≡◌, sym, subst, refl, arith, rules}
+use Rattle.sqlite.specs.State.{HasCleanDisk, Survives}
+use Rattle.sqlite.specs.Held.{state}
+use Rattle.mgs_tables.specs.Both.{Left}
+use Rattle.mgs_tables.specs.Making.{HasRun}
+use Rattle.mgs_tables.proofs.Transactions.{outlasts}
+use Rattle.mgs_tables.proofs.schema.run_all.Goals as goal
+
+pub returns-clause-made : goal.returns-clause-made
+returns-clause-made g c clean =
+    let old = c.args.conn.now in
+    let begun = c.transaction-tx.result.conn.now in
+    let last = c.execute_batch.new.self.conn.now in
+    let end = c.commit.new.self.0 in
+    let ran = HasRun g.S.Store c.args.statements.now old in
+    let all : HasCleanDisk (state g.S.Store last) → ran (state g.S.Store last).now =
+    λ clean. record { last = last; all = rw c.transaction-tx.ensures.begun at (c.in_ok-execute_batch.ensures.ran clean); is = refl } in
+    let same : end ≡ c.conn-2-1.given.0 = search rules in
+    let late : HasCleanDisk (state g.S.Store end) = search rules in
+    subst (λ h. ran (state g.S.Store h).committed) same (subst ran (sym (c.in_ok-commit.ensures.ok late).1.committed_is) (all (omega (arith, c.commit.ensures.survives.clean))))
+
+pub returns-clause-crash : goal.returns-clause-crash
+returns-clause-crash g c =
+    let old = c.args.conn.now in
+    let begun = c.transaction-tx.result.conn.now in
+    let last = c.execute_batch.new.self.conn.now in
+    let end = c.commit.new.self.0 in
+    let ran = HasRun g.S.Store c.args.statements.now old in
+    let all : HasCleanDisk (state g.S.Store last) → ran (state g.S.Store last).now =
+    λ clean. record { last = last; all = rw c.transaction-tx.ensures.begun at (c.in_ok-execute_batch.ensures.ran clean); is = refl } in
+    let same : end ≡ c.conn-2-1.given.0 = search rules in
+    subst (λ h. Survives (state g.S.Store old) (state g.S.Store h) (Left ran)) same
+    (outlasts g.S.Store ran old begun last end c.transaction-tx.ensures.begun all c.execute_batch.ensures.survives c.commit.ensures.survives)
+
+pub returns-in_err-commit-clause-crash : goal.returns-in_err-commit-clause-crash
+returns-in_err-commit-clause-crash g c =
+    let old = c.args.conn.now in
+    let begun = c.transaction-tx.result.conn.now in
+    let last = c.execute_batch.new.self.conn.now in
+    let end = c.commit.new.self.0 in
+    let ran = HasRun g.S.Store c.args.statements.now old in
+    let all : HasCleanDisk (state g.S.Store last) → ran (state g.S.Store last).now =
+    λ clean. record { last = last; all = rw c.transaction-tx.ensures.begun at (c.in_ok-execute_batch.ensures.ran clean); is = refl } in
+    let same : end ≡ c.conn-2-1.given.0 = search rules in
+    subst (λ h. Survives (state g.S.Store old) (state g.S.Store h) (Left ran)) same
+    (outlasts g.S.Store ran old begun last end c.transaction-tx.ensures.begun all c.execute_batch.ensures.survives c.commit.ensures.survives)
