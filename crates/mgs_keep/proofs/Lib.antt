@@ -4,4 +4,5 @@ mod Calls
 mod Rules
 mod Running
 mod Sayings
+mod Sums
 mod Walks

@@ -1,3 +1,4 @@
 pub mod Differences
 pub mod Keeping
+pub mod Sums
 pub mod Walks

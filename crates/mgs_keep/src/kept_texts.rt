@@ -2,6 +2,7 @@
 ghost use Rattle.std.specs.Prelude.{◌≡◌, ◌++◌, false, IfOk, OnOk, string_bytes};
 ghost use Rattle.std.specs.Str.{encode_utf8_all};
 ghost use Rattle.mgs_keep.specs.Keeping.{AreKept, HasPut, OrFails};
+ghost use Rattle.mgs_keep.specs.Sums.{sum_of, summed};
 
 use crate::round::{Round, Standing, TEXT_SECONDS};
 use mgs_engine::Engine;
@@ -41,7 +42,9 @@ const NO_TEXT: u64 = 0xcbf2_9ce4_8422_2325;
 // What the sum is multiplied by for each character (Fowler, Noll and Vo's hash of 64 bits, over characters).
 const FACTOR: u64 = 0x0000_0100_0000_01b3;
 
-fn piece_sum(mut sum: u64, piece: &[char]) -> u64 {
+fn piece_sum(mut sum: u64, piece: &[char]) -> u64
+    ensures { result ≡ summed sum piece.now }
+{
     for c in piece {
         sum = (sum ^ u64::from(u32::from(*c))).wrapping_mul(FACTOR);
     }
@@ -49,7 +52,9 @@ fn piece_sum(mut sum: u64, piece: &[char]) -> u64 {
 }
 
 /// A sum of a text, by which another one is known to be another.
-pub fn text_sum<T: Marked>(text: &T) -> i64 {
+pub fn text_sum<T: Marked>(text: &T) -> i64
+    ensures { result ≡ sum_of (T.text text.now) }
+{
     let mut sum = NO_TEXT;
     let mut at = 0;
     while at < text.len() {

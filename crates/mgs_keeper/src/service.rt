@@ -1,5 +1,7 @@
 // A configuration that is served with a journal.
-ghost use Rattle.std.specs.Prelude.{◌≡◌, ◌≢◌, ◌<◌, IfErr, IfSome, length};
+ghost use Rattle.std.specs.Prelude.{◌≡◌, ◌≢◌, ◌<◌, IfErr, IfSome, get_or, is_some, length, option_copied};
+ghost use Rattle.mgs_buffers.specs.MarkedBuffer.{marked_at};
+ghost use Rattle.mgs_keeper.specs.Unsaved.{AreUnsavedWords, SaysFile, is_unsaved};
 
 use crate::events::end_open;
 use crate::folder::{is_private_folder, journal_path, make_private};
@@ -196,21 +198,31 @@ fn tell_differences<R: Eprint, J: Journal>(rt: &R, config: &Buffers<GapText>, jo
     }
 }
 
+// What is told of a text that was not saved, by the sum of its file's text as it was kept, and as it is.
+fn unsaved_words(kept: i64, now: i64) -> &'static str
+    ensures { AreUnsavedWords kept now result.now }
+{
+    if kept == now {
+        return "its text was not saved, and is the journal's";
+    }
+    "its text was not saved, and is the journal's; its file was changed since"
+}
+
 // What is told of the text that the journal keeps of its `i`-th buffer, where that is served in the place of its file's.
 fn unsaved<J: Journal>(
     journal: &J,
     config: &Buffers<GapText>,
     name: &Name,
     i: usize,
-) -> Option<&'static str> {
+) -> Option<&'static str>
+    ensures there { is_some result ≡ is_unsaved (J.taken journal.now) config.now name.now (get_or (J.texts journal.now) i None) }
+    ensures words { IfSome (option_copied result) (SaysFile (marked_at name.now config.now) (get_or (J.texts journal.now) i None)) }
+{
     let kept = journal.text(i)?;
     if !kept.modified || journal.is_taken(name) || !config.has(name) {
         return None;
     }
-    if kept.file == text_sum(config.find(name).text()) {
-        return Some("its text was not saved, and is the journal's");
-    }
-    Some("its text was not saved, and is the journal's; its file was changed since")
+    Some(unsaved_words(kept.file, text_sum(config.find(name).text())))
 }
 
 // Tells of each text that is served in the place of its file's.
