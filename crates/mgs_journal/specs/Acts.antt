@@ -12,6 +12,8 @@ pub data Act : Type 0 where
   Set : (user : Option (List ℕ)) → (place : ℕ) → (rights : Rules) → Act
   -- the buffer at a place was killed
   Remove : (user : Option (List ℕ)) → (place : ℕ) → Act
+  -- nothing is kept under a name any more, and no user took it
+  Forget : (name : List ℕ) → Act
   -- this is kept of the text of the buffer at a place
   Put : (place : ℕ) → (text : KeptText) → Act
   -- something is told of an event
@@ -29,6 +31,7 @@ abbrev pub IsChange : Option (List ℕ) → Act → Type 0
 IsChange user (Add by rights) = by ≡ user
 IsChange user (Set by place rights) = by ≡ user
 IsChange user (Remove by place) = by ≡ user
+IsChange user (Forget name) = ⊥
 IsChange user (Put place text) = ⊥
 IsChange user (Tell told) = ⊥
 IsChange user Tick = ⊥

@@ -43,9 +43,11 @@ pub enum Told {
 ///
 /// A fault leaves unknown what is kept: nothing is asked of the journal after it.
 pub trait Journal {
-    ghost use Rattle.std.specs.Prelude.{◌≡◌, ℕ, Bool, ◌<◌, ◌++◌, ◌∷◌, [], List, OnOk, OnErr, Option, None, Some, get_or, length, remove, slice_get, slice_set, string_bytes};
+    ghost use Rattle.std.specs.Prelude.{◌≡◌, ℕ, Bool, ◌<◌, ◌++◌, ◌∷◌, [], List, IfSome, OnOk, OnErr, Option, None, Some, get_or, length, remove, slice_get, slice_set, string_bytes, ◌&&◌, not};
+    ghost use Rattle.mgs_model.specs.Names.{same_name};
     ghost use Rattle.mgs_laws.specs.Apart.{Rules};
-    ghost use Rattle.mgs_journal.specs.Acts.{Act, Add, Set, Remove, Put, Tell, Tick};
+    ghost use Rattle.mgs_journal.specs.Acts.{Act, Add, Set, Remove, Forget, Put, Tell, Tick};
+    ghost use Rattle.mgs_journal.specs.Kept.{place_of, without};
     ghost use Rattle.mgs_journal.specs.Texts.{KeptText};
 
     // By what access to each buffer is decided, as it is kept, in the order of creation.
@@ -67,6 +69,11 @@ pub trait Journal {
     /// By what access to the `i`-th buffer that is kept is decided. `None` where no more than `i` are.
     fn rights(&self, i: usize) -> Option<Rights<'_>>
         ensures { result ≡ slice_get (kept self.now) i };
+
+    /// The place among what is kept of the first buffer of this name. `None` where none is kept.
+    fn place(&self, name: &Name) -> Option<usize>
+        ensures value { result ≡ place_of name.now (kept self.now) }
+        ensures within { IfSome result (λ i. i < length (kept self.now)) };
 
     /// What is kept of the text of the `i`-th buffer that is kept. `None` where none of its texts was kept yet, and where no more than `i`
     /// are kept.
@@ -102,6 +109,14 @@ pub trait Journal {
         ensures kept { OnOk result (kept self.new ≡ remove (kept self.old) i) }
         ensures texts { OnOk result (texts self.new ≡ remove (texts self.old) i) }
         ensures done { OnOk result (does self.old (Remove user i) self.new) }
+        ensures failed { OnErr result (fails self.old self.new) };
+
+    /// What is kept of the first buffer of this name goes, if one is, and the name is not taken: the next buffer of it is a configuration's.
+    fn forget(&mut self, name: &Name) -> Result<(), JournalFault>
+        ensures kept { OnOk result (kept self.new ≡ without (place_of name.now (kept self.old)) (kept self.old)) }
+        ensures texts { OnOk result (texts self.new ≡ without (place_of name.now (kept self.old)) (texts self.old)) }
+        ensures taken { OnOk result ((other : List ℕ) → taken self.new other ≡ (taken self.old other && not (same_name name.now other))) }
+        ensures done { OnOk result (does self.old (Forget name.now) self.new) }
         ensures failed { OnErr result (fails self.old self.new) };
 
     /// The `i`-th buffer has this text, of which that is kept in the place of what was: the text, whether the buffer is modified, and the sum

@@ -1,6 +1,7 @@
 // Memory that is set aside.
 ghost use Rattle.std.specs.Prelude.{◌≡◌, ◌≤◌, ◌+◌, ◌/◌, [], true, length, IfOk, if◌then◌else◌};
 ghost use Rattle.mgs_journal.specs.SetAside.{AreBlocks, IsAllSetAside};
+ghost use Rattle.mgs_journal.specs.declared.room.TheConstants.{BLOCK};
 
 use std::alloc::{AllocError, Global};
 use std::marker::Model;
@@ -44,6 +45,7 @@ fn fill(alloc: Global, blocks: &mut Vec<Vec<u8>>, wanted: usize) -> bool
     requires each { AreBlocks blocks.old.items }
     requires most { length blocks.old.items ≤ wanted }
     ensures each { AreBlocks blocks.new.items }
+    ensures kept { length blocks.old.items ≤ length blocks.new.items }
     ensures most { length blocks.new.items ≤ wanted }
     ensures all { result ≡ true → length blocks.new.items ≡ wanted }
 {
@@ -62,7 +64,7 @@ impl Room {
     ///
     /// `AllocError` where memory is refused.
     pub fn new(alloc: Global, size: usize) -> Result<Room, AllocError>
-        ensures wanted { IfOk result (λ room. room.wanted ≡ size / 262144) }
+        ensures wanted { IfOk result (λ room. room.wanted ≡ size / BLOCK) }
         ensures all { IfOk result IsAllSetAside }
     {
         let wanted = size / BLOCK;
@@ -87,6 +89,7 @@ impl Room {
     /// Sets the memory aside again, as much of it as there is. Whether all of it is.
     pub fn take_back(&mut self) -> bool
         ensures wanted { self.new.wanted ≡ self.old.wanted }
+        ensures kept { length self.old.blocks ≤ length self.new.blocks }
         ensures all { result ≡ true → IsAllSetAside self.new }
     {
         fill(self.alloc, &mut self.blocks, self.wanted)

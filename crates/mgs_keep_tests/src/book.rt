@@ -1,5 +1,6 @@
 // A journal of tests: what it is told is written down in words, and after so many calls it fails.
-ghost use Rattle.std.specs.Prelude.{◌≡◌};
+ghost use Rattle.std.specs.Prelude.{◌≡◌, ◌<◌, IfSome, length};
+ghost use Rattle.mgs_journal.specs.Kept.{place_of};
 
 use mgs_acl::List;
 use mgs_buffers::Rights;
@@ -161,6 +162,14 @@ fn cause_of(cause: Refusal) -> &'static str {
     }
 }
 
+// The place of the first row of this name.
+fn first_of(rows: &[Row], name: &Name) -> Option<usize>
+    ensures value { result ≡ place_of name.now rows.now }
+    ensures within { IfSome result (λ i. i < length rows.now) }
+{
+    rows.iter().position(|row| *name == row.name)
+}
+
 // The page of a text, lent.
 fn snapshot_of(page: &Page) -> Snapshot<'_>
     ensures { result ≡ page.now }
@@ -191,6 +200,10 @@ impl Journal for Book {
         } else {
             None
         }
+    }
+
+    fn place(&self, name: &Name) -> Option<usize> {
+        first_of(self.rows.as_slice(), name)
     }
 
     fn text(&self, i: usize) -> Option<Snapshot<'_>> {
@@ -259,6 +272,19 @@ impl Journal for Book {
             "kills",
             word_of(Some(&gone.name)),
         )
+    }
+
+    fn forget(&mut self, name: &Name) -> Result<(), JournalFault> {
+        match first_of(self.rows.as_slice(), name) {
+            Some(i) => self.remove(None, i),
+            None => note(
+                &mut self.words,
+                &mut self.left,
+                None,
+                "forgets",
+                word_of(Some(name)),
+            ),
+        }
     }
 
     fn set_text(

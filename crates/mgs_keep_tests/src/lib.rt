@@ -1,5 +1,5 @@
 //! Tests of a server whose journal keeps by what access it may be shown: what the journal is told, in its order, that nothing is shown once
-//! it failed, and what is served at a start.
+//! it failed, what is served at a start, and that memory which was lent is set aside again.
 #![tactic(auto)]
 
 #[cfg(test)]
@@ -8,5 +8,7 @@ mod book;
 mod keeping;
 #[cfg(test)]
 mod office;
+#[cfg(test)]
+mod room;
 #[cfg(test)]
 mod starting;

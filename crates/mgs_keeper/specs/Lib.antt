@@ -1,2 +1,3 @@
+pub mod Mending
 pub mod Start
 pub mod Unsaved

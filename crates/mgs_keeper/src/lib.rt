@@ -6,6 +6,7 @@ mod folder;
 mod keep_arguments;
 mod launch;
 mod program;
+mod repair;
 mod service;
 mod status;
 mod turns;

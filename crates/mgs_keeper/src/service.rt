@@ -1,5 +1,5 @@
 // A configuration that is served with a journal.
-ghost use Rattle.std.specs.Prelude.{◌≡◌, ◌≢◌, ◌<◌, IfErr, IfSome, get_or, is_some, length, option_copied};
+ghost use Rattle.std.specs.Prelude.{◌≡◌, ◌≢◌, IfErr, IfSome, get_or, is_some, option_copied};
 ghost use Rattle.mgs_buffers.specs.MarkedBuffer.{marked_at};
 ghost use Rattle.mgs_keeper.specs.Unsaved.{AreUnsavedWords, SaysFile, is_unsaved};
 
@@ -7,6 +7,7 @@ use crate::events::end_open;
 use crate::folder::{is_private_folder, journal_path, make_private};
 use crate::keep_arguments::Mending;
 use crate::launch::{StartFault, start};
+use crate::repair::mend_all;
 use crate::status::{FAILED, JOURNAL_FAILED};
 use crate::turns::serve_kept;
 use mgs_buffers::{Buffers, Rights};
@@ -14,10 +15,10 @@ use mgs_command::{NO_MEMORY, tell};
 use mgs_config::{BufferFile, Config};
 use mgs_disk::{DiskFiles, FileStore, load_config};
 use mgs_gap::GapText;
-use mgs_journal::{Journal, JournalFault, are_same};
+use mgs_journal::{Journal, are_same};
 use mgs_keep::text_sum;
 use mgs_ledger::Ledger;
-use mgs_model::{BUFFER_LIMIT, Name, Owners};
+use mgs_model::{BUFFER_LIMIT, Name};
 use mgs_store::Store;
 use mgs_tables::open;
 use sqlite::{Alter, FileFrom, FileStore as TableStore, Wary};
@@ -39,135 +40,6 @@ fn refuse<R: Eprint, E: Display + Drop>(rt: &R, cause: E) -> u8
     FAILED
 }
 
-// The place among what is kept of the buffer of this name.
-fn place_kept<J: Journal>(journal: &J, name: &[u8]) -> Option<usize>
-    ensures { IfSome result (λ i. i < length (J.kept journal.now)) }
-{
-    let mut i: usize = 0;
-    while let Some(rights) = journal.rights(i) {
-        if rights.name.as_bytes() == name {
-            return Some(i);
-        }
-        i = i.checked_add(1)?;
-    }
-    None
-}
-
-// Why what the journal keeps is not mended.
-#[derive(Drop)]
-enum MendFault<'a> {
-    // It keeps no buffer of that name.
-    NoBuffer(&'a str),
-    // It is no name.
-    NoName(&'a str),
-    // It did not take the change.
-    Journal,
-}
-
-// Gives the buffer at a place another owner.
-fn give<J: Journal>(journal: &mut J, i: usize, owner: Name) -> Result<(), JournalFault>
-    requires { i < length (J.kept journal.old) }
-{
-    let Some(rights) = journal.rights(i) else {
-        return Ok(());
-    };
-    let name = *rights.name;
-    let owners = Owners {
-        owner,
-        group: rights.owners.group,
-    };
-    let list = rights.list.copy();
-    let given = Rights {
-        name: &name,
-        owners: &owners,
-        list: &list,
-    };
-    journal.set(None, i, &given)
-}
-
-// The owner of a buffer is this user from now on.
-fn mend_owner<'a, J: Journal>(
-    journal: &mut J,
-    buffer: &'a str,
-    owner: &'a str,
-) -> Result<(), MendFault<'a>> {
-    let Some(i) = place_kept(journal, buffer.as_bytes()) else {
-        return Err(MendFault::NoBuffer(buffer));
-    };
-    match Name::read(owner) {
-        Some(name) if name.is_user_name() => match give(journal, i, name) {
-            Ok(()) => Ok(()),
-            Err(JournalFault) => Err(MendFault::Journal),
-        },
-        _ => Err(MendFault::NoName(owner)),
-    }
-}
-
-// What is kept of a buffer goes, and its name is free for the configuration.
-fn forget<'a, S: Alter + Drop, C: Clock + Drop, W: Write + Drop>(
-    ledger: &mut Ledger<S, C, W>,
-    buffer: &'a str,
-) -> Result<(), MendFault<'a>> {
-    let Some(name) = Name::read(buffer) else {
-        return Err(MendFault::NoBuffer(buffer));
-    };
-    if !ledger.is_taken(&name) && place_kept(ledger, buffer.as_bytes()).is_none() {
-        return Err(MendFault::NoBuffer(buffer));
-    }
-    match ledger.forget(&name) {
-        Ok(()) => Ok(()),
-        Err(_) => Err(MendFault::Journal),
-    }
-}
-
-// Mends what the journal keeps of one buffer.
-fn mend<'a, S: Alter + Drop, C: Clock + Drop, W: Write + Drop>(
-    ledger: &mut Ledger<S, C, W>,
-    mending: &'a Mending,
-) -> Result<(), MendFault<'a>> {
-    match mending {
-        Mending::Forget(buffer) => forget(ledger, buffer.as_str()),
-        Mending::Owner(buffer, owner) => mend_owner(ledger, buffer.as_str(), owner.as_str()),
-    }
-}
-
-// The program's status where what is kept was not mended, which is told.
-fn end_mending<R: Eprint>(rt: &R, fault: MendFault<'_>) -> u8
-    ensures { result ≢ 0 }
-{
-    match fault {
-        MendFault::NoBuffer(name) => {
-            let _ = eprintln!(rt; "buffer {name}: the journal does not have it");
-            FAILED
-        }
-        MendFault::NoName(name) => {
-            let _ = eprintln!(rt; "{name}: no name of a user");
-            FAILED
-        }
-        MendFault::Journal => {
-            tell(rt, JournalFault);
-            JOURNAL_FAILED
-        }
-    }
-}
-
-// Mends what the journal keeps: the program's status where that fails.
-fn mend_all<R: Eprint, S: Alter + Drop, C: Clock + Drop, W: Write + Drop>(
-    rt: &R,
-    ledger: &mut Ledger<S, C, W>,
-    mendings: &[Mending],
-) -> Result<(), u8>
-    ensures { IfErr result (λ status. status ≢ 0) }
-{
-    for mending in mendings {
-        match mend(ledger, mending) {
-            Ok(()) => {}
-            Err(fault) => return Err(end_mending(rt, fault)),
-        }
-    }
-    Ok(())
-}
-
 fn tell_of<R: Eprint>(rt: &R, name: &Name, what: &str) {
     if let Ok(name) = str::from_utf8(name.as_bytes()) {
         let _ = eprintln!(rt; "buffer {name}: {what}");
@@ -179,7 +51,7 @@ fn difference<J: Journal>(journal: &J, configured: &Rights<'_>) -> Option<&'stat
     if journal.is_taken(configured.name) {
         return Some("a user made or killed it, so CONFIG's is not taken");
     }
-    let at = place_kept(journal, configured.name.as_bytes())?;
+    let at = journal.place(configured.name)?;
     let kept = journal.rights(at)?;
     if are_same(configured, &kept) {
         return None;

@@ -1,8 +1,11 @@
 // The ledger.
 ghost use Rattle.std.specs.Prelude.{◌≡◌, ◌∷◌, ◌++◌, ◌<◌, [], Ok, None, Some, IfOk, IfSome, OnErr, OnOk};
-ghost use Rattle.std.specs.Prelude.{length, remove, slice_get, slice_set, string_bytes};
+ghost use Rattle.std.specs.Prelude.{ℕ, List, ◌&&◌, not, length, remove, slice_get, slice_set, string_bytes};
 ghost use Rattle.sqlite.specs.State.{HasCleanDisk};
 ghost use Rattle.sqlite.specs.Held.{state};
+ghost use Rattle.mgs_model.specs.Access.{is_among};
+ghost use Rattle.mgs_model.specs.Names.{same_name};
+ghost use Rattle.mgs_journal.specs.Kept.{place_of, without};
 ghost use Rattle.mgs_ledger.specs.Keeping.{IsAdded, IsRemoved, IsSet};
 ghost use Rattle.mgs_ledger.specs.Reading.{AreResumed};
 ghost use Rattle.mgs_ledger.specs.Snapshots.{IsTextPut};
@@ -62,21 +65,6 @@ impl<S: Alter + Drop, C: Clock + Drop, W: Write + Drop> Ledger<S, C, W> {
             texts,
             taken,
         })
-    }
-
-    /// What is kept of the buffer of this name goes, and the name is free: the next buffer of it is the configuration's. The event is a kill
-    /// by nobody.
-    ///
-    /// # Errors
-    ///
-    /// `Tables` where the tables fail, and `Short` for want of memory.
-    pub fn forget(&mut self, name: &Name) -> Result<(), LedgerFault> {
-        match place_of(self.rows.as_slice(), name) {
-            Some(i) => remove_row(&mut self.log, &mut self.rows, &mut self.texts, None, i)?,
-            None => self.log.forget(name)?,
-        }
-        free(&mut self.taken, name);
-        Ok(())
     }
 
     /// Commits what is gathered, and gives the connection back.
@@ -179,11 +167,31 @@ fn remove_row<S: Alter + Drop, C: Clock + Drop, W: Write + Drop>(
     Ok(())
 }
 
-// The place of what is kept of the buffer of this name.
-fn place_of(rows: &[RightsValue], name: &Name) -> Option<usize>
-    ensures { IfSome result (λ i. i < length rows.now) }
+// The place of the first of this name.
+fn first_of(rows: &[RightsValue], name: &Name) -> Option<usize>
+    ensures value { result ≡ place_of name.now rows.now }
+    ensures within { IfSome result (λ i. i < length rows.now) }
 {
-    rows.iter().position(|row| row.name == *name)
+    rows.iter().position(|row| *name == row.name)
+}
+
+// Has the log take out what is kept under a name, if anything is, with an event that it was killed by nobody.
+fn forget_row<S: Alter + Drop, C: Clock + Drop, W: Write + Drop>(
+    log: &mut Log<S, C, W>,
+    rows: &mut Vec<RightsValue>,
+    texts: &mut Vec<Option<SnapshotValue>>,
+    name: &Name,
+) -> Result<(), LedgerFault>
+    ensures kept { OnOk result (rows.new.items ≡ without (place_of name.now rows.old.items) rows.old.items) }
+    ensures texts { OnOk result (texts.new.items ≡ without (place_of name.now rows.old.items) texts.old.items) }
+    ensures committed { HasCleanDisk (state S.Store log.new.conn)
+        → OnOk result ((i : ℕ) → place_of name.now rows.old.items ≡ Some i
+        → (old : _) → slice_get rows.old.items i ≡ Some old → IsRemoved S.Store old log.new.conn) }
+{
+    match first_of(rows.as_slice(), name) {
+        Some(i) => remove_row(log, rows, texts, None, i),
+        None => log.forget(name),
+    }
 }
 
 // What the gate is told of a fault.
@@ -216,6 +224,10 @@ impl<S: Alter + Drop, C: Clock + Drop, W: Write + Drop> Journal for Ledger<S, C,
 
     fn rights(&self, i: usize) -> Option<Rights<'_>> {
         lent_at(self.rows.as_slice(), i)
+    }
+
+    fn place(&self, name: &Name) -> Option<usize> {
+        first_of(self.rows.as_slice(), name)
     }
 
     // The tables have the rights, and with them the event that they were made, once the call returns.
@@ -259,6 +271,21 @@ impl<S: Alter + Drop, C: Clock + Drop, W: Write + Drop> Journal for Ledger<S, C,
             user.as_ref(),
             i,
         ))
+    }
+
+    // The tables have nothing of the buffer any more, but the event that it was killed by nobody, once the call returns.
+    fn forget(&mut self, name: &Name) -> Result<(), JournalFault>
+        ensures kept { OnOk result (self.new.rows.items ≡ without (place_of name.now self.old.rows.items) self.old.rows.items) }
+        ensures texts { OnOk result (self.new.texts.items ≡ without (place_of name.now self.old.rows.items) self.old.texts.items) }
+        ensures taken { OnOk result ((other : List ℕ)
+            → is_among other self.new.taken.items ≡ (is_among other self.old.taken.items && not (same_name name.now other))) }
+        ensures committed { HasCleanDisk (state S.Store self.new.log.conn)
+            → OnOk result ((i : ℕ) → place_of name.now self.old.rows.items ≡ Some i
+            → (old : _) → slice_get self.old.rows.items i ≡ Some old → IsRemoved S.Store old self.new.log.conn) }
+    {
+        journal_answer(forget_row(&mut self.log, &mut self.rows, &mut self.texts, name))?;
+        free(&mut self.taken, name);
+        Ok(())
     }
 
     fn text(&self, i: usize) -> Option<Snapshot<'_>> {

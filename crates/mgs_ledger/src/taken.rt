@@ -1,6 +1,7 @@
 // The names that users took.
-ghost use Rattle.std.specs.Prelude.{◌≡◌};
+ghost use Rattle.std.specs.Prelude.{◌≡◌, filter, not};
 ghost use Rattle.mgs_model.specs.Access.{is_among};
+ghost use Rattle.mgs_model.specs.Names.{same_name};
 
 use crate::ledger_fault::LedgerFault;
 use mgs_model::Name;
@@ -19,10 +20,10 @@ pub(crate) fn has_name(names: &[Name], name: &Name) -> bool
 }
 
 /// Takes a name out, if it is there.
-pub(crate) fn free(names: &mut Vec<Name>, name: &Name) {
-    if let Some(at) = names.iter().position(|other| *name == *other) {
-        let _ = names.remove(at);
-    }
+pub(crate) fn free(names: &mut Vec<Name>, name: &Name)
+    ensures { names.new.items ≡ filter (λ other. not (same_name name.now other)) names.old.items }
+{
+    names.retain(|other| *name != *other);
 }
 
 // A name is taken by a user, or free again.

@@ -6,9 +6,10 @@ use Rattle.mgs_model.proofs.Blind.{is_name}
 use Rattle.mgs_laws.specs.Apart.{Rules, rules_of}
 use Rattle.mgs_buffers.specs.Judging.{rules_kept}
 use Rattle.mgs_buffers.specs.MarkedBuffer.{HasBuffer, MarkedBuffer}
+use Rattle.mgs_journal.specs.Kept.{is_of}
 use Rattle.mgs_journal.specs.Texts.{KeptText}
 use Rattle.mgs_resume.specs.Contents.{AddsConfigured, Contents, StartsWith, buffer_configured, buffer_kept, buffer_with, buffers_kept, contents_at_start}
-use Rattle.mgs_resume.specs.Joined.{has_name, is_of}
+use Rattle.mgs_resume.specs.Joined.{has_name}
 use Rattle.mgs_resume.proofs.Walks.{has_kept, longer, taken_all}
 
 -- ONE BUFFER MORE

@@ -4,7 +4,8 @@ use Rattle.std.specs.Prelude.{◌||◌, cond, drop, find, is_some, slice_get, ta
 use Rattle.mgs_laws.specs.Apart.{Rules, rules_of}
 use Rattle.mgs_buffers.specs.Judging.{rules_kept}
 use Rattle.mgs_buffers.specs.MarkedBuffer.{MarkedBuffer, has_buffer, marked_named}
-use Rattle.mgs_resume.specs.Joined.{AddsOther, has_name, is_of, with_others}
+use Rattle.mgs_journal.specs.Kept.{is_of}
+use Rattle.mgs_resume.specs.Joined.{AddsOther, has_name, with_others}
 
 module _ {A : Type 0} where
   pub taken_all : (xs : List A) (i : ℕ) → None ≡ slice_get xs i → take i xs ≡ xs

@@ -1,10 +1,7 @@
 -- By what access the buffers of a start are decided.
 use Rattle.std.specs.Prelude.{◌≡◌, ℕ, suc, drop, Bool, ◌||◌, is_some, find, cond, List, [], ◌∷◌, ◌++◌}
-use Rattle.mgs_model.specs.Names.{same_name}
 use Rattle.mgs_laws.specs.Apart.{Rules}
-
-abbrev pub is_of : List ℕ → Rules → Bool
-is_of name r = same_name name r.name
+use Rattle.mgs_journal.specs.Kept.{is_of}
 
 -- some buffer of these has the name
 abbrev pub has_name : List ℕ → List Rules → Bool
