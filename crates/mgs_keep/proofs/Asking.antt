@@ -1,27 +1,17 @@
 -- What a journal is asked for, one part after another.
-use Rattle.std.proofs.Common.{◌≡◌, ℕ, ◌+◌, ◌≤◌, Bool, true, false, List, [], ◌∷◌, ◌++◌, map, drop, length, Option, Some, None, refl, sym, ap, ◌∙◌, subst, arith, length-append}
-use Rattle.std.specs.Prelude.{IfSome, slice_get}
+use Rattle.std.proofs.Common.{◌≡◌, ℕ, Bool, true, false, List, [], ◌∷◌, ◌++◌, map, Option, refl, sym, ap, ◌∙◌, subst}
 use Rattle.mgs_journal.specs.Acts.{Act, Tell, AreChanges, AreDone, IsChange}
 use Rattle.mgs_journal.specs.declared.Told.{Told}
 use Rattle.mgs_engine.specs.Serving.{Serving}
-use Rattle.mgs_keep.specs.Keeping.{AreEnds, Asked, HasChanged, HasPut, IsEnd, IsSnapshot, OrFails, TellsEnds, WereTold, listed}
+use Rattle.mgs_keep.specs.Keeping.{Asked, HasChanged, HasPut, IsSnapshot, OrFails, WereTold}
 
 changes_then : (user : Option (List ℕ)) (xs ys : List Act) → AreChanges user xs → AreChanges user ys → AreChanges user (xs ++ ys)
 changes_then user [] ys p q = q
 changes_then user (x ∷ xs) ys p q = (p.0, changes_then user xs ys p.1 q)
 
-all_ends : (xs ys : List Told) → AreEnds xs → AreEnds ys → AreEnds (xs ++ ys)
-all_ends [] ys p q = q
-all_ends (x ∷ xs) ys p q = (p.0, all_ends xs ys p.1 q)
-
 map_then : {A B : Type 0} (f : A → B) (xs ys : List A) → map f (xs ++ ys) ≡ map f xs ++ map f ys
 map_then f [] ys = refl
 map_then f (x ∷ xs) ys = ap (λ zs. f x ∷ zs) (map_then f xs ys)
-
--- there is one less
-pub one_less : {T : Type 0} (xs : List T) (x : T) → Some x ≡ slice_get xs 0 → length (drop 1 xs) + 1 ≡ length xs
-one_less [] x e = absurd cc
-one_less (y ∷ ys) x e = omega arith
 
 module _ {J : Type 0} (does : J → Act → J → Type 0) where
   pub done_then : (xs ys : List Act) (old mid new : J) → AreDone does xs old mid → AreDone does ys mid new → AreDone does (xs ++ ys) old new
@@ -63,32 +53,9 @@ module _ {J : Type 0} (does : J → Act → J → Type 0) where
   pub told_alone : (user : Option (List ℕ)) (told : List Told) (s : Serving) (old new : J) → WereTold does told old new → Asked does user told s old new
   told_alone user told s old new q = asked_then user told s old old new new (none_changed user old old refl) q (none_put s new new refl)
 
-  -- ENDS
-  pub no_ends : (old new : J) → new ≡ old → TellsEnds does 0 old new
-  no_ends old new e = record { ends = []; each = tt; few = omega arith; done = e }
-
-  one_end : (o : Option Told) → IfSome o IsEnd → AreEnds (listed o)
-  one_end None is = tt
-  one_end (Some t) is = (is, tt)
-
-  one_long : (o : Option Told) → length (listed o) ≤ 1
-  one_long None = omega arith
-  one_long (Some t) = omega arith
-
-  pub ends_then : (n : ℕ) (o : Option Told) (old mid new : J) → IfSome o IsEnd → TellsEnds does n old mid → WereTold does (listed o) mid new → TellsEnds does (n + 1) old new
-  ends_then n o old mid new is p q =
-      let few = p.few in
-      let one = one_long o in
-      let long = length-append p.ends (listed o) in
-      record {
-        ends = p.ends ++ listed o;
-        each = all_ends p.ends (listed o) p.each (one_end o is);
-        few = omega (arith, few, one, long);
-        done = subst (λ acts. AreDone does acts old new) (sym (map_then Tell p.ends (listed o))) (done_then (map Tell p.ends) (map Tell (listed o)) old mid new p.done q);
-      }
-
-  pub fewer_ends : (n m : ℕ) (old new : J) → n ≤ m → TellsEnds does n old new → TellsEnds does m old new
-  fewer_ends n m old new less p = let few = p.few in record { ends = p.ends; each = p.each; few = omega (arith, few, less); done = p.done }
+  -- what is told, and then more
+  pub told_then : (xs ys : List Told) (old mid new : J) → WereTold does xs old mid → WereTold does ys mid new → WereTold does (xs ++ ys) old new
+  told_then xs ys old mid new p q = subst (λ acts. AreDone does acts old new) (sym (map_then Tell xs ys)) (done_then (map Tell xs) (map Tell ys) old mid new p q)
 
 -- A PART AFTER ANOTHER, unless the journal fails
 module _ {J : Type 0} (fails : J → J → Type 0) where

@@ -1,6 +1,9 @@
 mod Asking
 mod Bodies
 mod Calls
+mod Ends
+mod Noted
+mod Places
 mod Rules
 mod Running
 mod Sayings

@@ -1,6 +1,6 @@
 -- A server of whose buffers a journal keeps by what access they may be shown.
 use Rattle.std.specs.Str.{encode_utf8_all}
-use Rattle.std.specs.Prelude.{◌≡◌, ◌⊎◌, ℕ, ◌≤◌, Bool, true, false, cond, List, [], ◌∷◌, ◌++◌, map, find, length, slice_get, Option, Some, None, Ok, Err, if◌then◌else◌}
+use Rattle.std.specs.Prelude.{◌≡◌, ◌⊎◌, ℕ, Bool, true, false, cond, List, [], ◌∷◌, ◌++◌, map, find, length, slice_get, Option, Some, None, Ok, Err, if◌then◌else◌}
 use Rattle.mgs_model.specs.Names.{is_name}
 use Rattle.mgs_model.specs.World.{Buffer, Session, find_session, is_named}
 use Rattle.mgs_model.specs.declared.echo_text.Message.{Message}
@@ -17,16 +17,19 @@ use Rattle.mgs_engine.specs.Serving.{Serving, is_to_tell, pending_of}
 use Rattle.mgs_journal.specs.Acts.{Act, Put, Tell, Tick, AreChanges, AreDone}
 use Rattle.mgs_journal.specs.Texts.{KeptText}
 use Rattle.mgs_journal.specs.declared.Told.{Told}
-use Rattle.mgs_journal.specs.declared.Told.TheVariants.{Came, Refused, RefusedUnnamed, Quit, Closed, FellBehind, Denied, Saved}
+use Rattle.mgs_journal.specs.declared.Told.TheVariants.{Came, Refused, RefusedUnnamed, Denied, Saved}
+use Rattle.mgs_keep.specs.Ends.{AreNoted, ends_told, listed, noted_after, noted_left}
+use Rattle.mgs_keep.specs.declared.session_users.Noted.{Noted}
 
--- what is served, the journal, and whether it failed
+-- what is served, whose the sessions are whose end is to be told, the journal, and whether it failed
 pub record Held (J : Type 0) : Type 0 where
   pub serving : Serving
+  pub users : List Noted
   pub journal : J
   pub failed : Bool
 
-abbrev pub held : {J : Type 0} → Serving → J → Bool → Held J
-held s j failed = record { serving = s; journal = j; failed = failed }
+abbrev pub held : {J : Type 0} → Serving → List Noted → J → Bool → Held J
+held s users j failed = record { serving = s; users = users; journal = j; failed = failed }
 
 -- what is kept is by what access is decided
 abbrev pub AreKept : {J : Type 0} → (J → List Rules) → Serving → J → Type 0
@@ -45,10 +48,6 @@ abbrev pub ShowsKept : {J : Type 0} → (J → List Rules) → Held J → List �
 ShowsKept kept s bytes = (bytes ≡ []) ⊎ (AreKept kept s.serving s.journal × (s.failed ≡ false))
 
 -- WHAT IS TOLD OF A CALL
-
-abbrev pub listed : {A : Type 0} → Option A → List A
-listed None = []
-listed (Some a) = a ∷ []
 
 abbrev pub came : Option (List ℕ) → Option Told
 came None = None
@@ -138,40 +137,27 @@ pub record OrFails {J : Type 0} (fails : J → J → Type 0) (does : J → J →
   pub failed : before ≡ false → after ≡ true → (mid : J) × fails mid new
   pub stays : before ≡ true → (after ≡ true) × (new ≡ old)
 
--- A CALL: the server does it. Unless the journal failed it keeps by what access is decided from then on, and was asked for the changes that
--- are the doing of the call's user, and told of the call.
+-- A CALL: the server does it, and whose the session is that it opened is noted. Unless the journal failed it keeps by what access is
+-- decided from then on, and was asked for the changes that are the doing of the call's user, and told of the call.
 pub record Keeps {J : Type 0} (keeps : J → List Rules) (does : J → Act → J → Type 0) (fails : J → J → Type 0) (old : Held J) (call : Call) (new : Held J) : Type 0 where
   pub done : Does old.serving call new.serving
+  pub users : new.users ≡ noted_after call new.serving old.users
+  pub noted : AreNoted old.serving old.users → AreNoted new.serving new.users
   pub kept : new.failed ≡ false → AreKept keeps new.serving new.journal
   pub journal : OrFails fails (Asked does (user_by call old.serving) (told_of call new.serving) new.serving) old.failed old.journal new.failed new.journal
 
--- the end of a session
-abbrev pub IsEnd : Told → Type 0
-IsEnd (Quit user) = Unit {0}
-IsEnd (Closed user) = Unit {0}
-IsEnd (FellBehind user) = Unit {0}
-IsEnd _ = ⊥
+-- it was told of these ends, then to keep texts as they stand, and then what it gathered for long enough
+abbrev pub EndsTold : {J : Type 0} → (J → Act → J → Type 0) → List Told → Serving → J → J → Type 0
+EndsTold {J = J} does ends s old new = (told mid : J) × WereTold does ends old told × HasPut does s told mid × AreDone does (Tick ∷ []) mid new
 
-abbrev pub AreEnds : List Told → Type 0
-AreEnds [] = Unit {0}
-AreEnds (t ∷ ts) = IsEnd t × AreEnds ts
-
--- it was told of ends, of so many at most
-pub record TellsEnds {J : Type 0} (does : J → Act → J → Type 0) (count : ℕ) (old new : J) : Type 0 where
-  pub ends : List Told
-  pub each : AreEnds ends
-  pub few : length ends ≤ count
-  pub done : WereTold does ends old new
-
--- then to keep texts as they stand, and then what it gathered for long enough
-abbrev pub EndsTold : {J : Type 0} → (J → Act → J → Type 0) → ℕ → Serving → J → J → Type 0
-EndsTold {J = J} does count s old new = (told mid : J) × TellsEnds does count old told × HasPut does s told mid × AreDone does (Tick ∷ []) mid new
-
--- EACH THAT ENDED WAS TOLD: the journal of ends, of no more than there were
+-- EACH THAT ENDED WAS TOLD: the journal of each whose it was and why, where those that are open or to be told were noted
 pub record HasTold {J : Type 0} (keeps : J → List Rules) (does : J → Act → J → Type 0) (fails : J → J → Type 0) (old new : Held J) : Type 0 where
   pub served : new.serving ≡ record old.serving { ended = [] }
+  pub users : new.users ≡ noted_left old.users old.serving.ended
+  pub noted : AreNoted old.serving old.users → AreNoted new.serving new.users
+  pub each : AreNoted old.serving old.users → length (ends_told old.users old.serving.ended) ≡ length old.serving.ended
   pub kept : new.failed ≡ false → AreKept keeps new.serving new.journal
-  pub journal : OrFails fails (EndsTold does (length old.serving.ended) new.serving) old.failed old.journal new.failed new.journal
+  pub journal : OrFails fails (EndsTold does (ends_told old.users old.serving.ended) new.serving) old.failed old.journal new.failed new.journal
 
 -- what calls lead to is what the server ran
 abbrev pub HasRun : {J : Type 0} → Held J → List Call → Held J → Held J → Type 0

@@ -1,4 +1,5 @@
 pub mod Differences
+pub mod Ends
 pub mod Keeping
 pub mod Sums
 pub mod Walks

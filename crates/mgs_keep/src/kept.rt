@@ -1,6 +1,8 @@
 // A server and its journal.
-ghost use Rattle.std.specs.Prelude.{◌≡◌, ◌+◌, None, IfOk, length, false, []};
-ghost use Rattle.mgs_keep.specs.Keeping.{AreKept, HasChanged, OrFails, TellsEnds, held};
+ghost use Rattle.std.specs.Prelude.{◌≡◌, ℕ, List, None, IfOk, false, []};
+ghost use Rattle.mgs_wire.specs.Calls.{Open};
+ghost use Rattle.mgs_keep.specs.Ends.{AreNoted, ends_told, ids_due, noted_after, noted_left};
+ghost use Rattle.mgs_keep.specs.Keeping.{AreKept, HasChanged, OrFails, WereTold, held};
 
 use crate::access_changes::{keep, keep_all};
 use crate::kept_texts::{keep_next, keep_saved};
@@ -44,7 +46,7 @@ impl<T: Marked + Drop, S: Store + Drop, J: Journal + Drop> Model for Kept<T, S, 
     ghost use Rattle.std.specs.Prelude.{◌≡◌, false};
     ghost use Rattle.mgs_keep.specs.Keeping.{AreKept, held};
 
-    ghost view = { λ k. held k.engine k.journal k.failed };
+    ghost view = { λ k. held k.engine k.users k.journal k.failed };
 
     ghost invariant = { λ k. k.failed ≡ false → AreKept J.kept k.engine k.journal };
 }
@@ -60,6 +62,8 @@ impl<T: Marked + Drop, S: Store + Drop, J: Journal + Drop> Kept<T, S, J> {
         ensures serving { IfOk result (λ k. k.serving ≡ engine) }
         ensures kept { IfOk result (λ k. AreKept J.kept k.serving k.journal) }
         ensures changed { IfOk result (λ k. HasChanged J.does None journal k.journal) }
+        ensures users { IfOk result (λ k. k.users ≡ []) }
+        ensures noted { IfOk result (λ k. ids_due engine ≡ [] → AreNoted k.serving k.users) }
         ensures failed { IfOk result (λ k. k.failed ≡ false) }
     {
         let Ok(room) = Room::new(alloc, ROOM) else {
@@ -106,6 +110,8 @@ impl<T: Marked + Drop, S: Store + Drop, J: Journal + Drop> Sessions for Kept<T, 
     ghost is_ended = { is_shown_end };
 
     fn open(&mut self, user: &str, rows: usize, cols: usize) -> Result<SessionId, OpenFault> {
+        // Each open session has a screen.
+        prove!(self.engine.pending(0).len() <= usize::MAX);
         let answer = self.engine.open(user, rows, cols);
         note_opened(&mut self.users, &self.engine, answer);
         let told = opening_told(&self.engine, user, answer);
@@ -180,7 +186,9 @@ fn note_opened<T: Marked + Drop, S: Store + Drop>(
     users: &mut Users,
     engine: &Engine<T, S>,
     answer: Result<SessionId, OpenFault>,
-) {
+)
+    ensures { (user : List ℕ) (rows cols : ℕ) → users.new ≡ noted_after (Open user rows cols answer) engine.now users.old }
+{
     match answer {
         Ok(id) => users.note(id, engine.user(id)),
         Err(_) => {}
@@ -203,8 +211,9 @@ fn tell_all<T: Marked + Drop, S: Store + Drop, J: Journal>(
     failed: &mut bool,
 )
     ensures engine { engine.new ≡ record engine.old { ended = [] } }
+    ensures users { users.new ≡ noted_left users.old engine.old.ended }
     ensures kept { failed.new ≡ false → J.kept journal.new ≡ J.kept journal.old }
-    ensures journal { OrFails J.fails (TellsEnds J.does (length engine.old.ended)) failed.old journal.old failed.new journal.new }
+    ensures journal { OrFails J.fails (WereTold J.does (ends_told users.old engine.old.ended)) failed.old journal.old failed.new journal.new }
 {
     while let Some((id, cause)) = engine.ended() {
         let ended = users.take(id, cause);

@@ -2,7 +2,8 @@
 ghost use Rattle.std.specs.Prelude.{◌≡◌, ◌∷◌, [], false, ℕ};
 ghost use Rattle.mgs_model.specs.World.{find_session};
 ghost use Rattle.mgs_journal.specs.Acts.{Tick, AreDone};
-ghost use Rattle.mgs_keep.specs.Keeping.{OrFails, WereTold, came, listed, name_in_bytes, name_in_text, refused, said, said_to, told_of};
+ghost use Rattle.mgs_keep.specs.Ends.{listed};
+ghost use Rattle.mgs_keep.specs.Keeping.{OrFails, WereTold, came, name_in_bytes, name_in_text, refused, said, said_to, told_of};
 ghost use Rattle.mgs_wire.specs.Calls.{Open};
 
 use mgs_engine::Engine;

@@ -1,5 +1,5 @@
 -- A start.
-use Rattle.std.proofs.Common.{◌≡◌, ℕ, Bool, false, List, Option, ◌∙◌}
+use Rattle.std.proofs.Common.{◌≡◌, ℕ, Bool, false, List, [], Option, ap, ◌∙◌}
 use Rattle.mgs_model.specs.Access.{Directory}
 use Rattle.mgs_model.specs.Events.{Saved}
 use Rattle.mgs_laws.specs.Apart.{Rules}
@@ -11,6 +11,7 @@ use Rattle.mgs_journal.specs.Texts.{KeptText}
 use Rattle.mgs_resume.specs.Contents.{StartsWith}
 use Rattle.mgs_resume.specs.Joined.{with_others}
 use Rattle.mgs_server.specs.Listening.{at_first, first_world}
+use Rattle.mgs_keep.specs.Ends.{AreNoted, ids_due}
 use Rattle.mgs_keep.specs.Keeping.{AreKept, Held}
 use Rattle.mgs_keeper.specs.Start.{Starts}
 
@@ -20,7 +21,7 @@ pub starts : {J S : Type 0} (keeps : J → List Rules) (bodies : J → List (Opt
     (buffers : List MarkedBuffer) (e : Serving) (k : Held J)
     → rules_kept buffers ≡ with_others (taken journal) (keeps journal) (rules_kept configured)
     → StartsWith (taken journal) configured (keeps journal) (bodies journal) buffers
-    → e ≡ at_first (first_world directory buffers) (store_told failed accepted store) → k.serving ≡ e → AreKept keeps k.serving k.journal → k.failed ≡ false
+    → e ≡ at_first (first_world directory buffers) (store_told failed accepted store) → k.serving ≡ e → (ids_due e ≡ [] → AreNoted k.serving k.users) → AreKept keeps k.serving k.journal → k.failed ≡ false
     → Starts keeps bodies taken failed accepted directory configured store journal k
-starts keeps bodies taken failed accepted directory configured store journal buffers e k rules texts first serves kept sound =
-    record { buffers = buffers; rules = rules; texts = texts; serving = serves ∙ first; kept = kept; sound = sound }
+starts keeps bodies taken failed accepted directory configured store journal buffers e k rules texts first serves noted kept sound =
+    record { buffers = buffers; rules = rules; texts = texts; serving = serves ∙ first; noted = noted (ap ids_due first); kept = kept; sound = sound }

@@ -10,15 +10,17 @@ use Rattle.mgs_journal.specs.Texts.{KeptText}
 use Rattle.mgs_resume.specs.Contents.{StartsWith}
 use Rattle.mgs_resume.specs.Joined.{with_others}
 use Rattle.mgs_server.specs.Listening.{at_first, first_world}
+use Rattle.mgs_keep.specs.Ends.{AreNoted}
 use Rattle.mgs_keep.specs.Keeping.{AreKept, Held}
 
 -- The buffers are those that the journal keeps, decided by what it keeps and with the texts that it keeps, and behind them those of a
--- configuration whose names it does not have; nobody is there yet, and the journal keeps by what access each is decided.
+-- configuration whose names it does not have; nobody is there yet, nor noted, and the journal keeps by what access each is decided.
 pub record Starts {J S : Type 0} (keeps : J → List Rules) (bodies : J → List (Option KeptText)) (taken : J → List ℕ → Bool) (failed : S → ℕ)
     (accepted : S → Option (List Saved)) (directory : Directory) (configured : List MarkedBuffer) (store : S) (journal : J) (k : Held J) : Type 0 where
   pub buffers : List MarkedBuffer
   pub rules : rules_kept buffers ≡ with_others (taken journal) (keeps journal) (rules_kept configured)
   pub texts : StartsWith (taken journal) configured (keeps journal) (bodies journal) buffers
   pub serving : k.serving ≡ at_first (first_world directory buffers) (store_told failed accepted store)
+  pub noted : AreNoted k.serving k.users
   pub kept : AreKept keeps k.serving k.journal
   pub sound : k.failed ≡ false
