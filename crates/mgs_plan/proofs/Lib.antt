@@ -12,7 +12,6 @@ pub mod Decided
 pub mod Subjects
 pub mod Rulings
 pub mod Listings
-pub mod Switches
 pub mod Lines
 pub mod Stored
 pub mod Named

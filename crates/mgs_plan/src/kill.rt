@@ -26,7 +26,7 @@ fn meant<T: Marked + Drop>(
     ensures name { IfOk result (λ n. n ≡ name_meant subject typed.now) }
     ensures form { IfOk result (λ n. IsName n) }
     ensures kept { IfOk result (λ n. HasBuffer n buffers.now) }
-    ensures none { IfErr result (IsKillRefused buffers.now subject typed.now) }
+    ensures none { IfErr result (IsKillRefused buffers.now (name_meant subject typed.now)) }
 {
     if let Some(name) = buffers.name_typed(typed) {
         return Ok(name);
