@@ -100,6 +100,7 @@ pub trait Journal {
         requires { i < length (kept self.old) }
         ensures kept { OnOk result (kept self.new ≡ slice_set (kept self.old) i rights.now) }
         ensures texts { OnOk result (texts self.new ≡ texts self.old) }
+        ensures taken { OnOk result ((name : List ℕ) → taken self.new name ≡ taken self.old name) }
         ensures done { OnOk result (does self.old (Set user i rights.now) self.new) }
         ensures failed { OnErr result (fails self.old self.new) };
 

@@ -1,5 +1,6 @@
 -- WHAT A START MENDS FIRST of what the journal keeps.
-use Rattle.std.specs.Prelude.{◌≡◌, ℕ, List, [], ◌∷◌, Option, None, Some, slice_get, slice_set, string_bytes}
+use Rattle.std.specs.Prelude.{◌≡◌, ◌&&◌, ℕ, Bool, List, [], ◌∷◌, Option, None, Some, not, slice_get, slice_set, string_bytes}
+use Rattle.mgs_model.specs.Names.{same_name}
 use Rattle.mgs_laws.specs.Apart.{Rules}
 use Rattle.mgs_journal.specs.Kept.{place_of, without}
 use Rattle.mgs_journal.specs.Texts.{KeptText}
@@ -27,12 +28,18 @@ abbrev pub texts_mended : Mending → List Rules → List (Option KeptText) → 
 texts_mended (Forget buffer) kept texts = without (place_of (string_bytes buffer) kept) texts
 texts_mended (Owner buffer owner) kept texts = texts
 
+-- whether a name is taken after it
+abbrev pub taken_mended : Mending → List ℕ → Bool → Bool
+taken_mended (Forget buffer) name was = was && not (same_name (string_bytes buffer) name)
+taken_mended (Owner buffer owner) name was = was
+
 -- one is done, which leads from one state of the journal to another
-pub record IsMended {J : Type 0} (keeps : J → List Rules) (bodies : J → List (Option KeptText)) (mending : Mending) (old new : J) : Type 0 where
+pub record IsMended {J : Type 0} (keeps : J → List Rules) (bodies : J → List (Option KeptText)) (taken : J → List ℕ → Bool) (mending : Mending) (old new : J) : Type 0 where
   pub rules : keeps new ≡ rules_mended mending (keeps old)
   pub texts : bodies new ≡ texts_mended mending (keeps old) (bodies old)
+  pub names : (name : List ℕ) → taken new name ≡ taken_mended mending name (taken old name)
 
 -- one after another is
-abbrev pub AreMended : {J : Type 0} → (J → List Rules) → (J → List (Option KeptText)) → List Mending → J → J → Type 0
-AreMended keeps bodies [] old new = new ≡ old
-AreMended {J = J} keeps bodies (m ∷ ms) old new = (mid : J) × IsMended keeps bodies m old mid × AreMended keeps bodies ms mid new
+abbrev pub AreMended : {J : Type 0} → (J → List Rules) → (J → List (Option KeptText)) → (J → List ℕ → Bool) → List Mending → J → J → Type 0
+AreMended keeps bodies taken [] old new = new ≡ old
+AreMended {J = J} keeps bodies taken (m ∷ ms) old new = (mid : J) × IsMended keeps bodies taken m old mid × AreMended keeps bodies taken ms mid new

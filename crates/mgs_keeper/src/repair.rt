@@ -37,6 +37,7 @@ fn give<J: Journal>(journal: &mut J, i: usize, owner: Name) -> Result<(), Journa
     requires { i < length (J.kept journal.old) }
     ensures kept { OnOk result (J.kept journal.new ≡ given owner i (J.kept journal.old)) }
     ensures texts { OnOk result (J.texts journal.new ≡ J.texts journal.old) }
+    ensures taken { OnOk result ((name : List ℕ) → J.taken journal.new name ≡ J.taken journal.old name) }
 {
     let Some(rights) = journal.rights(i) else {
         return Ok(());
@@ -63,6 +64,7 @@ fn mend_owner<'a, J: Journal>(
 ) -> Result<(), MendFault<'a>>
     ensures kept { OnOk result (J.kept journal.new ≡ given_named buffer.now owner.now (J.kept journal.old)) }
     ensures texts { OnOk result (J.texts journal.new ≡ J.texts journal.old) }
+    ensures taken { OnOk result ((name : List ℕ) → J.taken journal.new name ≡ J.taken journal.old name) }
 {
     let Some(name) = Name::read(buffer) else {
         return Err(MendFault::NoBuffer(buffer));
@@ -94,7 +96,7 @@ fn forget<'a, J: Journal>(journal: &mut J, buffer: &'a str) -> Result<(), MendFa
 
 // Mends what the journal keeps of one buffer.
 fn mend<'a, J: Journal>(journal: &mut J, mending: &'a Mending) -> Result<(), MendFault<'a>>
-    ensures { OnOk result (IsMended J.kept J.texts mending.now journal.old journal.new) }
+    ensures { OnOk result (IsMended J.kept J.texts J.taken mending.now journal.old journal.new) }
 {
     match mending {
         Mending::Forget(buffer) => forget(journal, buffer.as_str()),
@@ -128,7 +130,7 @@ pub(crate) fn mend_all<R: Eprint, J: Journal>(
     journal: &mut J,
     mendings: &[Mending],
 ) -> Result<(), u8>
-    ensures mended { OnOk result (AreMended J.kept J.texts mendings.now journal.old journal.new) }
+    ensures mended { OnOk result (AreMended J.kept J.texts J.taken mendings.now journal.old journal.new) }
     ensures failed { IfErr result (λ status. status ≢ 0) }
 {
     for mending in mendings {

@@ -250,6 +250,7 @@ impl<S: Alter + Drop, C: Clock + Drop, W: Write + Drop> Journal for Ledger<S, C,
         requires { i < length self.old.rows.items }
         ensures kept { OnOk result (self.new.rows.items ≡ slice_set self.old.rows.items i rights.now) }
         ensures texts { self.new.texts.items ≡ self.old.texts.items }
+        ensures taken { OnOk result ((name : List ℕ) → is_among name self.new.taken.items ≡ is_among name self.old.taken.items) }
         ensures committed { HasCleanDisk (state S.Store self.new.log.conn)
             → OnOk result ((old : _) → slice_get self.old.rows.items i ≡ Some old → IsSet S.Store old rights.now self.new.log.conn) }
     {
