@@ -80,9 +80,13 @@ impl Files for Folder {
     }
 }
 
-// The configuration of a text. What it is made of tells proofs nothing.
+// The configuration of a text, over any files. What it is made of tells proofs nothing.
+fn read_over<F: Files>(alloc: Global, text: &str, files: &mut F) -> Result<Config, ConfigFault> {
+    read_config(alloc, text, files)
+}
+
 pub(crate) fn read(text: &str, files: &mut Folder) -> Result<Config, ConfigFault> {
-    read_config(files.alloc, text, files)
+    read_over(files.alloc, text, files)
 }
 
 fn named(name: &str, rt: &impl Abort) -> Name {
@@ -152,6 +156,45 @@ const OFFICE: &str =
 [[buffer]]\nname = \"Plan!\"\nowner = \"bob\"\nlist = [\"ALLOW OWNER@ r\", \"ALLOW GROUP@ r\"]\n
 [[buffer]]\nname = \"log\"\nowner = \"ann\"\ngroup = \"team\"\nlist = [\"ALLOW GROUP@ r\"]\nfile = \"log.txt\"\n";
 
+// What the document says of users and their tickets, and of groups and their members.
+fn has_people(config: &Config, rt: &impl Abort) -> bool {
+    config.directory.user("ann").is_some()
+        && config.directory.user("bob").is_some()
+        && config.directory.user("team").is_none()
+        && config.tickets.ticket(b"ann") == Some(b"t1".as_slice())
+        && config.tickets.ticket(b"bob") == Some(b"t2".as_slice())
+        && config.tickets.ticket(b"team").is_none()
+        && is_member(config, "team", "bob", rt)
+        && !is_member(config, "team", "ann", rt)
+        && config.directory.has_group(&named("ann", rt))
+        && !is_member(config, "ann", "ann", rt)
+}
+
+// What it says of texts, and of files.
+fn has_texts(alloc: Global, config: &Config, rt: &impl Abort) -> Result<bool, Fail> {
+    Ok(
+        text_of(alloc, config, "notes", rt)?.as_str() == "ab\nc"
+            && text_of(alloc, config, "Plan!", rt)?.is_empty()
+            && text_of(alloc, config, "log", rt)?.as_str() == "hi"
+            && files_of(alloc, config)?.as_str() == "log=log.txt;",
+    )
+}
+
+// What it says of access lists.
+fn has_lists(alloc: Global, config: &Config, rt: &impl Abort) -> Result<bool, Fail> {
+    let notes = list_of(alloc, config, "notes", rt)?;
+    let log = list_of(alloc, config, "log", rt)?;
+    Ok(notes.as_str() == "ALLOW OWNER@ rw;DENY group:team rw;" && log.as_str() == "ALLOW GROUP@ r;")
+}
+
+// Who may read what by it.
+fn has_readers(config: &Config, rt: &impl Abort) -> bool {
+    may_read(config, "Plan!", "bob", rt)
+        && !may_read(config, "Plan!", "ann", rt)
+        && may_read(config, "log", "bob", rt)
+        && !may_read(config, "log", "ann", rt)
+}
+
 #[test]
 fn a_document_gives_the_world_of_its_tables(rt: HostRuntime) -> Result<(), Fail> {
     let alloc = rt.alloc();
@@ -159,29 +202,11 @@ fn a_document_gives_the_world_of_its_tables(rt: HostRuntime) -> Result<(), Fail>
     let Ok(config) = read(OFFICE, &mut files) else {
         panic!(rt; "not read");
     };
-    assert!(rt; config.directory.user("ann").is_some());
-    assert!(rt; config.directory.user("bob").is_some());
-    assert!(rt; config.directory.user("team").is_none());
-    assert!(rt; config.tickets.ticket(b"ann") == Some(b"t1".as_slice()));
-    assert!(rt; config.tickets.ticket(b"bob") == Some(b"t2".as_slice()));
-    assert!(rt; config.tickets.ticket(b"team").is_none());
-    assert!(rt; is_member(&config, "team", "bob", &rt));
-    assert!(rt; !is_member(&config, "team", "ann", &rt));
-    assert!(rt; config.directory.has_group(&named("ann", &rt)));
-    assert!(rt; !is_member(&config, "ann", "ann", &rt));
     assert!(rt; config.buffers.len() == 3);
-    assert!(rt; text_of(alloc, &config, "notes", &rt)?.as_str() == "ab\nc");
-    assert!(rt;
-        list_of(alloc, &config, "notes", &rt)?.as_str() == "ALLOW OWNER@ rw;DENY group:team rw;"
-    );
-    assert!(rt; text_of(alloc, &config, "Plan!", &rt)?.is_empty());
-    assert!(rt; may_read(&config, "Plan!", "bob", &rt));
-    assert!(rt; !may_read(&config, "Plan!", "ann", &rt));
-    assert!(rt; text_of(alloc, &config, "log", &rt)?.as_str() == "hi");
-    assert!(rt; list_of(alloc, &config, "log", &rt)?.as_str() == "ALLOW GROUP@ r;");
-    assert!(rt; may_read(&config, "log", "bob", &rt));
-    assert!(rt; !may_read(&config, "log", "ann", &rt));
-    assert!(rt; files_of(alloc, &config)?.as_str() == "log=log.txt;");
+    assert!(rt; has_people(&config, &rt));
+    assert!(rt; has_texts(alloc, &config, &rt)?);
+    assert!(rt; has_lists(alloc, &config, &rt)?);
+    assert!(rt; has_readers(&config, &rt));
     assert!(rt; files.asked.as_str() == "log.txt ");
     assert!(rt; files.faults() == 0);
     Ok(())

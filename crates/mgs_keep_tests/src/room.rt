@@ -2,7 +2,7 @@
 use mgs_journal::Room;
 use std::test::Fail;
 
-// What was lent is set aside again where nobody took it, and none is set aside where less than a block is asked for.
+// What was lent is set aside again where nobody took it, however little is set aside.
 #[test]
 fn memory_that_was_lent_is_set_aside_again(rt: HostRuntime) -> Result<(), Fail> {
     for &size in &[0, 1, 16_777_216] {

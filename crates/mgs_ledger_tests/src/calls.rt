@@ -1,5 +1,6 @@
-// Calls that say nothing, so that the proof of a test does not carry the state of each.
-use crate::desk::{Desk, Dial};
+// Calls that say nothing, so that the proof of a test does not carry the state of each. They are made of any journal, since a call of the
+// ledger itself is dear to prove.
+use crate::desk::Dial;
 use mgs_acl::{List, print_entry, read_entry};
 use mgs_buffers::Rights;
 use mgs_journal::{Journal, Told};
@@ -12,7 +13,8 @@ pub(crate) fn name(text: &str) -> Result<Name, Fail> {
     Ok(Name::read(text).ok_or("no name")?)
 }
 
-fn group(text: &str) -> Result<Option<Name>, Fail> {
+// No name is written `-`.
+fn name_if(text: &str) -> Result<Option<Name>, Fail> {
     if text == "-" {
         return Ok(None);
     }
@@ -31,13 +33,13 @@ fn list(entries: &str) -> Result<List, Fail> {
 fn owners(owner: &str, owning_group: &str) -> Result<Owners, Fail> {
     Ok(Owners {
         owner: name(owner)?,
-        group: group(owning_group)?,
+        group: name_if(owning_group)?,
     })
 }
 
 /// Adds a buffer that ann made. `-` is no group, and a semicolon parts entries.
-pub(crate) fn add(
-    desk: &mut Desk<'_>,
+pub(crate) fn add<J: Journal>(
+    desk: &mut J,
     buffer: &str,
     owner: &str,
     owning_group: &str,
@@ -56,8 +58,8 @@ pub(crate) fn add(
 }
 
 /// Has ann give the first buffer these rights, and says whether the ledger took that.
-pub(crate) fn set(
-    desk: &mut Desk<'_>,
+pub(crate) fn set<J: Journal>(
+    desk: &mut J,
     buffer: &str,
     owner: &str,
     owning_group: &str,
@@ -77,18 +79,18 @@ pub(crate) fn set(
     Ok(desk.set(Some(name("ann")?), 0, &rights).is_ok())
 }
 
-/// Has nobody kill the first buffer.
-pub(crate) fn remove(desk: &mut Desk<'_>) -> Result<(), Fail> {
+/// Has a user kill the first buffer, or for `-` nobody.
+pub(crate) fn remove<J: Journal>(desk: &mut J, user: &str) -> Result<(), Fail> {
     if desk.rights(0).is_none() {
         return Err(Fail::new("no buffer"));
     }
-    desk.remove(None, 0)?;
+    desk.remove(name_if(user)?, 0)?;
     Ok(())
 }
 
 /// Keeps a text of a buffer.
-pub(crate) fn set_text(
-    desk: &mut Desk<'_>,
+pub(crate) fn set_text<J: Journal>(
+    desk: &mut J,
     alloc: Global,
     i: usize,
     body: &str,
@@ -103,8 +105,8 @@ pub(crate) fn set_text(
 }
 
 /// Keeps a text of the first buffer if one is due at that second of the clock, and says whether it was.
-pub(crate) fn text_comes(
-    desk: &mut Desk<'_>,
+pub(crate) fn text_comes<J: Journal>(
+    desk: &mut J,
     dial: &Dial,
     alloc: Global,
     second: u32,
@@ -118,7 +120,7 @@ pub(crate) fn text_comes(
 }
 
 /// What is kept of the text of a buffer: whether it was modified, the sum of its file's and the text, or `-`.
-pub(crate) fn text(alloc: Global, desk: &Desk<'_>, i: usize) -> Result<String, Fail> {
+pub(crate) fn text<J: Journal>(alloc: Global, desk: &J, i: usize) -> Result<String, Fail> {
     match desk.text(i) {
         None => Ok(String::from_str(alloc, "-")?),
         Some(text) => Ok(format!(in alloc; "{} {} {}", text.modified, text.file, text.body)?),
@@ -126,7 +128,7 @@ pub(crate) fn text(alloc: Global, desk: &Desk<'_>, i: usize) -> Result<String, F
 }
 
 /// Tells that bob came, so many times.
-pub(crate) fn come(desk: &mut Desk<'_>, times: u32) -> Result<(), Fail> {
+pub(crate) fn come<J: Journal>(desk: &mut J, times: u32) -> Result<(), Fail> {
     for _ in 0..times {
         desk.tell(Told::Came(name("bob")?))?;
     }
@@ -134,13 +136,13 @@ pub(crate) fn come(desk: &mut Desk<'_>, times: u32) -> Result<(), Fail> {
 }
 
 /// Tells this.
-pub(crate) fn tell(desk: &mut Desk<'_>, told: Told) -> Result<(), Fail> {
+pub(crate) fn tell<J: Journal>(desk: &mut J, told: Told) -> Result<(), Fail> {
     desk.tell(told)?;
     Ok(())
 }
 
 /// What is gathered for so long that it is due is kept.
-pub(crate) fn tick(desk: &mut Desk<'_>) -> Result<(), Fail> {
+pub(crate) fn tick<J: Journal>(desk: &mut J) -> Result<(), Fail> {
     desk.tick()?;
     Ok(())
 }
@@ -167,7 +169,7 @@ fn push_rights(text: &mut String, rights: &Rights<'_>) -> Result<(), AllocError>
 }
 
 /// The rights that are kept: of each buffer its name, its owner, its owning group and its entries, each with a semicolon, and then a slash.
-pub(crate) fn kept(alloc: Global, desk: &Desk<'_>) -> Result<String, Fail> {
+pub(crate) fn kept<J: Journal>(alloc: Global, desk: &J) -> Result<String, Fail> {
     let mut text = String::new(alloc);
     for i in 0..256 {
         if let Some(rights) = desk.rights(i) {
@@ -178,12 +180,12 @@ pub(crate) fn kept(alloc: Global, desk: &Desk<'_>) -> Result<String, Fail> {
 }
 
 /// Whether a user made or killed the last buffer of this name.
-pub(crate) fn is_taken(desk: &Desk<'_>, buffer: &str) -> Result<bool, Fail> {
+pub(crate) fn is_taken<J: Journal>(desk: &J, buffer: &str) -> Result<bool, Fail> {
     Ok(desk.is_taken(&name(buffer)?))
 }
 
 /// The name is free again.
-pub(crate) fn forget(desk: &mut Desk<'_>, buffer: &str) -> Result<(), Fail> {
+pub(crate) fn forget<J: Journal>(desk: &mut J, buffer: &str) -> Result<(), Fail> {
     desk.forget(&name(buffer)?)?;
     Ok(())
 }

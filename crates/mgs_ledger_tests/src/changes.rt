@@ -16,7 +16,7 @@ fn a_change_is_told_with_what_was_before(rt: HostRuntime) -> Result<(), Fail> {
         "ALLOW OWNER@ rw;DENY bob w",
     )?;
     assert!(rt; set(&mut desk, "notes", "bob", "-", "ALLOW OWNER@ r")?);
-    remove(&mut desk)?;
+    remove(&mut desk, "-")?;
     let text = all_lines(rt.alloc(), &mut desk.close()?)?;
     assert_eq!(rt;
         text.as_str(),
@@ -48,7 +48,7 @@ fn an_audit_prints_what_is_asked_for(rt: HostRuntime) -> Result<(), Fail> {
     let dial = Dial::new();
     let mut desk = begin(rt.alloc(), &dial)?;
     add(&mut desk, "notes", "ann", "-", "ALLOW OWNER@ rw")?;
-    remove(&mut desk)?;
+    remove(&mut desk, "-")?;
     dial.pass_second();
     add(&mut desk, "todo", "ann", "-", "ALLOW OWNER@ rw")?;
     let mut conn = desk.close()?;

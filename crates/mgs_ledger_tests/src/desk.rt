@@ -1,6 +1,6 @@
 // A ledger in memory, with a clock that stands still.
 use mgs_ledger::{Filter, Ledger, LedgerFault, audit};
-use sqlite::{Connection, MemStore};
+use sqlite::{Alter, Connection, MemStore};
 use std::alloc::Global;
 use std::cell::Cell;
 use std::io::{self, Write};
@@ -84,14 +84,23 @@ pub(crate) fn tables(alloc: Global) -> Result<Connection<MemStore>, Fail> {
     Ok(conn)
 }
 
+// A ledger over any store, clock and writer, since a call over those of the tests is dear to prove.
+fn resume_over<S: Alter + Drop, C: Clock + Drop, W: Write + Drop>(
+    alloc: Global,
+    conn: Connection<S>,
+    clock: C,
+    out: W,
+) -> Result<Ledger<S, C, W>, LedgerFault> {
+    Ledger::resume(conn, alloc, clock, out)
+}
+
 /// A ledger that goes on with these tables.
 pub(crate) fn resume(
     alloc: Global,
     conn: Connection<MemStore>,
     dial: &Dial,
 ) -> Result<Desk<'_>, LedgerFault> {
-    let pen = Pen { lines: &dial.lines };
-    Ledger::resume(conn, alloc, dial, pen)
+    resume_over(alloc, conn, dial, Pen { lines: &dial.lines })
 }
 
 /// A ledger that begins.

@@ -81,7 +81,7 @@ fn what_was_set_and_killed_stays_so(rt: HostRuntime) -> Result<(), Fail> {
         after.as_str(),
         "notes bob - DENY ann r;/todo ann - ALLOW OWNER@ rw;/"
     );
-    remove(&mut desk)?;
+    remove(&mut desk, "-")?;
     let after = kept_again(rt.alloc(), &dial, desk)?;
     assert_eq!(rt; after.as_str(), "todo ann - ALLOW OWNER@ rw;/");
     Ok(())

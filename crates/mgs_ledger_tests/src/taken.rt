@@ -23,7 +23,22 @@ fn a_name_is_taken_until_it_is_forgotten(rt: HostRuntime) -> Result<(), Fail> {
     let mut desk = again(rt.alloc(), &dial, desk)?;
     assert!(rt; !is_taken(&desk, "notes")?);
     add(&mut desk, "notes", "ann", "-", "ALLOW ann rw")?;
-    remove(&mut desk)?;
+    remove(&mut desk, "-")?;
+    let desk = again(rt.alloc(), &dial, desk)?;
+    assert!(rt; !is_taken(&desk, "notes")?);
+    Ok(())
+}
+
+// So is one whose buffer a user killed, of which no rights are kept.
+#[test]
+fn a_killed_name_is_taken_until_it_is_forgotten(rt: HostRuntime) -> Result<(), Fail> {
+    let dial = Dial::new();
+    let mut desk = begin(rt.alloc(), &dial)?;
+    add(&mut desk, "notes", "ann", "-", "ALLOW ann rw")?;
+    remove(&mut desk, "ann")?;
+    let mut desk = again(rt.alloc(), &dial, desk)?;
+    assert!(rt; is_taken(&desk, "notes")?);
+    forget(&mut desk, "notes")?;
     let desk = again(rt.alloc(), &dial, desk)?;
     assert!(rt; !is_taken(&desk, "notes")?);
     Ok(())

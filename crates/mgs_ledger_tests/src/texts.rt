@@ -70,7 +70,7 @@ fn a_text_goes_with_its_buffer(rt: HostRuntime) -> Result<(), Fail> {
     let mut desk = two(rt.alloc(), &dial)?;
     set_text(&mut desk, rt.alloc(), 0, "first", true, 1)?;
     set_text(&mut desk, rt.alloc(), 1, "second", false, 2)?;
-    remove(&mut desk)?;
+    remove(&mut desk, "-")?;
     assert_eq!(rt; text(rt.alloc(), &desk, 0)?.as_str(), "false 2 second");
     forget(&mut desk, "todo")?;
     add(&mut desk, "other", "ann", "-", "ALLOW OWNER@ rw")?;
