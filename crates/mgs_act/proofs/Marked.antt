@@ -11,7 +11,8 @@ use Rattle.mgs_model.specs.Outcome.{Effect, Keep_position, Keep_mark, Mark_at}
 use Rattle.mgs_model.specs.Plans as plans
 use Rattle.mgs_model.specs.Acts.{edit_of, fails, finished, is_too_large}
 use Rattle.mgs_model.specs.Apply.{apply, buffers_after, change_at, change_first, session_after, session_arranged, window_adjusted}
-use Rattle.mgs_model.specs.declared.echo_text.Message.TheVariants.{KillTooLarge}
+use Rattle.mgs_model.specs.declared.echo_text.Message.TheVariants.{Says}
+use Rattle.mgs_model.specs.declared.echo_text.Notice.TheVariants.{KillTooLarge}
 use Rattle.mgs_model.proofs.Firsts.{position_or_len-map}
 use Rattle.mgs_marks.specs.Marks.{mark_in}
 use Rattle.mgs_buffers.specs.MarkedBuffer.{HasBuffer, IsMark, MarkedBuffer, marked_at, marked_named, marked_or_none, marked_placed, marked_unmodified, with_marks}
@@ -224,7 +225,7 @@ marked_so directory ks ls xs next id at mid p h x c behind text f order room sou
     ∙ ap (λ (ss : List model.Session). change_first (has_id id) arranged (map (session_after (edit_of x.name c.a c.b c.put)) ss)) (reserved_sessions x mid ks ls xs sound kept r)
     ∙ sym (no_quit x.name c id _))
     ∙ ap (λ m. apply (world_of directory ks xs next) id (ended (record left { mark = mark_read m }) (edit_of x.name c.a c.b c.put) state)) (sym told)
-    ∙ ap (λ b. apply (world_of directory ks xs next) id (cond b (fails state KillTooLarge) (ended left (edit_of x.name c.a c.b c.put) state))) (sym small)
+    ∙ ap (λ b. apply (world_of directory ks xs next) id (cond b (fails state (Says KillTooLarge)) (ended left (edit_of x.name c.a c.b c.put) state))) (sym small)
 
 -- ANY ACTION
 

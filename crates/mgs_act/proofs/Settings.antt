@@ -1,7 +1,8 @@
 -- A setting keeps a session's marks and its size.
 use Rattle.std.proofs.Common.{◌≡◌, ℕ, List, Bool, true, false, cond, Option, None, Some, refl}
 use Rattle.std.specs.Prelude.{◌==◌, ◌||◌}
-use Rattle.mgs_model.specs.declared.echo_text.Message.TheVariants.{BadColumn, InMacro, NotInMacro}
+use Rattle.mgs_model.specs.declared.echo_text.Message.TheVariants.{Says}
+use Rattle.mgs_model.specs.declared.echo_text.Notice.TheVariants.{BadColumn, InMacro, NotInMacro}
 use Rattle.mgs_model.specs.declared.session.Kind.TheVariants.{Other}
 use Rattle.mgs_model.specs.declared.session.Setting.{Setting}
 use Rattle.mgs_model.specs.declared.session.Setting.TheVariants.{SetFillColumn, KeyboardQuit, StartMacro, EndMacro, CallMacro}
@@ -17,8 +18,8 @@ either_same f x y z one other false = other
 
 pub set_uses : (s : Setting) (n : Option ℕ) (x : Session) (m : List ℕ) (i : ℕ) → session_uses m i (session_set s n x) ≡ session_uses m i x
 set_uses SetFillColumn None x m i = refl
-set_uses SetFillColumn (Some n) x m i = either_same (session_uses m i) x (failed BadColumn x) (filling n (acted Other x)) refl refl (n == 0)
+set_uses SetFillColumn (Some n) x m i = either_same (session_uses m i) x (failed (Says BadColumn) x) (filling n (acted Other x)) refl refl (n == 0)
 set_uses KeyboardQuit n x m i = refl
-set_uses StartMacro n x m i = either_same (session_uses m i) x (failed InMacro x) (macro_started x) refl refl (x.state.recorder.recording || x.state.player.playing)
-set_uses EndMacro n x m i = either_same (session_uses m i) x (failed InMacro x) (cond x.state.recorder.recording (macro_ended x) (failed NotInMacro x)) refl (either_same (session_uses m i) x (macro_ended x) (failed NotInMacro x) refl refl x.state.recorder.recording) x.state.player.playing
+set_uses StartMacro n x m i = either_same (session_uses m i) x (failed (Says InMacro) x) (macro_started x) refl refl (x.state.recorder.recording || x.state.player.playing)
+set_uses EndMacro n x m i = either_same (session_uses m i) x (failed (Says InMacro) x) (cond x.state.recorder.recording (macro_ended x) (failed (Says NotInMacro) x)) refl (either_same (session_uses m i) x (macro_ended x) (failed (Says NotInMacro) x) refl refl x.state.recorder.recording) x.state.player.playing
 set_uses CallMacro n x m i = refl

@@ -11,7 +11,8 @@ use Rattle.mgs_model.specs.Outcome.{Effect, No_effect, Edit, Adjust, Keep_search
 use Rattle.mgs_model.specs.Plans as plans
 use Rattle.mgs_model.specs.Text.{is_edit}
 use Rattle.mgs_model.specs.World.{State}
-use Rattle.mgs_model.specs.declared.echo_text.Message.TheVariants.{KillTooLarge}
+use Rattle.mgs_model.specs.declared.echo_text.Message.TheVariants.{Says}
+use Rattle.mgs_model.specs.declared.echo_text.Notice.TheVariants.{KillTooLarge}
 use Rattle.mgs_model.specs.declared.touched.Touched.{Touched}
 use Rattle.mgs_buffers.specs.MarkedBuffer.{MarkedBuffer, marked_at}
 use Rattle.mgs_session.specs.declared.Session.{Session}
@@ -31,7 +32,7 @@ use Rattle.mgs_world.specs.Worlds.{state_at, state_of, state_or_first, session_i
 
 finished_saves_none : (state : State) (f : plans.Finish) (e : Effect) → saved_by e ≡ [] → saved_by (finished state f e).effect ≡ []
 finished_saves_none state f e none =
-    elim (is_too_large f.kill) as (λ b. saved_by (cond b (fails state KillTooLarge) (record { state = finished_state f state; kill = f.kill; arrange = Adjust f.point f.mark f.top None Keep_search; effect = e })).effect ≡ []) [ true ↦ refl | false ↦ none ]
+    elim (is_too_large f.kill) as (λ b. saved_by (cond b (fails state (Says KillTooLarge)) (record { state = finished_state f state; kill = f.kill; arrange = Adjust f.point f.mark f.top None Keep_search; effect = e })).effect ≡ []) [ true ↦ refl | false ↦ none ]
 
 edit_saves_none : (name : List ℕ) (c : plans.Change) → saved_by (edit_of name c.a c.b c.put) ≡ []
 edit_saves_none name c = elim (is_edit c.a c.b c.put) as (λ b. saved_by (cond b (Edit name c.a c.b c.put) No_effect) ≡ []) [ true ↦ refl | false ↦ refl ]

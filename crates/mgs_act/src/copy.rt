@@ -17,7 +17,7 @@ use crate::text_action::{Spot, leave};
 use mgs_buffers::{Buffers, Writer};
 use mgs_edit::{Finish, Goes};
 use mgs_marks::Marked;
-use mgs_model::{Kind, Message, Name, Short, Touched};
+use mgs_model::{Kind, Message, Name, Notice, Short, Touched};
 use mgs_plan::{edit_of_insertion, follow, insertion_mask};
 use mgs_policy::Directory;
 use mgs_session::Session;
@@ -78,7 +78,7 @@ fn leaving(place: usize) -> Finish
         top: None,
         kill: None,
         kind: Kind::Other,
-        told: Message::Silent,
+        told: Message::Says(Notice::Silent),
     }
 }
 

@@ -17,7 +17,7 @@ use crate::text_action::{Spot, perform};
 use mgs_arrange::{rearrange, show, show_entries};
 use mgs_buffers::{Buffers, SaveFault};
 use mgs_marks::Marked;
-use mgs_model::{Kind, Message, Name, NewOwner, Short, Touched};
+use mgs_model::{Kind, Message, Name, NewOwner, Notice, Short, Touched};
 use mgs_plan::{EntryPlan, Outcome, changed};
 use mgs_policy::Directory;
 use mgs_session::{Session, ask, fail, finish, set_kind};
@@ -148,7 +148,7 @@ fn save<T: Marked + Drop, S: Store>(
         }
         Err(fault) => match fault {
             SaveFault::Store => {
-                fail(&mut sessions[at], Message::SaveFailed);
+                fail(&mut sessions[at], Message::Says(Notice::SaveFailed));
                 Touched::Nowhere
             }
             // The rights were granted when it was planned, and the file was there.

@@ -21,7 +21,7 @@ use mgs_edit::{
     Change, Finish, Goes, Joins, Piece, Put, Undone, is_edit, is_undo_an_edit, put_chars,
 };
 use mgs_marks::Marked;
-use mgs_model::{Kind, MarkId, Mask, Message, Name, Right, Short, Touched};
+use mgs_model::{Kind, MarkId, Mask, Message, Name, Notice, Right, Short, Touched};
 use mgs_plan::{Action, edit_of, follow};
 use mgs_policy::Directory;
 use mgs_session::{KillBuffer, Session, fail, finish, set_kill};
@@ -315,7 +315,7 @@ fn carry_out<T: Marked + Drop>(
         }
         Action::Clears => {
             buffers.unmodify_at(directory, &session.user, &spot.marks.name, spot.at);
-            finish(session, Kind::Other, Message::Silent);
+            finish(session, Kind::Other, Message::Says(Notice::Silent));
             Ok(())
         }
     }

@@ -12,7 +12,8 @@ use Rattle.mgs_model.specs.Acts.{arranges, outcome}
 use Rattle.mgs_model.specs.Apply.{act, applied, apply, change_at, change_first, comer, outcome_in, places_left, is_search_mode, session_arranged, window_at}
 use Rattle.mgs_model.specs.declared.limits.TheConstants.{WINDOW_LIMIT}
 use Rattle.mgs_model.specs.declared.echo_text.Message.{Message}
-use Rattle.mgs_model.specs.declared.echo_text.Message.TheVariants.{OnlyOneWindow, WindowTooSmall, TooManyWindows, ImpossibleChange}
+use Rattle.mgs_model.specs.declared.echo_text.Message.TheVariants.{Says}
+use Rattle.mgs_model.specs.declared.echo_text.Notice.TheVariants.{OnlyOneWindow, WindowTooSmall, TooManyWindows, ImpossibleChange}
 use Rattle.mgs_model.specs.declared.session.Arrangement.{Arrangement}
 use Rattle.mgs_model.specs.declared.session.Arrangement.TheVariants.{DeleteWindow, DeleteOtherWindows, SplitWindow, NextWindow, PreviousWindow, EnlargeWindow, ShrinkWindow, ListBuffers}
 use Rattle.mgs_model.specs.declared.session.Command.TheVariants.{Rearrange}
@@ -67,7 +68,7 @@ delete_done can n x fresh quiet within =
     let xs = x.windows in
     let f = λ (d i h : ℕ). cond (i == heir k) (h + (d + 1)) h in
     let slots = remove (resized (f (height_at k (seen can xs))) 0 (seen can xs)) k in
-    failure_seen x can (λ m. nat_lt m 2) OnlyOneWindow (Ok (Slots slots (k - 1) Keep_search)) (Ok (window_gone k (heir k) x)) fresh quiet (λ kind. refl)
+    failure_seen x can (λ m. nat_lt m 2) (Says OnlyOneWindow) (Ok (Slots slots (k - 1) Keep_search)) (Ok (window_gone k (heir k) x)) fresh quiet (λ kind. refl)
     (λ e. slots_done x slots (k - 1) (closer k k) (window_gone k (heir k) x).windows (window_gone k (heir k) x).places fresh quiet
     (map_remove (put x.search xs (places_left 0 slots xs x.places)) (resized (f (height_at k (seen can xs))) 0 (seen can xs)) k
     ∙ ap (λ ys. remove ys k) (put_resized x.search xs (places_left 0 slots xs x.places) can (f (height_at k (seen can xs))) 0 xs (from_start xs))
@@ -90,11 +91,11 @@ split_done can n x fresh quiet within =
     let k = x.selected in
     let xs = x.windows in
     let slots = slots_but k (halves k) 0 (seen can xs) in
-    let plan : Result Arrange Message = cond (nat_le WINDOW_LIMIT (length (seen can xs))) (Err TooManyWindows) (Ok (Slots slots k Keep_search)) in
-    let known : Result Session Message = cond (nat_le WINDOW_LIMIT (length xs)) (Err TooManyWindows) (Ok (window_split x)) in
-    ap (λ h. session_arranged (arranges x.state No_effect (cond (nat_lt h 3) (Err WindowTooSmall) plan)) x) (height_seen can k xs)
-    ∙ failure_first x (nat_lt (window_at k xs).height 3) WindowTooSmall plan known fresh quiet (λ kind. refl)
-    (λ tall. failure_seen x can (λ m. nat_le WINDOW_LIMIT m) TooManyWindows (Ok (Slots slots k Keep_search)) (Ok (window_split x)) fresh quiet (λ kind. refl)
+    let plan : Result Arrange Message = cond (nat_le WINDOW_LIMIT (length (seen can xs))) (Err (Says TooManyWindows)) (Ok (Slots slots k Keep_search)) in
+    let known : Result Session Message = cond (nat_le WINDOW_LIMIT (length xs)) (Err (Says TooManyWindows)) (Ok (window_split x)) in
+    ap (λ h. session_arranged (arranges x.state No_effect (cond (nat_lt h 3) (Err (Says WindowTooSmall)) plan)) x) (height_seen can k xs)
+    ∙ failure_first x (nat_lt (window_at k xs).height 3) (Says WindowTooSmall) plan known fresh quiet (λ kind. refl)
+    (λ tall. failure_seen x can (λ m. nat_le WINDOW_LIMIT m) (Says TooManyWindows) (Ok (Slots slots k Keep_search)) (Ok (window_split x)) fresh quiet (λ kind. refl)
     (λ few. slots_done x slots k k (window_split x).windows x.places fresh quiet
     (put_slots_but x.search xs (places_left 0 slots xs x.places) can k (halves k) (λ y. upper_half y ∷ lower_half y ∷ []) 0 k xs
     (λ y is t. (record (is t) { height = (upper_half y).height }) ∷ (record (is t) { height = (lower_half y).height }) ∷ []) (omega arith) (from_start xs)
@@ -127,8 +128,8 @@ given_done can x from to n fresh quiet apart =
     let f = λ (i h : ℕ). cond (i == to) (h + n) (cond (i == from) (h - n) h) in
     let slots = resized f 0 (seen can xs) in
     let plan : Result Arrange Message = Ok (Slots slots x.selected Keep_search) in
-    ap (λ h. session_arranged (arranges x.state No_effect (cond (nat_le h n) (Err ImpossibleChange) plan)) x) (height_seen can from xs)
-    ∙ failure_first x (nat_le (window_at from xs).height n) ImpossibleChange plan (Ok (rows_given from to n x)) fresh quiet (λ kind. refl)
+    ap (λ h. session_arranged (arranges x.state No_effect (cond (nat_le h n) (Err (Says ImpossibleChange)) plan)) x) (height_seen can from xs)
+    ∙ failure_first x (nat_le (window_at from xs).height n) (Says ImpossibleChange) plan (Ok (rows_given from to n x)) fresh quiet (λ kind. refl)
     (λ e. slots_done x slots x.selected x.selected (rows_given from to n x).windows x.places fresh quiet
     (put_resized x.search xs (places_left 0 slots xs x.places) can f 0 xs (from_start xs) ∙ given_heights from to n xs apart)
     (all_named x can f) refl)
@@ -144,7 +145,7 @@ enlarge_done : (can : List ℕ → Bool) (n : Option ℕ) (x : Session) → x.st
 enlarge_done can n x fresh quiet within =
     let k = x.selected in
     let xs = x.windows in
-    failure_seen x can (λ m. nat_lt m 2) OnlyOneWindow (given (seen can xs) k (neighbor k (length (seen can xs))) k (count_of n)) (rows_given_if (neighbor k (length xs)) k (count_of n) x) fresh quiet (λ kind. refl)
+    failure_seen x can (λ m. nat_lt m 2) (Says OnlyOneWindow) (given (seen can xs) k (neighbor k (length (seen can xs))) k (count_of n)) (rows_given_if (neighbor k (length xs)) k (count_of n) x) fresh quiet (λ kind. refl)
     (λ many. ap (λ m. session_arranged (arranges x.state No_effect (given (seen can xs) k (neighbor k m) k (count_of n))) x) (length-map xs (window_seen can))
     ∙ given_done can x (neighbor k (length xs)) k (count_of n) fresh quiet (neighbor_apart k (length xs) many within))
 
@@ -152,7 +153,7 @@ shrink_done : (can : List ℕ → Bool) (n : Option ℕ) (x : Session) → x.sta
 shrink_done can n x fresh quiet within =
     let k = x.selected in
     let xs = x.windows in
-    failure_seen x can (λ m. nat_lt m 2) OnlyOneWindow (given (seen can xs) k k (neighbor k (length (seen can xs))) (count_of n)) (rows_given_if k (neighbor k (length xs)) (count_of n) x) fresh quiet (λ kind. refl)
+    failure_seen x can (λ m. nat_lt m 2) (Says OnlyOneWindow) (given (seen can xs) k k (neighbor k (length (seen can xs))) (count_of n)) (rows_given_if k (neighbor k (length xs)) (count_of n) x) fresh quiet (λ kind. refl)
     (λ many. ap (λ m. session_arranged (arranges x.state No_effect (given (seen can xs) k k (neighbor k m) (count_of n))) x) (length-map xs (window_seen can))
     ∙ given_done can x k (neighbor k (length xs)) (count_of n) fresh quiet (λ p. neighbor_apart k (length xs) many within (sym p)))
 
@@ -233,11 +234,11 @@ pub split_may_be_refused : (w : World) (id : ℕ) (n : Option ℕ) (x y : Sessio
 split_may_be_refused w id n x y found within is =
     let can = reads w.directory w.buffers x.user in
     ap may_be_refused (outcome_is w id SplitWindow n x found)
-    ∙ ap₂ (λ h m. takes_memory (arranges x.state No_effect (cond (nat_lt h 3) (Err WindowTooSmall) (cond (nat_le WINDOW_LIMIT m) (Err TooManyWindows) (Ok (Slots (slots_but x.selected (halves x.selected) 0 (seen can x.windows)) x.selected Keep_search))))))
+    ∙ ap₂ (λ h m. takes_memory (arranges x.state No_effect (cond (nat_lt h 3) (Err (Says WindowTooSmall)) (cond (nat_le WINDOW_LIMIT m) (Err (Says TooManyWindows)) (Ok (Slots (slots_but x.selected (halves x.selected) 0 (seen can x.windows)) x.selected Keep_search))))))
     (height_seen can x.selected x.windows) (length-map x.windows (window_seen can))
     ∙ go (nat_lt (window_at x.selected x.windows).height 3) (nat_le WINDOW_LIMIT (length x.windows)) is
   where
-    go : (small many : Bool) → cond small (Err WindowTooSmall) (cond many (Err TooManyWindows) (Ok (window_split x))) ≡ Ok y → takes_memory (arranges x.state No_effect (cond small (Err WindowTooSmall) (cond many (Err TooManyWindows) (Ok (Slots (slots_but x.selected (halves x.selected) 0 (seen (reads w.directory w.buffers x.user) x.windows)) x.selected Keep_search))))) ≡ true
+    go : (small many : Bool) → cond small (Err (Says WindowTooSmall)) (cond many (Err (Says TooManyWindows)) (Ok (window_split x))) ≡ Ok y → takes_memory (arranges x.state No_effect (cond small (Err (Says WindowTooSmall)) (cond many (Err (Says TooManyWindows)) (Ok (Slots (slots_but x.selected (halves x.selected) 0 (seen (reads w.directory w.buffers x.user) x.windows)) x.selected Keep_search))))) ≡ true
     go true many e = cc
     go false true e = cc
     go false false e =

@@ -3,7 +3,8 @@ use Rattle.std.proofs.Common.{◌≡◌, ℕ, ◌<◌, ◌≤◌, Bool, true, fa
 use Rattle.std.specs.Prelude.{nat_le, Ok, Err}
 use Rattle.std.proofs.lemmas.Bool.Decides.{nat_tests}
 use Rattle.mgs_model.specs.Apply.{change_at}
-use Rattle.mgs_model.specs.declared.echo_text.Message.TheVariants.{ImpossibleChange}
+use Rattle.mgs_model.specs.declared.echo_text.Message.TheVariants.{Says}
+use Rattle.mgs_model.specs.declared.echo_text.Notice.TheVariants.{ImpossibleChange}
 use Rattle.mgs_buffers.specs.MarkedBuffer.{MarkedBuffer}
 use Rattle.mgs_windows.specs.Panes as panes
 use Rattle.mgs_windows.specs.Panes.{given, height_at}
@@ -33,10 +34,10 @@ given_so from to n ks x within stays =
     let s = session_of ks x in
     let more : nat_le (height_at from x.windows.windows) n ≡ false = grind (arith, nat_tests, stays) in
     same_windows s _ _ (windows_given ks from to n x.windows.windows)
-    ∙ sym (ap (λ (b : Bool). arranged_or_told (cond b (Err ImpossibleChange) (Ok (rows_given from to n s))) s) (ap (λ (h : ℕ). nat_le h n) (height_seen ks from x.windows.windows within) ∙ more))
+    ∙ sym (ap (λ (b : Bool). arranged_or_told (cond b (Err (Says ImpossibleChange)) (Ok (rows_given from to n s))) s) (ap (λ (h : ℕ). nat_le h n) (height_seen ks from x.windows.windows within) ∙ more))
 
-pub given_not : (from to n : ℕ) (ks : List MarkedBuffer) (x : Session) → from < length x.windows.windows → height_at from x.windows.windows ≤ n → session_of ks (broken_off ImpossibleChange x) ≡ arranged_or_told (rows_given_if from to n (session_of ks x)) (session_of ks x)
+pub given_not : (from to n : ℕ) (ks : List MarkedBuffer) (x : Session) → from < length x.windows.windows → height_at from x.windows.windows ≤ n → session_of ks (broken_off (Says ImpossibleChange) x) ≡ arranged_or_told (rows_given_if from to n (session_of ks x)) (session_of ks x)
 given_not from to n ks x within few =
     let s = session_of ks x in
     let less : nat_le (height_at from x.windows.windows) n ≡ true = grind (arith, nat_tests, few) in
-    sym (ap (λ (b : Bool). arranged_or_told (cond b (Err ImpossibleChange) (Ok (rows_given from to n s))) s) (ap (λ (h : ℕ). nat_le h n) (height_seen ks from x.windows.windows within) ∙ less))
+    sym (ap (λ (b : Bool). arranged_or_told (cond b (Err (Says ImpossibleChange)) (Ok (rows_given from to n s))) s) (ap (λ (h : ℕ). nat_le h n) (height_seen ks from x.windows.windows within) ∙ less))

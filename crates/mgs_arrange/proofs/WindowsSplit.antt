@@ -9,7 +9,8 @@ use Rattle.mgs_model.specs.World.{Buffer_of}
 use Rattle.mgs_model.specs.World as model
 use Rattle.mgs_model.specs.Apply.{change_at, window_at}
 use Rattle.mgs_model.specs.declared.limits.TheConstants.{WINDOW_LIMIT}
-use Rattle.mgs_model.specs.declared.echo_text.Message.TheVariants.{WindowTooSmall, TooManyWindows}
+use Rattle.mgs_model.specs.declared.echo_text.Message.TheVariants.{Says}
+use Rattle.mgs_model.specs.declared.echo_text.Notice.TheVariants.{WindowTooSmall, TooManyWindows}
 use Rattle.mgs_model.specs.declared.session.Arrangement.TheVariants.{SplitWindow}
 use Rattle.mgs_buffers.specs.MarkedBuffer.{MarkedBuffer, mark_at}
 use Rattle.mgs_windows.specs.Panes as panes
@@ -46,15 +47,15 @@ selected_seen : (ks : List MarkedBuffer) (x : Session) (w : Window) → slice_ge
 selected_seen ks x w e = height_seen ks x.windows.selected x.windows.windows (some_within x.windows.windows x.windows.selected w e) ∙ selected_height x w e
 
 abbrev answer_of : Bool → Bool → model.Session → model.Session
-answer_of small many s = arranged_or_told (cond small (Err WindowTooSmall) (cond many (Err TooManyWindows) (Ok (window_split s)))) s
+answer_of small many s = arranged_or_told (cond small (Err (Says WindowTooSmall)) (cond many (Err (Says TooManyWindows)) (Ok (window_split s)))) s
 
-pub split_small : (n : Option ℕ) (ks : List MarkedBuffer) (x : Session) (w : Window) → slice_get x.windows.windows x.windows.selected ≡ Some w → w.height < 3 → session_of ks (broken_off WindowTooSmall x) ≡ arranged_or_told (rearranged SplitWindow n (session_of ks x)) (session_of ks x)
+pub split_small : (n : Option ℕ) (ks : List MarkedBuffer) (x : Session) (w : Window) → slice_get x.windows.windows x.windows.selected ≡ Some w → w.height < 3 → session_of ks (broken_off (Says WindowTooSmall) x) ≡ arranged_or_told (rearranged SplitWindow n (session_of ks x)) (session_of ks x)
 split_small n ks x w e small =
     let s = session_of ks x in
     let test : nat_lt w.height 3 ≡ true = grind (arith, nat_tests, small) in
     sym (ap (λ (b : Bool). answer_of b (nat_le WINDOW_LIMIT (length s.windows)) s) (ap (λ (h : ℕ). nat_lt h 3) (selected_seen ks x w e) ∙ test))
 
-pub split_many : (n : Option ℕ) (ks : List MarkedBuffer) (x : Session) (w : Window) → slice_get x.windows.windows x.windows.selected ≡ Some w → 3 ≤ w.height → WINDOW_LIMIT ≤ length x.windows.windows → session_of ks (broken_off TooManyWindows x) ≡ arranged_or_told (rearranged SplitWindow n (session_of ks x)) (session_of ks x)
+pub split_many : (n : Option ℕ) (ks : List MarkedBuffer) (x : Session) (w : Window) → slice_get x.windows.windows x.windows.selected ≡ Some w → 3 ≤ w.height → WINDOW_LIMIT ≤ length x.windows.windows → session_of ks (broken_off (Says TooManyWindows) x) ≡ arranged_or_told (rearranged SplitWindow n (session_of ks x)) (session_of ks x)
 split_many n ks x w e high many =
     let s = session_of ks x in
     let test : nat_lt w.height 3 ≡ false = grind (arith, nat_tests, high) in
@@ -67,8 +68,8 @@ may_split n ks x w e high few =
     let s = session_of ks x in
     let test : nat_lt w.height 3 ≡ false = grind (arith, nat_tests, high) in
     let room : nat_le WINDOW_LIMIT (length x.windows.windows) ≡ false = grind (arith, nat_tests, few) in
-    ap (λ (b : Bool). cond b (Err WindowTooSmall) (cond (nat_le WINDOW_LIMIT (length s.windows)) (Err TooManyWindows) (Ok (window_split s)))) (ap (λ (h : ℕ). nat_lt h 3) (selected_seen ks x w e) ∙ test)
-    ∙ ap (λ (b : Bool). cond b (Err TooManyWindows) (Ok (window_split s))) (ap (nat_le WINDOW_LIMIT) (length-map x.windows.windows (window_of ks)) ∙ room)
+    ap (λ (b : Bool). cond b (Err (Says WindowTooSmall)) (cond (nat_le WINDOW_LIMIT (length s.windows)) (Err (Says TooManyWindows)) (Ok (window_split s)))) (ap (λ (h : ℕ). nat_lt h 3) (selected_seen ks x w e) ∙ test)
+    ∙ ap (λ (b : Bool). cond b (Err (Says TooManyWindows)) (Ok (window_split s))) (ap (nat_le WINDOW_LIMIT) (length-map x.windows.windows (window_of ks)) ∙ room)
 
 -- THE MARKS THAT ARE USED
 

@@ -5,7 +5,8 @@ use Rattle.mgs_model.specs.Plans.{count_of, heir, neighbor}
 use Rattle.mgs_model.specs.Apply.{change_at, left_places, window_at}
 use Rattle.mgs_windows.specs.Panes.{closer}
 use Rattle.mgs_model.specs.declared.echo_text.Message.{Message}
-use Rattle.mgs_model.specs.declared.echo_text.Message.TheVariants.{OnlyOneWindow, WindowTooSmall, TooManyWindows, ImpossibleChange}
+use Rattle.mgs_model.specs.declared.echo_text.Message.TheVariants.{Says}
+use Rattle.mgs_model.specs.declared.echo_text.Notice.TheVariants.{OnlyOneWindow, WindowTooSmall, TooManyWindows, ImpossibleChange}
 use Rattle.mgs_model.specs.declared.session.Arrangement.{Arrangement}
 use Rattle.mgs_model.specs.declared.session.Kind.TheVariants.{Other}
 use Rattle.mgs_model.specs.declared.session.Arrangement.TheVariants.{DeleteWindow, DeleteOtherWindows, SplitWindow, NextWindow, PreviousWindow, EnlargeWindow, ShrinkWindow, ListBuffers}
@@ -105,24 +106,24 @@ window_lists shows x =
 
 abbrev pub rows_given_if : ℕ → ℕ → ℕ → Session → Result Session Message
 rows_given_if from to n x =
-    if nat_le (window_at from x.windows).height n then Err ImpossibleChange else Ok (rows_given from to n x)
+    if nat_le (window_at from x.windows).height n then Err (Says ImpossibleChange) else Ok (rows_given from to n x)
 
 -- the session afterwards, or the failure that is told
 abbrev pub rearranged : Arrangement → Option ℕ → Session → Result Session Message
 rearranged DeleteWindow n x =
-    if nat_lt (length x.windows) 2 then Err OnlyOneWindow else Ok (window_gone x.selected (heir x.selected) x)
+    if nat_lt (length x.windows) 2 then Err (Says OnlyOneWindow) else Ok (window_gone x.selected (heir x.selected) x)
 rearranged DeleteOtherWindows n x = Ok (others_gone x)
 rearranged SplitWindow n x =
-    if nat_lt (window_at x.selected x.windows).height 3 then Err WindowTooSmall
-    else if nat_le WINDOW_LIMIT (length x.windows) then Err TooManyWindows
+    if nat_lt (window_at x.selected x.windows).height 3 then Err (Says WindowTooSmall)
+    else if nat_le WINDOW_LIMIT (length x.windows) then Err (Says TooManyWindows)
     else Ok (window_split x)
 rearranged NextWindow n x = Ok (window_selected (next_index x.selected (length x.windows)) x)
 rearranged PreviousWindow n x = Ok (window_selected (previous_index x.selected (length x.windows)) x)
 rearranged EnlargeWindow n x =
-    if nat_lt (length x.windows) 2 then Err OnlyOneWindow
+    if nat_lt (length x.windows) 2 then Err (Says OnlyOneWindow)
     else rows_given_if (neighbor x.selected (length x.windows)) x.selected (count_of n) x
 rearranged ShrinkWindow n x =
-    if nat_lt (length x.windows) 2 then Err OnlyOneWindow
+    if nat_lt (length x.windows) 2 then Err (Says OnlyOneWindow)
     else rows_given_if x.selected (neighbor x.selected (length x.windows)) (count_of n) x
 rearranged ListBuffers n x = Ok (window_lists Listing x)
 

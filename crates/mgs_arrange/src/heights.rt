@@ -7,7 +7,7 @@ ghost use Rattle.mgs_world.specs.Worlds.{session_of};
 ghost use Rattle.mgs_arrange.specs.Arranged.{IsLeftOrTold, next_index, previous_index, rows_given_if};
 ghost use Rattle.mgs_arrange.specs.Arranging.{IsArranged, IsResized};
 
-use mgs_model::Message;
+use mgs_model::{Message, Notice};
 use mgs_session::{Session, break_off};
 
 // The index after this one, cyclic.
@@ -77,7 +77,7 @@ fn give(session: &mut Session, from: usize, to: usize, rows: usize)
     ensures given { (ks : List MarkedBuffer) → IsLeftOrTold (rows_given_if from to rows) (session_of ks session.old) (session_of ks session.new) }
 {
     if session.windows.height(from) <= rows {
-        break_off(session, Message::ImpossibleChange);
+        break_off(session, Message::Says(Notice::ImpossibleChange));
         return;
     }
     session.windows.give(from, to, rows);
@@ -90,7 +90,7 @@ pub fn enlarge(session: &mut Session, argument: Option<usize>)
 {
     let windows = session.windows.as_slice().len();
     if windows < 2 {
-        break_off(session, Message::OnlyOneWindow);
+        break_off(session, Message::Says(Notice::OnlyOneWindow));
         return;
     }
     let selected = session.windows.selected();
@@ -109,7 +109,7 @@ pub fn shrink(session: &mut Session, argument: Option<usize>)
 {
     let windows = session.windows.as_slice().len();
     if windows < 2 {
-        break_off(session, Message::OnlyOneWindow);
+        break_off(session, Message::Says(Notice::OnlyOneWindow));
         return;
     }
     let selected = session.windows.selected();

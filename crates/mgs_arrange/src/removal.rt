@@ -10,7 +10,7 @@ ghost use Rattle.mgs_arrange.specs.Arranging.{IsArranged, Rearranged};
 
 use mgs_buffers::Buffers;
 use mgs_marks::Marked;
-use mgs_model::Message;
+use mgs_model::{Message, Notice};
 use mgs_session::{Session, break_off};
 use mgs_world::drop_window_marks;
 
@@ -49,7 +49,7 @@ pub fn delete<T: Marked + Drop>(buffers: &mut Buffers<T>, session: &mut Session)
     ensures arranged { (n : Option ℕ) → IsArranged DeleteWindow n buffers.old buffers.new session.old session.new }
 {
     if session.windows.as_slice().len() < 2 {
-        break_off(session, Message::OnlyOneWindow);
+        break_off(session, Message::Says(Notice::OnlyOneWindow));
         return;
     }
     let selected = session.windows.selected();

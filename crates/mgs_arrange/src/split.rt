@@ -10,7 +10,7 @@ ghost use Rattle.mgs_arrange.specs.Arranging.{IsArranged, IsCopied, IsResized, M
 use crate::place_room::reserve;
 use mgs_buffers::Buffers;
 use mgs_marks::Marked;
-use mgs_model::{Message, Short, WINDOW_LIMIT};
+use mgs_model::{Message, Notice, Short, WINDOW_LIMIT};
 use mgs_session::{Session, break_off};
 use mgs_windows::WindowMarks;
 use mgs_world::add_window_marks;
@@ -48,11 +48,11 @@ pub fn split<T: Marked + Drop>(buffers: &mut Buffers<T>, session: &mut Session) 
 {
     let window = session.windows.selected_window();
     if window.height < 3 {
-        break_off(session, Message::WindowTooSmall);
+        break_off(session, Message::Says(Notice::WindowTooSmall));
         return Ok(());
     }
     if session.windows.as_slice().len() >= WINDOW_LIMIT {
-        break_off(session, Message::TooManyWindows);
+        break_off(session, Message::Says(Notice::TooManyWindows));
         return Ok(());
     }
     reserve(buffers.alloc(), &mut session.windows)?;

@@ -7,7 +7,8 @@ use Rattle.mgs_model.specs.Access.{Directory}
 use Rattle.mgs_model.specs.World.{State, World, Buffer, Session, Todo, find_session, has_id}
 use Rattle.mgs_model.specs.Apply.{change_first, remove_first, is_search_mode}
 use Rattle.mgs_model.specs.Events.{begun_if, begun_state, state_set, with_state}
-use Rattle.mgs_model.specs.declared.echo_text.Message.TheVariants.{MacroTooLong}
+use Rattle.mgs_model.specs.declared.echo_text.Message.TheVariants.{Says}
+use Rattle.mgs_model.specs.declared.echo_text.Notice.TheVariants.{MacroTooLong}
 use Rattle.mgs_model.specs.declared.session.Kind.TheVariants.{Other}
 use Rattle.mgs_buffers.specs.MarkedBuffer.{MarkedBuffer}
 use Rattle.mgs_session.specs.Playing.{byte_typed, stopped}
@@ -48,7 +49,7 @@ closed_state w id f = ap (λ (xs : List Session). let v : World = record w { ses
 
 -- what it holds then
 abbrev one_too_many : code.Session → code.Session
-one_too_many x = held.playing_as (stopped x.state.player) (held.told MacroTooLong (held.acted Other (held.recording_as nothing_recorded x)))
+one_too_many x = held.playing_as (stopped x.state.player) (held.told (Says MacroTooLong) (held.acted Other (held.recording_as nothing_recorded x)))
 
 abbrev keeps : ℕ → code.Session → code.Session
 keeps byte x = held.playing_as (byte_typed byte x.state.player) (held.recording_as (appended byte x.state.recorder) x)

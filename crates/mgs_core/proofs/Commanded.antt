@@ -5,7 +5,8 @@ use Rattle.mgs_model.specs.Outcome as outcomes
 use Rattle.mgs_model.specs.Keys.{key_read}
 use Rattle.mgs_model.specs.View.{View}
 use Rattle.mgs_model.specs.Turns.{Keep, Do, command_turn, key_turn, read_turn}
-use Rattle.mgs_model.specs.declared.echo_text.Message.TheVariants.{Silent}
+use Rattle.mgs_model.specs.declared.echo_text.Message.TheVariants.{Says}
+use Rattle.mgs_model.specs.declared.echo_text.Notice.TheVariants.{Silent}
 use Rattle.mgs_model.specs.declared.session.Command.{Command}
 use Rattle.mgs_model.specs.declared.session.Command.TheVariants.{Move, Seek, Set, Entries}
 use Rattle.mgs_model.specs.declared.session.EntryChange.TheVariants.{DeleteEntry}
@@ -30,7 +31,7 @@ use Rattle.mgs_core.specs.KeyActs.{command_act, is_acted, started_by, started_st
 
 -- what a session holds that neither searches nor is at a prompt, its echo line emptied
 abbrev silent : State → model.State
-silent o = record (state_of (record o { search = None; prompt = None })) { echo = Silent }
+silent o = record (state_of (record o { search = None; prompt = None })) { echo = Says Silent }
 
 -- to such a session a byte is a key
 plain_turn : (v : View) (o : State) (byte : ℕ) → o.search ≡ None → o.prompt ≡ None → state_turn v o byte ≡ key_turn (silent o) byte
@@ -47,7 +48,7 @@ command_done state n (Set CallMacro) e = cc
 command_done state n _ e = refl
 
 -- a word goes on
-pub turn_kept : (v : View) (o : State) (byte : ℕ) (k : Held) → o.search ≡ None → o.prompt ≡ None → FedBy fed.Pending (key_read o.keyboard.argument o.keyboard.keys byte) k → state_turn v o byte ≡ Keep (state_of (record o { echo = Silent; keyboard = k; prompt = None; search = None }))
+pub turn_kept : (v : View) (o : State) (byte : ℕ) (k : Held) → o.search ≡ None → o.prompt ≡ None → FedBy fed.Pending (key_read o.keyboard.argument o.keyboard.keys byte) k → state_turn v o byte ≡ Keep (state_of (record o { echo = Says Silent; keyboard = k; prompt = None; search = None }))
 turn_kept v o byte k still none e = plain_turn v o byte still none ∙ ap (read_turn (silent o)) e
 
 -- or runs a command, or none, by a session that holds nothing

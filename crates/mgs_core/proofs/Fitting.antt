@@ -11,7 +11,8 @@ use Rattle.mgs_model.specs.Acts.{Target, allowed, around_search, edit_of, fails,
 use Rattle.mgs_model.specs.declared.entry.Decision.{Decision}
 use Rattle.mgs_model.specs.declared.entry.Decision.TheVariants.{Granted}
 use Rattle.mgs_model.specs.declared.echo_text.Message.{Message}
-use Rattle.mgs_model.specs.declared.echo_text.Message.TheVariants.{BufferFull, NoBuffer, Silent}
+use Rattle.mgs_model.specs.declared.echo_text.Message.TheVariants.{Says}
+use Rattle.mgs_model.specs.declared.echo_text.Notice.TheVariants.{BufferFull, NoBuffer, Silent}
 use Rattle.mgs_model.specs.declared.session.Replacement.{Replacement}
 use Rattle.mgs_model.specs.declared.session.Command.TheVariants.{Replace}
 use Rattle.mgs_model.specs.declared.session.Mode.TheVariants.{Replacing}
@@ -33,17 +34,17 @@ failed_fits state message = fit_none (fails state message).state refl
 
 -- what such a session holds may become
 module _ (state : State) (mode : state.mode ≡ Replacing) (some : 0 < length state.old) (rest : has_all (without_all state.todo) ≡ false) where
-  mode_fits : (c : ModePlan) → IsFit (mode_left c (record (acted_state state) { echo = Silent }))
+  mode_fits : (c : ModePlan) → IsFit (mode_left c (record (acted_state state) { echo = Says Silent }))
   mode_fits Keep_mode = λ h. (mode, some)
   mode_fits (Goes_on n) = λ h. (mode, some)
-  mode_fits (Over n) = fit_none (mode_left (Over n) (record (acted_state state) { echo = Silent })) rest
+  mode_fits (Over n) = fit_none (mode_left (Over n) (record (acted_state state) { echo = Says Silent })) rest
   mode_fits (Failing failing) = λ h. (ap (failing_in failing) mode, some)
 
   replaces_fit : (o : Option Target) (plan : Target → Result SearchChange Message) → IsFit (replaces_one state o plan).state
-  replaces_fit None plan = failed_fits state NoBuffer
+  replaces_fit None plan = failed_fits state (Says NoBuffer)
   replaces_fit (Some t) plan = elim (plan t) as (λ p. IsFit (replaced_by state t.buffer p).state) [
     | Err message ↦ failed_fits state message
-    | Ok c ↦ elim (is_full (size_told t.buffer.told) (serial_told t.buffer.told) c.a c.b c.put) as (λ b. IsFit (cond b (fails state BufferFull) (search_finished state c.finish (edit_of t.buffer.name c.a c.b c.put))).state) [ true ↦ failed_fits state BufferFull | false ↦ mode_fits c.finish.mode ]
+    | Ok c ↦ elim (is_full (size_told t.buffer.told) (serial_told t.buffer.told) c.a c.b c.put) as (λ b. IsFit (cond b (fails state (Says BufferFull)) (search_finished state c.finish (edit_of t.buffer.name c.a c.b c.put))).state) [ true ↦ failed_fits state (Says BufferFull) | false ↦ mode_fits c.finish.mode ]
   ]
 
   permitted_fits : (d : Decision) (o : Outcome) → IsFit o.state → IsFit (permitted state d o).state

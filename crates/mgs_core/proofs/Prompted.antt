@@ -13,7 +13,8 @@ use Rattle.mgs_mini.specs.Narrowing.{granted_names}
 use Rattle.mgs_model.specs.Turns.{Keep, Do, command_turn, answer_turn, completed, named_turn, names_completed, plain_state, prompt_turn, unbound_state}
 use Rattle.mgs_model.specs.Events.{refused_state}
 use Rattle.mgs_laws.specs.Refusals.{may_be_refused}
-use Rattle.mgs_model.specs.declared.echo_text.Message.TheVariants.{Silent, NoMemory, NoSuchCommand, Quitting}
+use Rattle.mgs_model.specs.declared.echo_text.Message.TheVariants.{Says}
+use Rattle.mgs_model.specs.declared.echo_text.Notice.TheVariants.{Silent, NoMemory, NoSuchCommand, Quitting}
 use Rattle.mgs_model.specs.declared.session.Command.{Command}
 use Rattle.mgs_model.specs.declared.session.Mode.TheVariants.{Prompt}
 use Rattle.mgs_model.specs.declared.session.Question.{Question}
@@ -66,8 +67,8 @@ answered_single _ n typed = refl
 
 -- A TURN
 
-at_prompt : (v : View) (y : Session) (p : PromptInput) (byte : ℕ) → (unsearched y).state.prompt ≡ Some p → state_turn v (unsearched y).state byte ≡ prompt_turn v p.question (record (state_of (unsearched y).state) { echo = Silent }) byte
-at_prompt v y p byte is = ap (λ (r : Option PromptInput). state_turn v (record (unsearched y).state { prompt = r }) byte) is ∙ sym (ap (λ (r : Option PromptInput). prompt_turn v p.question (record (state_of (record (unsearched y).state { prompt = r })) { echo = Silent }) byte) is)
+at_prompt : (v : View) (y : Session) (p : PromptInput) (byte : ℕ) → (unsearched y).state.prompt ≡ Some p → state_turn v (unsearched y).state byte ≡ prompt_turn v p.question (record (state_of (unsearched y).state) { echo = Says Silent }) byte
+at_prompt v y p byte is = ap (λ (r : Option PromptInput). state_turn v (record (unsearched y).state { prompt = r }) byte) is ∙ sym (ap (λ (r : Option PromptInput). prompt_turn v p.question (record (state_of (record (unsearched y).state { prompt = r })) { echo = Says Silent }) byte) is)
 
 -- A STEP OF A PROMPT
 
@@ -83,10 +84,10 @@ goes_on d ks y taken new p q byte alone is question first turn took held =
     let it : Session = prompting q (unsearched y) in
     kept_same (SeesNames d ks (unsearched y).user) (λ v. state_turn v (unsearched y).state byte) (unsearched y) new it (held ∙ ap (prompting q) took) refl (none_stays (unsearched y).state it.state refl) alone (λ v sees. step_turn v y p q GoesOn byte is question first turn) refl
 
-pub quits : (d : Directory) (ks : List MarkedBuffer) (y taken new : Session) (p q : PromptInput) (byte : ℕ) → (unsearched y).state.prompt ≡ Some p → q.question ≡ p.question → q.first ≡ p.first → IsFed p q byte Quit → taken ≡ unprompted (unsearched y) → new ≡ failed Quitting taken → IsByteStep d ks (unsearched y) new byte befores.Plain Kept
+pub quits : (d : Directory) (ks : List MarkedBuffer) (y taken new : Session) (p q : PromptInput) (byte : ℕ) → (unsearched y).state.prompt ≡ Some p → q.question ≡ p.question → q.first ≡ p.first → IsFed p q byte Quit → taken ≡ unprompted (unsearched y) → new ≡ failed (Says Quitting) taken → IsByteStep d ks (unsearched y) new byte befores.Plain Kept
 quits d ks y taken new p q byte is question first turn took held =
-    let it : Session = failed Quitting (unsearched y) in
-    kept_none (SeesNames d ks (unsearched y).user) (λ v. state_turn v (unsearched y).state byte) (unsearched y) new it (held ∙ ap (failed Quitting) took) refl (none_stays (unsearched y).state it.state refl) (λ v sees. step_turn v y p q Quit byte is question first turn) refl
+    let it : Session = failed (Says Quitting) (unsearched y) in
+    kept_none (SeesNames d ks (unsearched y).user) (λ v. state_turn v (unsearched y).state byte) (unsearched y) new it (held ∙ ap (failed (Says Quitting)) took) refl (none_stays (unsearched y).state it.state refl) (λ v sees. step_turn v y p q Quit byte is question first turn) refl
 
 pub unbinds : (d : Directory) (ks : List MarkedBuffer) (y taken new : Session) (p q : PromptInput) (byte : ℕ) → (unsearched y).state.prompt ≡ Some p → q.question ≡ p.question → q.first ≡ p.first → q.waiting ≡ NoKey → IsFed p q byte Unbound → taken ≡ unprompted (unsearched y) → new ≡ unbound (prompting q taken) → IsByteStep d ks (unsearched y) new byte befores.Plain Kept
 unbinds d ks y taken new p q byte is question first none turn took held =
@@ -161,7 +162,7 @@ named_at v y p o byte is turn names found =
 again_prompted : (y : Session) (p : PromptInput) → (unsearched y).state.prompt ≡ Some p → p.waiting ≡ NoKey → state_of (refused (before_turn (befores.Prompt p) (unsearched y).state) (resting (unsearched y))).state ≡ refused_state (state_of (unsearched y).state)
 again_prompted y p is none =
     let state : model.State = state_of (resting (unsearched y)).state in
-    ap (λ (w : Waiting). record state { echo = NoMemory; keys = keys_of w; mode = Prompt p.question; input = p.input; old = p.first; todo = [] }) none
+    ap (λ (w : Waiting). record state { echo = Says NoMemory; keys = keys_of w; mode = Prompt p.question; input = p.input; old = p.first; todo = [] }) none
     ∙ sym (ap (λ (r : Option PromptInput). refused_state (state_of (record (unsearched y).state { prompt = r }))) is)
 
 module _ (d : Directory) (ks : List MarkedBuffer) (y taken new : Session) (p : PromptInput) (byte : ℕ) (b : ModeBefore) (alone : IsAlone (unsearched y).state.player) (is : (unsearched y).state.prompt ≡ Some p) (none : p.waiting ≡ NoKey) (turn : IsFed p p byte Answered) (took : taken ≡ unprompted (unsearched y)) where
@@ -172,10 +173,10 @@ module _ (d : Directory) (ks : List MarkedBuffer) (y taken new : Session) (p : P
   -- where it names a command
   named_step : (step : ByteStep) (o : Option Command) → p.question ≡ RunWhich → p.first ≡ [] → find_command p.input ≡ o → IsNamedStep taken new p b o step → IsByteStep d ks (unsearched y) new byte b step
   named_step step None names first found did =
-      let it : Session = failed NoSuchCommand (unsearched y) in
+      let it : Session = failed (Says NoSuchCommand) (unsearched y) in
       subst (IsByteStep d ks (unsearched y) new byte b) (sym did.0)
-      (kept_none (SeesNames d ks (unsearched y).user) (λ v. state_turn v (unsearched y).state byte) (unsearched y) new it (did.1 ∙ ap (failed NoSuchCommand) took) refl (none_stays (unsearched y).state it.state refl)
-      (λ v sees. named_at v y p None byte is turn names found ∙ ap (λ (o : model.State). Keep (failed_state NoSuchCommand o)) (plain_rests y p none first)) refl)
+      (kept_none (SeesNames d ks (unsearched y).user) (λ v. state_turn v (unsearched y).state byte) (unsearched y) new it (did.1 ∙ ap (failed (Says NoSuchCommand)) took) refl (none_stays (unsearched y).state it.state refl)
+      (λ v sees. named_at v y p None byte is turn names found ∙ ap (λ (o : model.State). Keep (failed_state (Says NoSuchCommand) o)) (plain_rests y p none first)) refl)
   named_step step (Some c) names first found did =
       prompt_was step step refl did.1
       (command_step (SeesNames d ks (unsearched y).user) (λ v. state_turn v (unsearched y).state byte) (unsearched y) new c (value_of (unsearched y).state.keyboard.argument) (befores.Prompt p) step

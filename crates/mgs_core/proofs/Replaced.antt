@@ -8,7 +8,8 @@ use Rattle.mgs_model.specs.World as model
 use Rattle.mgs_model.specs.World.{Todo, Replace_all}
 use Rattle.mgs_model.specs.View.{View}
 use Rattle.mgs_model.specs.Turns.{Turn, Keep, Do, replace_turn, replacing}
-use Rattle.mgs_model.specs.declared.echo_text.Message.TheVariants.{Quitting, Replaced, Silent}
+use Rattle.mgs_model.specs.declared.echo_text.Message.TheVariants.{Says, Replaced}
+use Rattle.mgs_model.specs.declared.echo_text.Notice.TheVariants.{Quitting, Silent}
 use Rattle.mgs_model.specs.declared.session.Command.TheVariants.{Seek}
 use Rattle.mgs_model.specs.declared.session.Mode.TheVariants.{Plain}
 use Rattle.mgs_model.specs.declared.session.Seeking.TheVariants.{SkipMatch}
@@ -40,7 +41,7 @@ keyed_turn state (keys.Replaces last) = replacing state (replacement last)
 keyed_turn state keys.Skips = Do state (Run (Seek SkipMatch) None state.input)
 keyed_turn state keys.ReplacesAll = Keep (record state { todo = Replace_all ∷ state.todo })
 keyed_turn state keys.Ends = Keep (record state { echo = Replaced state.count; mode = Plain; input = []; old = []; count = 0 })
-keyed_turn state keys.Quits = Keep (failed_state Quitting state)
+keyed_turn state keys.Quits = Keep (failed_state (Says Quitting) state)
 keyed_turn state keys.Other = Keep state
 
 turn_keyed : (state : model.State) (byte : ℕ) → replace_turn state byte ≡ keyed_turn state (replace_key byte)
@@ -74,18 +75,18 @@ module _ (d : Directory) (ks : List MarkedBuffer) (y new : Session) (place : Sea
   x = searching s z
 
   abbrev state : model.State
-  state = record (state_of x.state) { echo = Silent }
+  state = record (state_of x.state) { echo = Says Silent }
 
   comes : (v : View) (k e : ReplaceKey) → k ≡ replace_key byte → k ≡ e → state_turn v x.state byte ≡ keyed_turn state e
   comes v k e of_byte is = turn_keyed state byte ∙ ap (keyed_turn state) (sym of_byte ∙ is)
 
   -- it goes on
-  pub replace_other : (k : ReplaceKey) → k ≡ replace_key byte → k ≡ keys.Other → new ≡ searching s (told Silent (unsearched y)) → IsByteStep d ks (searching s (unsearched y)) new byte befores.Plain Kept
-  replace_other k of_byte e is = kept_same (SeesNames d ks x.user) (λ v. state_turn v x.state byte) x new (searching s (told Silent z)) is refl (λ bs. refl) alone (λ v sees. comes v k keys.Other of_byte e) refl
+  pub replace_other : (k : ReplaceKey) → k ≡ replace_key byte → k ≡ keys.Other → new ≡ searching s (told (Says Silent) (unsearched y)) → IsByteStep d ks (searching s (unsearched y)) new byte befores.Plain Kept
+  replace_other k of_byte e is = kept_same (SeesNames d ks x.user) (λ v. state_turn v x.state byte) x new (searching s (told (Says Silent) z)) is refl (λ bs. refl) alone (λ v sees. comes v k keys.Other of_byte e) refl
 
-  pub replace_every : (held : Session) (k : ReplaceKey) → k ≡ replace_key byte → k ≡ keys.ReplacesAll → 0 < length r.pattern → held ≡ searching s (told Silent (unsearched y)) → new ≡ playing_as (replacing_all held.state.player) held → IsByteStep d ks (searching s (unsearched y)) new byte befores.Plain Kept
+  pub replace_every : (held : Session) (k : ReplaceKey) → k ≡ replace_key byte → k ≡ keys.ReplacesAll → 0 < length r.pattern → held ≡ searching s (told (Says Silent) (unsearched y)) → new ≡ playing_as (replacing_all held.state.player) held → IsByteStep d ks (searching s (unsearched y)) new byte befores.Plain Kept
   replace_every held k of_byte e some is all =
-      let it : Session = playing_as (replacing_all y.state.player) (searching s (told Silent z)) in
+      let it : Session = playing_as (replacing_all y.state.player) (searching s (told (Says Silent) z)) in
       rw (all, is) (record { state = refl; stays = λ bs. refl; turn = λ v sees. comes v k keys.ReplacesAll of_byte e; left = left_all x.state.player it.state.player.todo alone refl; fit = λ h. (refl, some) })
 
   pub replace_ends : (k : ReplaceKey) → k ≡ replace_key byte → k ≡ keys.Ends → y ≡ unsearched y → new ≡ told (Replaced r.count) (unprompted y) → IsByteStep d ks (searching s (unsearched y)) new byte befores.Plain Kept
@@ -93,15 +94,15 @@ module _ (d : Directory) (ks : List MarkedBuffer) (y new : Session) (place : Sea
       let it : Session = told (Replaced r.count) (unprompted z) in
       kept_same (SeesNames d ks x.user) (λ v. state_turn v x.state byte) x new it (is ∙ ap (λ (w : Session). told (Replaced r.count) (unprompted w)) still) refl (none_stays x.state it.state refl) alone (λ v sees. comes v k keys.Ends of_byte e) refl
 
-  pub replace_quits : (k : ReplaceKey) → k ≡ replace_key byte → k ≡ keys.Quits → y ≡ unsearched y → new ≡ failed Quitting y → IsByteStep d ks (searching s (unsearched y)) new byte befores.Plain Kept
+  pub replace_quits : (k : ReplaceKey) → k ≡ replace_key byte → k ≡ keys.Quits → y ≡ unsearched y → new ≡ failed (Says Quitting) y → IsByteStep d ks (searching s (unsearched y)) new byte befores.Plain Kept
   replace_quits k of_byte e still is =
-      kept_none (SeesNames d ks x.user) (λ v. state_turn v x.state byte) x new (failed Quitting z) (is ∙ ap (failed Quitting) still) refl (none_stays x.state (failed Quitting z).state refl) (λ v sees. comes v k keys.Quits of_byte e) refl
+      kept_none (SeesNames d ks x.user) (λ v. state_turn v x.state byte) x new (failed (Says Quitting) z) (is ∙ ap (failed (Says Quitting)) still) refl (none_stays x.state (failed (Says Quitting) z).state refl) (λ v sees. comes v k keys.Quits of_byte e) refl
 
-  pub replace_skips : (b : ModeBefore) (k : ReplaceKey) → k ≡ replace_key byte → k ≡ keys.Skips → new ≡ searching s (told Silent (unsearched y)) → IsByteStep d ks (searching s (unsearched y)) new byte b (Acts byte_acts.Skip)
+  pub replace_skips : (b : ModeBefore) (k : ReplaceKey) → k ≡ replace_key byte → k ≡ keys.Skips → new ≡ searching s (told (Says Silent) (unsearched y)) → IsByteStep d ks (searching s (unsearched y)) new byte b (Acts byte_acts.Skip)
   replace_skips b k of_byte e is =
-      acts_same (SeesNames d ks x.user) (λ v. state_turn v x.state byte) x new (searching s (told Silent z)) is refl (λ bs. refl) b byte_acts.Skip alone refl tt (λ v sees. comes v k keys.Skips of_byte e) refl (λ wants. cc) (λ wants. cc) (λ h. cc)
+      acts_same (SeesNames d ks x.user) (λ v. state_turn v x.state byte) x new (searching s (told (Says Silent) z)) is refl (λ bs. refl) b byte_acts.Skip alone refl tt (λ v sees. comes v k keys.Skips of_byte e) refl (λ wants. cc) (λ wants. cc) (λ h. cc)
 
   -- a match is replaced
-  pub replace_one : (last : Bool) (k : ReplaceKey) → k ≡ replace_key byte → k ≡ keys.Replaces last → new ≡ searching s (told Silent (unsearched y)) → IsByteStep d ks (searching s (unsearched y)) new byte befores.Held (Acts (byte_acts.Replace last))
+  pub replace_one : (last : Bool) (k : ReplaceKey) → k ≡ replace_key byte → k ≡ keys.Replaces last → new ≡ searching s (told (Says Silent) (unsearched y)) → IsByteStep d ks (searching s (unsearched y)) new byte befores.Held (Acts (byte_acts.Replace last))
   replace_one last k of_byte e is =
-      acts_same (SeesNames d ks x.user) (λ v. state_turn v x.state byte) x new (searching s (told Silent z)) is refl (λ bs. refl) befores.Held (byte_acts.Replace last) alone refl tt (λ v sees. comes v k (keys.Replaces last) of_byte e) refl (λ wants. refl) (λ wants. refl) (λ h. cc)
+      acts_same (SeesNames d ks x.user) (λ v. state_turn v x.state byte) x new (searching s (told (Says Silent) z)) is refl (λ bs. refl) befores.Held (byte_acts.Replace last) alone refl tt (λ v sees. comes v k (keys.Replaces last) of_byte e) refl (λ wants. refl) (λ wants. refl) (λ h. cc)

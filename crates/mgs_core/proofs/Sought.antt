@@ -10,7 +10,8 @@ use Rattle.mgs_model.specs.Outcome.{Run}
 use Rattle.mgs_model.specs.Searching.{Sought, directed, dropped, lengthened, read_byte, shortened}
 use Rattle.mgs_model.specs.Turns.{Do, pattern_turn, sought_byte, sought_turn, used}
 use Rattle.mgs_model.specs.Events.{refused_state}
-use Rattle.mgs_model.specs.declared.echo_text.Message.TheVariants.{Silent}
+use Rattle.mgs_model.specs.declared.echo_text.Message.TheVariants.{Says}
+use Rattle.mgs_model.specs.declared.echo_text.Notice.TheVariants.{Silent}
 use Rattle.mgs_model.specs.declared.search.Direction.{Direction}
 use Rattle.mgs_model.specs.declared.search.Direction.TheVariants.{Forward, Backward}
 use Rattle.mgs_model.specs.declared.search.SearchStep.{SearchStep}
@@ -91,7 +92,7 @@ module _ (y : Session) (place : SearchPlace) (f : Sought) (byte : ℕ) where
   it = (searching (search_for place (Find f)) (unsearched y)).state
 
   abbrev then_state : model.State
-  then_state = record (state_of it) { echo = Silent }
+  then_state = record (state_of it) { echo = Says Silent }
 
   abbrev is_past : Bool
   is_past = is_character_byte y.state.keyboard.keys byte
@@ -122,7 +123,7 @@ module _ (d : Directory) (ks : List MarkedBuffer) (y new : Session) (place : Sea
   x = searching s z
 
   abbrev state : model.State
-  state = record (state_of x.state) { echo = Silent }
+  state = record (state_of x.state) { echo = Says Silent }
 
   -- it is over
   pub search_ends : is_character_byte y.state.keyboard.keys byte ≡ false → read_byte y.state.pattern f byte ≡ (g, step.Ends) → new ≡ search_left g.pattern (unsearched y) → IsByteStep d ks (searching s (unsearched y)) new byte b Kept
@@ -133,20 +134,20 @@ module _ (d : Directory) (ks : List MarkedBuffer) (y new : Session) (place : Sea
       (λ v sees. comes y place f byte v g step.Ends ascii read ∙ ap (λ (q : Sought). sought_turn state byte q step.Ends) same) refl
 
   -- or is given up
-  pub search_quits : is_character_byte y.state.keyboard.keys byte ≡ false → read_byte y.state.pattern f byte ≡ (g, step.Quits) → new ≡ searching r (told Silent (unsearched y)) → IsByteStep d ks (searching s (unsearched y)) new byte b (Acts byte_acts.QuitSearch)
+  pub search_quits : is_character_byte y.state.keyboard.keys byte ≡ false → read_byte y.state.pattern f byte ≡ (g, step.Quits) → new ≡ searching r (told (Says Silent) (unsearched y)) → IsByteStep d ks (searching s (unsearched y)) new byte b (Acts byte_acts.QuitSearch)
   search_quits ascii read is =
       let same : g ≡ f = sought_over z.state.pattern f g byte step.Quits read tt in
-      acts_same (SeesNames d ks x.user) (λ v. state_turn v x.state byte) x new (searching s (told Silent z)) (is ∙ ap (λ (h : Sought). searching (search_for place (Find h)) (told Silent z)) same) refl (λ bs. refl) b byte_acts.QuitSearch alone tt tt
+      acts_same (SeesNames d ks x.user) (λ v. state_turn v x.state byte) x new (searching s (told (Says Silent) z)) (is ∙ ap (λ (h : Sought). searching (search_for place (Find h)) (told (Says Silent) z)) same) refl (λ bs. refl) b byte_acts.QuitSearch alone tt tt
       (λ v sees. comes y place f byte v g step.Quits ascii read) refl (λ wants. cc) (λ wants. cc) (λ h. cc)
 
   -- or does a step, with this half read
   abbrev state_read : Held → model.State
-  state_read h = record (state_of (reading h x).state) { echo = Silent }
+  state_read h = record (state_of (reading h x).state) { echo = Says Silent }
 
-  steps_on : (h : Held) (k : SearchStep) → ((v : View) → state_turn v x.state byte ≡ Do (record (state_read h) { mode = Searching g.direction g.failing; input = g.pattern }) (Run (Seek (SearchOn g.direction k)) None g.pattern)) → new ≡ searching r (told Silent (reading h (unsearched y)))
+  steps_on : (h : Held) (k : SearchStep) → ((v : View) → state_turn v x.state byte ≡ Do (record (state_read h) { mode = Searching g.direction g.failing; input = g.pattern }) (Run (Seek (SearchOn g.direction k)) None g.pattern)) → new ≡ searching r (told (Says Silent) (reading h (unsearched y)))
       → IsByteStep d ks (searching s (unsearched y)) new byte b (Acts (byte_acts.Seek k))
   steps_on h k turn is =
-      acts_same (SeesNames d ks x.user) (λ v. state_turn v x.state byte) x new (searching r (told Silent (reading h z))) is refl (λ bs. refl) b (byte_acts.Seek k) alone refl tt (λ v sees. turn v) refl (λ wants. cc) (λ wants. cc) (λ h. cc)
+      acts_same (SeesNames d ks x.user) (λ v. state_turn v x.state byte) x new (searching r (told (Says Silent) (reading h z))) is refl (λ bs. refl) b (byte_acts.Seek k) alone refl tt (λ v sees. turn v) refl (λ wants. cc) (λ wants. cc) (λ h. cc)
 
   sought_on : (k : SearchStep) → (k ≡ step.Ends → ⊥) → (k ≡ step.Quits → ⊥) → (k ≡ step.Leaves → ⊥) → sought_turn state byte g k ≡ Do (record state { mode = Searching g.direction g.failing; input = g.pattern }) (Run (Seek (SearchOn g.direction k)) None g.pattern)
   sought_on step.Ends ends quits leaves = absurd (ends refl)
@@ -155,19 +156,19 @@ module _ (d : Directory) (ks : List MarkedBuffer) (y new : Session) (place : Sea
   sought_on _ ends quits leaves = refl
 
   -- as a byte of ASCII asks
-  pub search_on : (k : SearchStep) → is_character_byte y.state.keyboard.keys byte ≡ false → (k ≡ step.Ends → ⊥) → (k ≡ step.Quits → ⊥) → (k ≡ step.Leaves → ⊥) → read_byte y.state.pattern f byte ≡ (g, k) → new ≡ searching r (told Silent (unsearched y)) → IsByteStep d ks (searching s (unsearched y)) new byte b (Acts (byte_acts.Seek k))
+  pub search_on : (k : SearchStep) → is_character_byte y.state.keyboard.keys byte ≡ false → (k ≡ step.Ends → ⊥) → (k ≡ step.Quits → ⊥) → (k ≡ step.Leaves → ⊥) → read_byte y.state.pattern f byte ≡ (g, k) → new ≡ searching r (told (Says Silent) (unsearched y)) → IsByteStep d ks (searching s (unsearched y)) new byte b (Acts (byte_acts.Seek k))
   search_on k ascii ends quits leaves read is = steps_on y.state.keyboard k (λ v. comes y place f byte v g k ascii read ∙ sought_on k ends quits leaves) is
 
   -- or a character with its last byte
-  pub search_puts : (c : ℕ) (k : SearchStep) → is_character_byte y.state.keyboard.keys byte ≡ true → character_read y.state.keyboard.keys byte ≡ Whole c → k ≡ step.FromAnchor → g ≡ record f { pattern = lengthened f.pattern c } → new ≡ searching r (told Silent (reading nothing_held (unsearched y)))
+  pub search_puts : (c : ℕ) (k : SearchStep) → is_character_byte y.state.keyboard.keys byte ≡ true → character_read y.state.keyboard.keys byte ≡ Whole c → k ≡ step.FromAnchor → g ≡ record f { pattern = lengthened f.pattern c } → new ≡ searching r (told (Says Silent) (reading nothing_held (unsearched y)))
       → IsByteStep d ks (searching s (unsearched y)) new byte b (Acts (byte_acts.Seek k))
   search_puts c k is read seeks put held =
       rw seeks (steps_on nothing_held step.FromAnchor (λ v. comes_past y place f byte v (Whole c) is read ∙ sym (ap (λ (q : Sought). sought_turn (used state) byte q step.FromAnchor) put)) held)
 
   -- more of its bytes are to come
-  pub search_reads : is_character_byte y.state.keyboard.keys byte ≡ true → character_read y.state.keyboard.keys byte ≡ Begun → new ≡ searching s (told Silent (reading (held_character y.state.keyboard byte Begun) (unsearched y))) → IsByteStep d ks (searching s (unsearched y)) new byte b Kept
+  pub search_reads : is_character_byte y.state.keyboard.keys byte ≡ true → character_read y.state.keyboard.keys byte ≡ Begun → new ≡ searching s (told (Says Silent) (reading (held_character y.state.keyboard byte Begun) (unsearched y))) → IsByteStep d ks (searching s (unsearched y)) new byte b Kept
   search_reads is read held =
-      kept_same (SeesNames d ks x.user) (λ v. state_turn v x.state byte) x new (searching s (told Silent (reading (held_character y.state.keyboard byte Begun) z))) held refl (λ bs. refl) alone (λ v sees. comes_past y place f byte v Begun is read) refl
+      kept_same (SeesNames d ks x.user) (λ v. state_turn v x.state byte) x new (searching s (told (Says Silent) (reading (held_character y.state.keyboard byte Begun) z))) held refl (λ bs. refl) alone (λ v sees. comes_past y place f byte v Begun is read) refl
 
   -- or there is none, which is told
   pub search_breaks : is_character_byte y.state.keyboard.keys byte ≡ true → character_read y.state.keyboard.keys byte ≡ Broken → new ≡ unbound (searching s (reading nothing_held (unsearched y))) → IsByteStep d ks (searching s (unsearched y)) new byte b Kept

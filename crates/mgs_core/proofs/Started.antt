@@ -12,7 +12,8 @@ use Rattle.mgs_model.specs.Apply.{act, applied, apply, change_first, outcome_in,
 use Rattle.mgs_model.specs.Events.{act_effects, effect_in, state_set, saved_by, with_state}
 use Rattle.mgs_model.specs.declared.entry.Decision.{Decision}
 use Rattle.mgs_model.specs.declared.entry.Decision.TheVariants.{Granted}
-use Rattle.mgs_model.specs.declared.echo_text.Message.TheVariants.{Denied, NoBuffer}
+use Rattle.mgs_model.specs.declared.echo_text.Message.TheVariants.{Says, Denied}
+use Rattle.mgs_model.specs.declared.echo_text.Notice.TheVariants.{NoBuffer}
 use Rattle.mgs_model.specs.declared.search.Direction.{Direction}
 use Rattle.mgs_model.specs.declared.session.Command.TheVariants.{Seek}
 use Rattle.mgs_model.specs.declared.session.Seeking.TheVariants.{StartSearch}
@@ -70,7 +71,7 @@ module _ (w : World) (id : ℕ) (o : State) (d : Direction) (n : Option ℕ) (x 
       in ap (λ (ys : List Session). record w { sessions = ys }) (once s ∙ sym (once None))
 
   blind_seeks : (t : Option Target) → IsBlind (seeks state t (λ (t : Target). seek (StartSearch d) (text_in t.buffer.full) (around_search (seen None).session [] t)))
-  blind_seeks None = blind (failed_state NoBuffer state) Keep_kill Stay (λ s y. refl)
+  blind_seeks None = blind (failed_state (Says NoBuffer) state) Keep_kill Stay (λ s y. refl)
   blind_seeks (Some t) =
       let place : ℕ = acts_at t.window.positions (size_told t.buffer.told) in
       let f : SearchFinish = record { point = Keep_position; sought = Begin t.buffer.name place place; mode = Keep_mode } in

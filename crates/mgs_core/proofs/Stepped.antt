@@ -15,7 +15,8 @@ use Rattle.mgs_model.specs.Plans.{acted_state, count_of, kind_failed, setting}
 use Rattle.mgs_model.specs.Turns.{Turn, Keep, Do, command_turn, plays}
 use Rattle.mgs_model.specs.Events.{refused_state}
 use Rattle.mgs_model.specs.declared.echo_text.Message.{Message}
-use Rattle.mgs_model.specs.declared.echo_text.Message.TheVariants.{InMacro, NoMacro, TooMany}
+use Rattle.mgs_model.specs.declared.echo_text.Message.TheVariants.{Says}
+use Rattle.mgs_model.specs.declared.echo_text.Notice.TheVariants.{InMacro, NoMacro, TooMany}
 use Rattle.mgs_model.specs.declared.session.Command.{Command}
 use Rattle.mgs_model.specs.declared.session.Command.TheVariants.{Set, Exit}
 use Rattle.mgs_model.specs.declared.session.Setting.TheVariants.{CallMacro}
@@ -116,16 +117,16 @@ none_stays old new none bs =
 -- WHERE A MACRO IS CALLED
 
 -- it cannot be played, which breaks a run of commands
-refused_of : (ok : model.State) (message : Message) (a b c : Bool) → cond a (Some InMacro) (cond b (Some NoMacro) (cond c (Some TooMany) None)) ≡ Some message
-    → (let r : Result model.State Message = cond a (Err InMacro) (cond b (Err NoMacro) (cond c (Err TooMany) (Ok ok))) in r ≡ Err message) × ((k : Kind) → kind_failed message k ≡ Other)
-refused_of ok message true b c e = let same : InMacro ≡ message = cc in (cc, λ k. ap (λ (m : Message). kind_failed m k) (sym same))
-refused_of ok message false true c e = let same : NoMacro ≡ message = cc in (cc, λ k. ap (λ (m : Message). kind_failed m k) (sym same))
-refused_of ok message false false true e = let same : TooMany ≡ message = cc in (cc, λ k. ap (λ (m : Message). kind_failed m k) (sym same))
+refused_of : (ok : model.State) (message : Message) (a b c : Bool) → cond a (Some (Says InMacro)) (cond b (Some (Says NoMacro)) (cond c (Some (Says TooMany)) None)) ≡ Some message
+    → (let r : Result model.State Message = cond a (Err (Says InMacro)) (cond b (Err (Says NoMacro)) (cond c (Err (Says TooMany)) (Ok ok))) in r ≡ Err message) × ((k : Kind) → kind_failed message k ≡ Other)
+refused_of ok message true b c e = let same : (Says InMacro) ≡ message = cc in (cc, λ k. ap (λ (m : Message). kind_failed m k) (sym same))
+refused_of ok message false true c e = let same : (Says NoMacro) ≡ message = cc in (cc, λ k. ap (λ (m : Message). kind_failed m k) (sym same))
+refused_of ok message false false true e = let same : (Says TooMany) ≡ message = cc in (cc, λ k. ap (λ (m : Message). kind_failed m k) (sym same))
 refused_of ok message false false false e = cc
 
 -- or it can, where none plays
-allowed_of : (ok : model.State) (r a b c : Bool) → (let f : Option Message = cond (r || a) (Some InMacro) (cond b (Some NoMacro) (cond c (Some TooMany) None)) in f ≡ None)
-    → (a ≡ false) × (c ≡ false) × (let s : Result model.State Message = cond (r || a) (Err InMacro) (cond b (Err NoMacro) (cond c (Err TooMany) (Ok ok))) in s ≡ Ok ok)
+allowed_of : (ok : model.State) (r a b c : Bool) → (let f : Option Message = cond (r || a) (Some (Says InMacro)) (cond b (Some (Says NoMacro)) (cond c (Some (Says TooMany)) None)) in f ≡ None)
+    → (a ≡ false) × (c ≡ false) × (let s : Result model.State Message = cond (r || a) (Err (Says InMacro)) (cond b (Err (Says NoMacro)) (cond c (Err (Says TooMany)) (Ok ok))) in s ≡ Ok ok)
 allowed_of ok true a b c e = cc
 allowed_of ok false true b c e = cc
 allowed_of ok false false true c e = cc
@@ -206,15 +207,15 @@ step_without_act Sees comes mine a p Left Mine o x new b e same is less stay (Ac
 
 -- it fails
 module _ (Sees : View → Type 0) (comes : View → Turn) (x new : Session) (c : Command) (n : Option ℕ) (turn : (v : View) → Sees v → comes v ≡ command_turn (state_of (resting x).state) n c) where
-  exit_failed : c ≡ Exit → x.state.player.playing ≡ true → new ≡ failed InMacro (resting x) → StepFailed Sees comes x.state.player.playing x new
+  exit_failed : c ≡ Exit → x.state.player.playing ≡ true → new ≡ failed (Says InMacro) (resting x) → StepFailed Sees comes x.state.player.playing x new
   exit_failed is plays told =
       let state : model.State = state_of (resting x).state in
       rw told (record {
         state = refl;
-        stays = none_stays x.state (failed InMacro (resting x)).state refl;
+        stays = none_stays x.state (failed (Says InMacro) (resting x)).state refl;
         before = state;
         act = Run Exit n [];
-        message = InMacro;
+        message = Says InMacro;
         turn = λ v sees. turn v sees ∙ ap (command_turn state n) is;
         playing = refl;
         fails = λ v k seen. exit_fails v n true (ap (λ (o : model.State). o.playing) seen ∙ plays);
@@ -306,8 +307,8 @@ pub command_step : (Sees : View → Type 0) (comes : View → Turn) (x new : Ses
 command_step Sees comes x new c n b Kept turn bound alone again search s = call_kept Sees comes x new c n turn (is_call_of c s.0) alone s.1
 command_step Sees comes x new c n b Failed turn bound alone again search s = by c refl s.fault
   where
-    exit_told : (b : Bool) (message : Message) → cond b (Some InMacro) None ≡ Some message → (b ≡ true) × (message ≡ InMacro)
-    exit_told true message e = let same : InMacro ≡ message = cc in (refl, sym same)
+    exit_told : (b : Bool) (message : Message) → cond b (Some (Says InMacro)) None ≡ Some message → (b ≡ true) × (message ≡ (Says InMacro))
+    exit_told true message e = let same : (Says InMacro) ≡ message = cc in (refl, sym same)
     exit_told false message e = cc
 
     by : (k : Command) → c ≡ k → fault_of (resting x).state k n ≡ Some s.message → StepFailed Sees comes x.state.player.playing x new

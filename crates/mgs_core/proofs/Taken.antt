@@ -33,7 +33,8 @@ use Rattle.mgs_model.specs.declared.session.Kind.{Kind}
 use Rattle.mgs_model.specs.declared.errors.Keyed.TheVariants as keyed
 use Rattle.mgs_model.specs.declared.touched.Touched.{Touched}
 use Rattle.mgs_model.specs.declared.touched.Touched.TheVariants.{Nowhere}
-use Rattle.mgs_model.specs.declared.echo_text.Message.TheVariants.{NoMemory}
+use Rattle.mgs_model.specs.declared.echo_text.Message.TheVariants.{Says}
+use Rattle.mgs_model.specs.declared.echo_text.Notice.TheVariants.{NoMemory}
 use Rattle.mgs_laws.proofs.Apart.{apart_state}
 use Rattle.mgs_mini.proofs.Completions.{shown_names_of}
 use Rattle.mgs_laws.proofs.Ends.{act_fails}
@@ -194,7 +195,7 @@ module _ (ks ls : List MarkedBuffer) (kind : Kind) (playing : Bool) (x z : Sessi
   abbrev restored : Option model.Search → Option Search → Option PromptInput → List ℕ → model.Session → model.Session
   restored found s p pattern w = record w {
     search = found;
-    state = record w.state { echo = NoMemory; pattern = pattern; argument = None; keys = keys_in s [] p; kind = kind; mode = mode_in s p; input = input_in s p; old = old_in s p; count = count_in s; playing = playing; todo = [] };
+    state = record w.state { echo = Says NoMemory; pattern = pattern; argument = None; keys = keys_in s [] p; kind = kind; mode = mode_in s p; input = input_in s p; old = old_in s p; count = count_in s; playing = playing; todo = [] };
   }
 
   keys_alike : keys_in z.state.search [] z.state.prompt ≡ keys_in x.state.search [] x.state.prompt
@@ -207,7 +208,7 @@ module _ (ks ls : List MarkedBuffer) (kind : Kind) (playing : Bool) (x z : Sessi
   refused_alike befores.Plain = ap (λ (w : model.Session). restored None None None w.state.pattern w) same
   refused_alike (befores.Prompt p) = ap (λ (w : model.Session). restored None None (Some p) w.state.pattern w) same
   refused_alike (befores.Search s last) = λ i. restored (search_of (texts i) (Some s)) (Some s) None last (same i)
-  refused_alike befores.Held = λ i. record (same i) { state = record (same i).state { echo = NoMemory; argument = None; keys = keys_alike i; kind = kind; playing = playing; todo = [] } }
+  refused_alike befores.Held = λ i. record (same i) { state = record (same i).state { echo = Says NoMemory; argument = None; keys = keys_alike i; kind = kind; playing = playing; todo = [] } }
 
 -- the session is told so, where an act left the world as it was
 pub refused_in_world : (d : Directory) (ks ls : List MarkedBuffer) (xs zs : List Session) (next : Option ℕ) (at : ℕ) (x z r : Session) (b : Before) → at < length zs → slice_get xs at ≡ Some x → z ≡ get_or zs at z → r ≡ refused b z

@@ -13,7 +13,8 @@ use Rattle.mgs_model.specs.declared.session.Command.TheVariants as commands
 use Rattle.mgs_model.specs.declared.session.Mode.TheVariants.{Replacing}
 use Rattle.mgs_model.specs.Plans.{failed_state}
 use Rattle.mgs_model.specs.Turns.{Turn, Keep, Do, byte_turn, first_played, todo_turn}
-use Rattle.mgs_model.specs.declared.echo_text.Message.TheVariants.{Silent}
+use Rattle.mgs_model.specs.declared.echo_text.Message.TheVariants.{Says}
+use Rattle.mgs_model.specs.declared.echo_text.Notice.TheVariants.{Silent}
 use Rattle.mgs_model.specs.declared.session.Kind.{Kind}
 use Rattle.mgs_model.specs.declared.session.Kind.TheVariants.{Other}
 use Rattle.mgs_buffers.specs.MarkedBuffer.{MarkedBuffer}
@@ -149,8 +150,8 @@ module _ (d : Directory) (ks : List MarkedBuffer) (x y new : Session) (taken : y
   comes_of byte v = state_turn v (playing_as y.state.player x).state byte
 
   -- what comes of a byte, whether it was typed or a macro's
-  byte_comes : (byte : ℕ) (playing : Bool) (v : View) → y.state.player.playing ≡ playing → byte_turn v (record (state_of x.state) { echo = Silent; playing = playing; todo = y.state.player.todo }) byte (mode_in x.state.search x.state.prompt) ≡ comes_of byte v
-  byte_comes byte playing v is = sym (ap (λ (b : Bool). byte_turn v (record (state_of x.state) { echo = Silent; playing = b; todo = y.state.player.todo }) byte (mode_in x.state.search x.state.prompt)) is)
+  byte_comes : (byte : ℕ) (playing : Bool) (v : View) → y.state.player.playing ≡ playing → byte_turn v (record (state_of x.state) { echo = Says Silent; playing = playing; todo = y.state.player.todo }) byte (mode_in x.state.search x.state.prompt) ≡ comes_of byte v
+  byte_comes byte playing v is = sym (ap (λ (b : Bool). byte_turn v (record (state_of x.state) { echo = Says Silent; playing = b; todo = y.state.player.todo }) byte (mode_in x.state.search x.state.prompt)) is)
 
   pub typed_turn : (byte : ℕ) (b : ModeBefore) (step : ByteStep) → IsNext (tasks.Typed byte) x.state.player y.state.player → IsByteStep d ks y new byte b step → IsTurnStep d ks x new b step
   typed_turn byte b step next s =

@@ -12,7 +12,8 @@ use Rattle.mgs_model.specs.Events.{opened}
 use Rattle.mgs_model.specs.declared.errors.Keyed.{Keyed}
 use Rattle.mgs_model.specs.declared.errors.Keyed.TheVariants as keyed
 use Rattle.mgs_model.specs.declared.errors.Short.{Short}
-use Rattle.mgs_model.specs.declared.echo_text.Message.TheVariants.{Silent}
+use Rattle.mgs_model.specs.declared.echo_text.Message.TheVariants.{Says}
+use Rattle.mgs_model.specs.declared.echo_text.Notice.TheVariants.{Silent}
 use Rattle.mgs_model.specs.declared.touched.Touched.{Touched}
 use Rattle.mgs_buffers.specs.MarkedBuffer.{MarkedBuffer}
 use Rattle.mgs_plan.specs.Actions.{act_of}
@@ -107,7 +108,7 @@ pub record StateAlone (at : ℕ) (ks ls : List MarkedBuffer) (xs ys : List Sessi
 pub record IsBare (o : State) : Type 0 where
   pub search : o.search ≡ None
   pub prompt : o.prompt ≡ None
-  pub echo : o.echo ≡ Silent
+  pub echo : o.echo ≡ (Says Silent)
 
 -- what its screen shows of the session of an id is as it was, and so is all else but what it holds
 abbrev pub StaysStill : {T : Type 0} → ℕ → code.World T → code.World T → Type 0

@@ -5,7 +5,8 @@ use Rattle.mgs_model.specs.World.{World}
 use Rattle.mgs_model.specs.Outcome.{Act, Run, Unbound}
 use Rattle.mgs_model.specs.Commands.{command_for}
 use Rattle.mgs_model.specs.Events.{with_state}
-use Rattle.mgs_model.specs.declared.echo_text.Message.TheVariants.{NoMemory, Silent}
+use Rattle.mgs_model.specs.declared.echo_text.Message.TheVariants.{Says}
+use Rattle.mgs_model.specs.declared.echo_text.Notice.TheVariants.{NoMemory, Silent}
 use Rattle.mgs_model.specs.declared.session.Command.TheVariants as commands
 use Rattle.mgs_model.specs.declared.session.Command.TheVariants.{LeaveSearch, Seek}
 use Rattle.mgs_model.specs.declared.session.Mode.{Mode}
@@ -157,7 +158,7 @@ pattern_before _ pattern = pattern
 abbrev pub state_before : ModeBefore → State → State
 state_before b state =
     record state {
-      echo = Silent;
+      echo = Says Silent;
       keyboard = nothing_held;
       search = search_before b state.search;
       prompt = prompt_before b state.prompt;
@@ -168,7 +169,7 @@ state_before b state =
 abbrev pub refused : Before → Session → Session
 refused b x =
     let again : Session = record x { state = state_before b.mode x.state } in
-    playing_as (record { playing = b.is_playing; todo = [] }) (told NoMemory (acted b.kind again))
+    playing_as (record { playing = b.is_playing; todo = [] }) (told (Says NoMemory) (acted b.kind again))
 
 -- the act that is due
 abbrev pub act_due : model.State → Due → Act

@@ -16,7 +16,8 @@ use Rattle.mgs_model.specs.declared.errors.Keyed.TheVariants.{Done, Quit}
 use Rattle.mgs_model.specs.declared.touched.Touched.{Touched}
 use Rattle.mgs_model.specs.declared.touched.Touched.TheVariants.{Anywhere, Nowhere}
 use Rattle.mgs_model.specs.declared.echo_text.Message.{Message}
-use Rattle.mgs_model.specs.declared.echo_text.Message.TheVariants.{InMacro, NoMacro, NoSuchCommand, TooMany}
+use Rattle.mgs_model.specs.declared.echo_text.Message.TheVariants.{Says}
+use Rattle.mgs_model.specs.declared.echo_text.Notice.TheVariants.{InMacro, NoMacro, NoSuchCommand, TooMany}
 use Rattle.mgs_model.specs.declared.session.Command.{Command}
 use Rattle.mgs_model.specs.declared.session.Command.TheVariants.{Set, Exit}
 use Rattle.mgs_model.specs.declared.session.Question.{Question}
@@ -188,14 +189,14 @@ is_call _ = false
 -- why a macro cannot be played so many times
 abbrev pub call_fault : State → Option ℕ → Option Message
 call_fault o n =
-    if o.recorder.recording || o.player.playing then Some InMacro
-    else if length o.recorder.macro == 0 then Some NoMacro
-    else if nat_lt REPETITION_LIMIT (count_of n) then Some TooMany
+    if o.recorder.recording || o.player.playing then Some (Says InMacro)
+    else if length o.recorder.macro == 0 then Some (Says NoMacro)
+    else if nat_lt REPETITION_LIMIT (count_of n) then Some (Says TooMany)
     else None
 
 -- why a command fails whose turn the server takes itself
 abbrev pub fault_of : State → Command → Option ℕ → Option Message
-fault_of o Exit n = cond o.player.playing (Some InMacro) None
+fault_of o Exit n = cond o.player.playing (Some (Says InMacro)) None
 fault_of o (Set CallMacro) n = call_fault o n
 fault_of o _ n = None
 
@@ -231,7 +232,7 @@ is_keyed (Acts byte_act) = is_act byte_act
 -- prompt is what was there before
 
 abbrev pub IsNamedStep : Session → Session → PromptInput → ModeBefore → Option Command → ByteStep → Type 0
-IsNamedStep old new p b None step = (step ≡ Kept) × (new ≡ failed NoSuchCommand old)
+IsNamedStep old new p b None step = (step ≡ Kept) × (new ≡ failed (Says NoSuchCommand) old)
 IsNamedStep old new p b (Some c) step = (is_bound c ≡ true) × (b ≡ befores.Prompt p) × IsCommandStep (resting old) new c (value_of old.state.keyboard.argument) step
 
 -- the second question is asked, where the first was answered so

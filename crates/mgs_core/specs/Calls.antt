@@ -5,7 +5,8 @@ use Rattle.mgs_model.specs.World.{World, Buffer, Session, State, has_id, find_se
 use Rattle.mgs_laws.specs.Apart.{may_differ}
 use Rattle.mgs_model.specs.Apply.{remove_first}
 use Rattle.mgs_model.specs.declared.echo_text.Message.{Message}
-use Rattle.mgs_model.specs.declared.echo_text.Message.TheVariants.{Silent}
+use Rattle.mgs_model.specs.declared.echo_text.Message.TheVariants.{Says}
+use Rattle.mgs_model.specs.declared.echo_text.Notice.TheVariants.{Silent}
 use Rattle.mgs_model.specs.declared.touched.Touched.{Touched}
 use Rattle.mgs_model.specs.Events.{Open, Byte, step, can_open, open_fault, event_saves, with_state}
 use Rattle.mgs_laws.specs.Refusals.{refused_act, may_be_refused}
@@ -73,7 +74,7 @@ user_in None = None
 user_in (Some x) = Some x.user
 
 abbrev pub echo_in : Option Session → Message
-echo_in None = Silent
+echo_in None = Says Silent
 echo_in (Some x) = x.state.echo
 
 -- WHAT MAY DIFFER after an event of a session that touched this: the screen of the session at a place

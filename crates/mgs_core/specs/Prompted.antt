@@ -7,7 +7,8 @@ use Rattle.mgs_model.specs.Completion.{completion}
 use Rattle.mgs_mini.specs.Narrowing.{granted_names}
 use Rattle.mgs_model.specs.Commands.{command_names, names_buffers, names_commands}
 use Rattle.mgs_model.specs.Turns.{Turn, byte_turn, completed}
-use Rattle.mgs_model.specs.declared.echo_text.Message.TheVariants.{Silent}
+use Rattle.mgs_model.specs.declared.echo_text.Message.TheVariants.{Says}
+use Rattle.mgs_model.specs.declared.echo_text.Notice.TheVariants.{Silent}
 use Rattle.mgs_model.specs.declared.session.Question.{Question}
 use Rattle.mgs_buffers.specs.MarkedBuffer.{MarkedBuffer}
 use Rattle.mgs_mini.specs.Typing.{PromptInput}
@@ -22,7 +23,7 @@ names_for directory user ks c = cond (names_buffers c) (granted_names directory 
 
 -- what a byte comes to: each empties the echo line first
 abbrev pub state_turn : View → State → ℕ → Turn
-state_turn v state byte = byte_turn v (record (state_of state) { echo = Silent }) byte (mode_in state.search state.prompt)
+state_turn v state byte = byte_turn v (record (state_of state) { echo = Says Silent }) byte (mode_in state.search state.prompt)
 
 -- what a session holds whose prompt was to be completed
 abbrev pub state_completed : Directory → List MarkedBuffer → PromptInput → Session → model.State

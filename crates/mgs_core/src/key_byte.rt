@@ -9,7 +9,7 @@ ghost use Rattle.mgs_core.specs.ByteSteps.{IsAlone, IsByteStep, IsCommandStep, c
 
 use crate::byte_acts::ByteAct;
 use mgs_maps::Fed;
-use mgs_model::{Command, Message, Motion, Question, REPETITION_LIMIT, Setting};
+use mgs_model::{Command, Message, Motion, Notice, Question, REPETITION_LIMIT, Setting};
 use mgs_plan::{KeyAct, counted};
 use mgs_session::{Session, call_macro, fail, hold, rest};
 
@@ -91,13 +91,13 @@ fn call_fault(session: &Session, argument: Option<u32>) -> Option<Message>
 {
     let bytes = session.state.recorder.as_slice();
     if session.state.recorder.is_recording() || session.state.player.is_playing() {
-        return Some(Message::InMacro);
+        return Some(Message::Says(Notice::InMacro));
     }
     if bytes.is_empty() {
-        return Some(Message::NoMacro);
+        return Some(Message::Says(Notice::NoMacro));
     }
     if times(argument) > REPETITION_LIMIT {
-        return Some(Message::TooMany);
+        return Some(Message::Says(Notice::TooMany));
     }
     None
 }
@@ -128,7 +128,7 @@ pub fn step_command(session: &mut Session, command: Command, argument: Option<u3
         return ByteStep::Acts(ByteAct::Act(command_act(command, argument)));
     }
     if session.state.player.is_playing() {
-        fail(session, Message::InMacro);
+        fail(session, Message::Says(Notice::InMacro));
         return ByteStep::Failed;
     }
     ByteStep::Ends

@@ -27,7 +27,7 @@ use mgs_buffers::Buffers;
 use mgs_cache::Judge;
 use mgs_maps::Keyboard;
 use mgs_marks::Marked;
-use mgs_model::{Keyed, Kind, Message, SessionId, Short, Touched};
+use mgs_model::{Keyed, Kind, Message, Notice, SessionId, Short, Touched};
 use mgs_policy::Directory;
 use mgs_session::{Pending, Session, begin, break_off, next_task, rest, set_echo, set_kind};
 use mgs_store::Store;
@@ -138,7 +138,7 @@ fn return_to(session: &mut Session, before: ModeBefore)
             session.state.pattern = last;
         }
         ModeBefore::Held => {
-            set_echo(session, Message::Silent);
+            set_echo(session, Message::Says(Notice::Silent));
             session.state.keyboard = Keyboard::new();
         }
     }
@@ -151,7 +151,7 @@ fn refuse(session: &mut Session, was: &mut Before)
     return_to(session, mem::replace(&mut was.mode, ModeBefore::Plain));
     set_kind(session, was.kind);
     session.state.player.set_playing(was.is_playing);
-    break_off(session, Message::NoMemory);
+    break_off(session, Message::Says(Notice::NoMemory));
 }
 
 /// Forgets what was decided, where an act may have changed an owner, an owning group, an access list or which buffers there are.
@@ -348,7 +348,7 @@ fn is_bare(session: &Session) -> bool
         return false;
     }
     match session.state.echo {
-        Message::Silent => true,
+        Message::Says(Notice::Silent) => true,
         _ => false,
     }
 }

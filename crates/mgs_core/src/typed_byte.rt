@@ -14,7 +14,8 @@ ghost use Rattle.mgs_session.specs.Seeking.{searching, unsearched};
 ghost use Rattle.mgs_session.specs.declared.search.Aim.TheVariants.{Find, Replace};
 ghost use Rattle.mgs_session.specs.Playing.{are_played, replacing_all};
 ghost use Rattle.mgs_model.specs.Commands.{find_command};
-ghost use Rattle.mgs_model.specs.declared.echo_text.Message.TheVariants.{Replaced, Silent};
+ghost use Rattle.mgs_model.specs.declared.echo_text.Message.TheVariants.{Says, Replaced};
+ghost use Rattle.mgs_model.specs.declared.echo_text.Notice.TheVariants.{Silent};
 ghost use Rattle.mgs_session.specs.Sessions.{playing_as, prompting, told, unbound, unprompted};
 ghost use Rattle.mgs_world.specs.Worlds.{state_of};
 ghost use Rattle.mgs_core.specs.Prompted.{names_for, state_completed};
@@ -29,7 +30,7 @@ use mgs_cache::Judge;
 use mgs_maps::{command_named, name_completion};
 use mgs_marks::Marked;
 use mgs_mini::{Prompt, Step};
-use mgs_model::{Message, Name, Question, SearchStep, Sequence, TYPED_LIMIT};
+use mgs_model::{Message, Name, Notice, Question, SearchStep, Sequence, TYPED_LIMIT};
 use mgs_policy::Directory;
 use mgs_search::IncrementalSearch;
 use mgs_session::{
@@ -72,7 +73,7 @@ fn hold_completed(session: &mut Session, prompt: Prompt, completes: bool)
 {
     hold_prompt(session, prompt);
     if !completes {
-        set_echo(session, Message::NoMatch);
+        set_echo(session, Message::Says(Notice::NoMatch));
     }
 }
 
@@ -102,7 +103,7 @@ fn step_name(session: &mut Session, prompt: Prompt, before: &mut ModeBefore) -> 
 {
     let argument = session.state.keyboard.argument();
     let Some(command) = command_named(prompt.input()) else {
-        fail(session, Message::NoSuchCommand);
+        fail(session, Message::Says(Notice::NoSuchCommand));
         return ByteStep::Kept;
     };
     rest(session);
@@ -166,7 +167,7 @@ fn step_prompt<T: Marked + Drop>(
             ByteStep::Kept
         }
         Step::Quit => {
-            fail(session, Message::Quitting);
+            fail(session, Message::Says(Notice::Quitting));
             ByteStep::Kept
         }
         Step::Unbound => {
@@ -225,9 +226,9 @@ fn search_for(place: SearchPlace, aim: Aim) -> Search
 
 /// Holds a search that goes on, and empties the echo line.
 fn hold_on(session: &mut Session, place: SearchPlace, aim: Aim)
-    ensures { session.new ≡ searching (search_for place aim) (told Silent session.old) }
+    ensures { session.new ≡ searching (search_for place aim) (told (Says Silent) session.old) }
 {
-    set_echo(session, Message::Silent);
+    set_echo(session, Message::Says(Notice::Silent));
     hold_search(session, search_for(place, aim));
 }
 
@@ -418,7 +419,7 @@ fn step_replace(
             ByteStep::Kept
         }
         ReplaceKey::Quits => {
-            fail(session, Message::Quitting);
+            fail(session, Message::Says(Notice::Quitting));
             ByteStep::Kept
         }
         ReplaceKey::Other => {

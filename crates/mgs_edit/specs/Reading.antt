@@ -7,7 +7,8 @@ use Rattle.mgs_model.specs.Plans as model
 use Rattle.mgs_model.specs.World.{Item}
 use Rattle.mgs_model.specs.declared.limits.TheConstants.{TEXT_LIMIT}
 use Rattle.mgs_model.specs.declared.echo_text.Message.{Message}
-use Rattle.mgs_model.specs.declared.echo_text.Message.TheVariants.{Silent}
+use Rattle.mgs_model.specs.declared.echo_text.Message.TheVariants.{Says}
+use Rattle.mgs_model.specs.declared.echo_text.Notice.TheVariants.{Silent}
 use Rattle.mgs_model.specs.declared.session.Kind.{Kind}
 use Rattle.mgs_model.specs.declared.session.Kind.TheVariants.{Other, Kill}
 use Rattle.mgs_fill.specs.Rewriting.{cased}
@@ -99,7 +100,7 @@ edit_read text kill (Err message) = Err message
 
 -- a finish that moves the point and nothing else
 abbrev pub gone : ℕ → Finish
-gone p = record { point = To p; mark = None; top = None; kill = None; kind = Other; told = Silent }
+gone p = record { point = To p; mark = None; top = None; kill = None; kind = Other; told = Says Silent }
 
 -- it comes in at a position, and the point goes behind it; or the mark is set too
 abbrev pub coming : ℕ → Put → Change

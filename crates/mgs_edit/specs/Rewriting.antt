@@ -9,7 +9,8 @@ use Rattle.mgs_fill.specs.declared.rewrite.Written.{Written}
 use Rattle.mgs_fill.specs.declared.rewrite.Written.TheVariants as written
 use Rattle.mgs_model.specs.Plans.{alteration}
 use Rattle.mgs_model.specs.declared.echo_text.Message.{Message}
-use Rattle.mgs_model.specs.declared.echo_text.Message.TheVariants.{Silent}
+use Rattle.mgs_model.specs.declared.echo_text.Message.TheVariants.{Says}
+use Rattle.mgs_model.specs.declared.echo_text.Notice.TheVariants.{Silent}
 use Rattle.mgs_model.specs.declared.session.Alteration.{Alteration}
 use Rattle.mgs_model.specs.declared.session.Kind.TheVariants.{Other}
 use Rattle.mgs_edit.specs.Reading.{IsChange}
@@ -37,7 +38,7 @@ goes_for (points.To p) = To p
 goes_for points.Behind = Behind
 
 abbrev pub finish_for : Point → Finish
-finish_for p = record { point = goes_for p; mark = None; top = None; kill = None; kind = Other; told = Silent }
+finish_for p = record { point = goes_for p; mark = None; top = None; kill = None; kind = Other; told = Says Silent }
 
 abbrev pub changed : Rewrite → Change
 changed r = record { from = r.from; to = r.to; put = put_for r.from r.to r.written; finish = finish_for r.point }

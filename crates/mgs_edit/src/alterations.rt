@@ -12,7 +12,7 @@ use mgs_fill::{
     join_line, just_one_space,
 };
 use mgs_lines::{backward_word, forward_word, kill_line_end};
-use mgs_model::{Alteration, Kind, Message};
+use mgs_model::{Alteration, Kind, Message, Notice};
 use mgs_text::Text;
 
 /// The characters between two positions are taken out, and the point stands where they were.
@@ -50,7 +50,7 @@ fn delete_char<T: Text>(text: &T, around: &Around) -> Result<Change, Message>
 {
     let size = text.len();
     if is_at_end(around, size) {
-        return Err(Message::EndOfBuffer);
+        return Err(Message::Says(Notice::EndOfBuffer));
     }
     let times = times(around);
     if times > size - around.place {
@@ -65,7 +65,7 @@ fn delete_backward_char<T: Text>(text: &T, around: &Around) -> Result<Change, Me
     ensures within { (kill : List ℕ) → IfOk result (ChangeWithin (T.text text.now) kill) }
 {
     if is_at_start(around) {
-        return Err(Message::BeginningOfBuffer);
+        return Err(Message::Says(Notice::BeginningOfBuffer));
     }
     Ok(deletion(around.place.saturating_sub(times(around)), around.place))
 }
@@ -82,7 +82,7 @@ fn kill_line<T: Text>(text: &T, around: &Around) -> Result<Change, Message>
         return Ok(kill(start, at, joins_in_front(around.kind)));
     }
     if is_at_end(around, text.len()) {
-        return Err(Message::EndOfBuffer);
+        return Err(Message::Says(Notice::EndOfBuffer));
     }
     let end = kill_line_end(text, at, around.argument);
     Ok(kill(at, end, joins_behind(around.kind)))
@@ -94,7 +94,7 @@ fn kill_to_word_end<T: Text>(text: &T, around: &Around) -> Result<Change, Messag
     ensures within { (kill : List ℕ) → IfOk result (ChangeWithin (T.text text.now) kill) }
 {
     if is_at_end(around, text.len()) {
-        return Err(Message::EndOfBuffer);
+        return Err(Message::Says(Notice::EndOfBuffer));
     }
     let end = forward_word(text, around.place, times(around));
     Ok(kill(around.place, end, joins_behind(around.kind)))
@@ -106,7 +106,7 @@ fn kill_to_word_start<T: Text>(text: &T, around: &Around) -> Result<Change, Mess
     ensures within { (kill : List ℕ) → IfOk result (ChangeWithin (T.text text.now) kill) }
 {
     if is_at_start(around) {
-        return Err(Message::BeginningOfBuffer);
+        return Err(Message::Says(Notice::BeginningOfBuffer));
     }
     let start = backward_word(text, around.place, times(around));
     Ok(kill(start, around.place, joins_in_front(around.kind)))
@@ -119,7 +119,7 @@ fn kill_region<T: Text>(text: &T, around: &Around) -> Result<Change, Message>
     ensures within { (kill : List ℕ) → IfOk result (ChangeWithin (T.text text.now) kill) }
 {
     match around.mark {
-        None => Err(Message::NoMark),
+        None => Err(Message::Says(Notice::NoMark)),
         Some(mark) => Ok(kill(
             mark.min(around.place),
             mark.max(around.place),
@@ -135,7 +135,7 @@ fn transpose_chars<T: Text>(text: &T, around: &Around) -> Result<Change, Message
 {
     let at = exchanged_at(text, around.place);
     if at == 0 {
-        return Err(Message::BeginningOfBuffer);
+        return Err(Message::Says(Notice::BeginningOfBuffer));
     }
     Ok(Change {
         from: at - 1,

@@ -8,7 +8,7 @@ ghost use Rattle.mgs_edit.specs.Reading.{ChangeWithin, coming, marked, IsChange,
 use crate::around::{goes, times};
 use crate::plan::{Around, Change, Finish, Goes, Put, STAYS};
 use mgs_lines::{indent_end, line_start};
-use mgs_model::{Insertion, Message, ReadingInsertion};
+use mgs_model::{Insertion, Message, Notice, ReadingInsertion};
 use mgs_text::Text;
 
 /// So much is put in at a position, and the point goes behind it.
@@ -56,7 +56,7 @@ pub fn insertion(size: usize, around: &Around, command: Insertion) -> Result<Cha
             finish: goes(at),
             ..put_in(at, Put::Character { put: '\n', times })
         }),
-        Insertion::Yank if around.killed == 0 => Err(Message::NothingToYank),
+        Insertion::Yank if around.killed == 0 => Err(Message::Says(Notice::NothingToYank)),
         Insertion::Yank => Ok(yank(at, times)),
     }
 }

@@ -11,7 +11,7 @@ use mgs_lines::{
     backward_paragraph, backward_word, column, column_place, forward_paragraph, forward_word,
     is_first_line, is_last_line, line_end, line_start, lines_down, lines_up,
 };
-use mgs_model::{CursorPosition, Kind, Message, Motion};
+use mgs_model::{CursorPosition, Kind, Message, Motion, Notice};
 use mgs_text::Text;
 
 fn forward_char<T: Text>(text: &T, around: &Around) -> Result<Finish, Message>
@@ -21,7 +21,7 @@ fn forward_char<T: Text>(text: &T, around: &Around) -> Result<Finish, Message>
 {
     let size = text.len();
     if is_at_end(around, size) {
-        return Err(Message::EndOfBuffer);
+        return Err(Message::Says(Notice::EndOfBuffer));
     }
     let times = times(around);
     if times > size - around.place {
@@ -36,7 +36,7 @@ fn backward_char<T: Text>(text: &T, around: &Around) -> Result<Finish, Message>
     ensures within { IfOk result (FinishWithin (length (T.text text.now)) (length (T.text text.now))) }
 {
     if is_at_start(around) {
-        return Err(Message::BeginningOfBuffer);
+        return Err(Message::Says(Notice::BeginningOfBuffer));
     }
     Ok(goes(around.place.saturating_sub(times(around))))
 }
@@ -76,7 +76,7 @@ fn next_line<T: Text>(text: &T, around: &Around) -> Result<Finish, Message>
 {
     let times = times(around);
     if is_last_line(text, around.place) && times > 0 {
-        return Err(Message::EndOfBuffer);
+        return Err(Message::Says(Notice::EndOfBuffer));
     }
     let start = lines_down(text, around.place, times);
     Ok(lined(text, around, start))
@@ -90,7 +90,7 @@ fn previous_line<T: Text>(text: &T, around: &Around) -> Result<Finish, Message>
 {
     let times = times(around);
     if is_first_line(text, around.place) && times > 0 {
-        return Err(Message::BeginningOfBuffer);
+        return Err(Message::Says(Notice::BeginningOfBuffer));
     }
     let start = lines_up(text, around.place, times);
     Ok(lined(text, around, start))
@@ -102,7 +102,7 @@ fn to_word_end<T: Text>(text: &T, around: &Around) -> Result<Finish, Message>
     ensures within { IfOk result (FinishWithin (length (T.text text.now)) (length (T.text text.now))) }
 {
     if is_at_end(around, text.len()) {
-        return Err(Message::EndOfBuffer);
+        return Err(Message::Says(Notice::EndOfBuffer));
     }
     Ok(goes(forward_word(text, around.place, times(around))))
 }
@@ -113,7 +113,7 @@ fn to_word_start<T: Text>(text: &T, around: &Around) -> Result<Finish, Message>
     ensures within { IfOk result (FinishWithin (length (T.text text.now)) (length (T.text text.now))) }
 {
     if is_at_start(around) {
-        return Err(Message::BeginningOfBuffer);
+        return Err(Message::Says(Notice::BeginningOfBuffer));
     }
     Ok(goes(backward_word(text, around.place, times(around))))
 }
@@ -124,7 +124,7 @@ fn to_paragraph_end<T: Text>(text: &T, around: &Around) -> Result<Finish, Messag
     ensures within { IfOk result (FinishWithin (length (T.text text.now)) (length (T.text text.now))) }
 {
     if is_at_end(around, text.len()) {
-        return Err(Message::EndOfBuffer);
+        return Err(Message::Says(Notice::EndOfBuffer));
     }
     Ok(goes(forward_paragraph(text, around.place, times(around))))
 }
@@ -135,7 +135,7 @@ fn to_paragraph_start<T: Text>(text: &T, around: &Around) -> Result<Finish, Mess
     ensures within { IfOk result (FinishWithin (length (T.text text.now)) (length (T.text text.now))) }
 {
     if is_at_start(around) {
-        return Err(Message::BeginningOfBuffer);
+        return Err(Message::Says(Notice::BeginningOfBuffer));
     }
     Ok(goes(backward_paragraph(text, around.place, times(around))))
 }
@@ -181,7 +181,7 @@ fn exchange_point_and_mark<T: Text>(text: &T, around: &Around) -> Result<Finish,
     ensures within { IfOk result (FinishWithin (length (T.text text.now)) (length (T.text text.now))) }
 {
     match around.mark {
-        None => Err(Message::NoMark),
+        None => Err(Message::Says(Notice::NoMark)),
         Some(mark) => Ok(Finish {
             mark: Some(around.place),
             ..goes(mark)
@@ -196,7 +196,7 @@ fn copy_region<T: Text>(text: &T, around: &Around) -> Result<Finish, Message>
     ensures within { IfOk result (FinishWithin (length (T.text text.now)) (length (T.text text.now))) }
 {
     match around.mark {
-        None => Err(Message::NoMark),
+        None => Err(Message::Says(Notice::NoMark)),
         Some(mark) => Ok(Finish {
             kill: Some(Piece {
                 from: mark.min(around.place),
@@ -215,7 +215,7 @@ fn go_to_line<T: Text>(text: &T, around: &Around) -> Result<Finish, Message>
     ensures within { IfOk result (FinishWithin (length (T.text text.now)) (length (T.text text.now))) }
 {
     match around.argument {
-        None => Err(Message::NotANumber),
+        None => Err(Message::Says(Notice::NotANumber)),
         Some(line) => Ok(goes(lines_down(text, 0, line.saturating_sub(1)))),
     }
 }
@@ -247,7 +247,7 @@ pub fn motion<T: Text>(text: &T, around: &Around, command: Motion) -> Result<Fin
         Motion::WhatCursorPosition => what_cursor_position(text, around),
         Motion::SetMark => Ok(Finish {
             mark: Some(around.place),
-            told: Message::MarkSet,
+            told: Message::Says(Notice::MarkSet),
             ..STAYS
         }),
         Motion::ExchangePointAndMark => exchange_point_and_mark(text, around),

@@ -1,6 +1,6 @@
 // What a planner is given, and the plan that it answers.
 use mgs_fill::Case;
-use mgs_model::{Kind, Message};
+use mgs_model::{Kind, Message, Notice};
 
 /// What a planner is given beside the text.
 #[derive(Clone, Copy, PartialEq, Eq)]
@@ -161,5 +161,5 @@ pub(crate) const STAYS: Finish = Finish {
     top: None,
     kill: None,
     kind: Kind::Other,
-    told: Message::Silent,
+    told: Message::Says(Notice::Silent),
 };

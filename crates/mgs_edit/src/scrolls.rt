@@ -8,7 +8,7 @@ ghost use Rattle.mgs_edit.specs.Reading.{surrounded, FinishWithin, IsMotion};
 use crate::around::goes;
 use crate::plan::{Around, Finish};
 use mgs_lines::{is_first_line, is_last_line, lines_down, lines_up};
-use mgs_model::{Message, Scrolling};
+use mgs_model::{Message, Notice, Scrolling};
 use mgs_text::Text;
 
 /// The greatest top row of a listing or an access list.
@@ -31,7 +31,7 @@ fn scroll_up<T: Text>(text: &T, around: &Around) -> Result<Finish, Message>
 {
     let lines = lines(around);
     if is_last_line(text, around.place) && lines > 0 {
-        return Err(Message::EndOfBuffer);
+        return Err(Message::Says(Notice::EndOfBuffer));
     }
     Ok(goes(lines_down(text, around.place, lines)))
 }
@@ -43,7 +43,7 @@ fn scroll_down<T: Text>(text: &T, around: &Around) -> Result<Finish, Message>
 {
     let lines = lines(around);
     if is_first_line(text, around.place) && lines > 0 {
-        return Err(Message::BeginningOfBuffer);
+        return Err(Message::Says(Notice::BeginningOfBuffer));
     }
     Ok(goes(lines_up(text, around.place, lines)))
 }

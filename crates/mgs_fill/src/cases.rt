@@ -6,7 +6,7 @@ ghost use Rattle.mgs_fill.specs.Rewriting.{cased, IsWithin, IsRewrite, RewriteWi
 
 use crate::rewrite::{Case, Given, Point, Rewrite, Written};
 use mgs_lines::forward_word;
-use mgs_model::Message;
+use mgs_model::{Message, Notice};
 use mgs_text::Text;
 
 /// How often a command acts: its argument, or once.
@@ -34,7 +34,7 @@ pub fn case_words<T: Text>(text: &T, given: &Given, case: Case) -> Result<Rewrit
     ensures within { IfOk result (RewriteWithin (T.text text.now)) }
 {
     if is_at_end(given, text.len()) {
-        return Err(Message::EndOfBuffer);
+        return Err(Message::Says(Notice::EndOfBuffer));
     }
     let from = given.place;
     let to = forward_word(text, from, times(given.argument));
@@ -54,7 +54,7 @@ pub fn case_region<T: Text>(text: &T, given: &Given, case: Case) -> Result<Rewri
     ensures within { IfOk result (RewriteWithin (T.text text.now)) }
 {
     match given.mark {
-        None => Err(Message::NoMark),
+        None => Err(Message::Says(Notice::NoMark)),
         Some(mark) => {
             let from = mark.min(given.place);
             let to = mark.max(given.place);

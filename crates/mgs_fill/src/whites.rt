@@ -10,7 +10,7 @@ use crate::rewrite::{Given, Point, Rewrite, Written};
 use mgs_lines::{
     blanks_end, blanks_start, is_blank_at, line_end, line_start, white_end, white_start,
 };
-use mgs_model::Message;
+use mgs_model::{Message, Notice};
 use mgs_text::Text;
 
 /// A stretch that goes, with the point where it was.
@@ -92,7 +92,7 @@ pub fn join_line<T: Text>(text: &T, given: &Given) -> Result<Rewrite, Message>
 {
     let start = line_start(text, given.place);
     if start == 0 {
-        return Err(Message::BeginningOfBuffer);
+        return Err(Message::Says(Notice::BeginningOfBuffer));
     }
     Ok(joined(text, start))
 }

@@ -13,4 +13,4 @@ pub mod Panes
 pub mod Edited
 pub mod RowSets
 pub mod Taken
-pub mod Fixed
+pub mod Notices

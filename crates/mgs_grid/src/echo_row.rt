@@ -1,7 +1,7 @@
 // The texts of the echo line: what came of a command.
-ghost use Rattle.std.specs.Prelude.{◌≡◌, ◌+◌, ◌<◌, ◌≤◌, ◌^◌, ◌++◌, codes, false};
+ghost use Rattle.std.specs.Prelude.{◌≡◌, ◌+◌, ◌<◌, ◌≤◌, ◌^◌, ◌++◌, codes};
 ghost use Rattle.mgs_model.specs.Rights.{right_name};
-ghost use Rattle.mgs_model.specs.Messages.{denial_text, fault_name, is_fixed, message_text, position_text};
+ghost use Rattle.mgs_model.specs.Messages.{denial_text, fault_name, message_text, position_text};
 ghost use Rattle.mgs_grid.specs.Cells.{Wrote};
 
 use crate::cells::{put_bytes, put_decimal, put_name};
@@ -66,13 +66,14 @@ fn put_position(row: &mut [char], column: usize, at: &CursorPosition) -> usize
     put_decimal(row, at_column, at.column)
 }
 
-// Writes the echo text of a message that tells what came of a command, and tells the column after it.
-fn put_told(row: &mut [char], message: &Message) -> usize
-    requires told { is_fixed message.now ≡ false }
+/// Writes an echo text from column 0 on, and tells the column after it, at most 160.
+#[tactic(auto, using(crate::proofs::Notices::notice_plain, crate::proofs::Notices::notice_short))]
+pub(crate) fn put_message(row: &mut [char], message: &Message) -> usize
     ensures wrote { Wrote row.old 0 (message_text message.now) row.new result }
     ensures few { result ≤ 160 }
 {
     match *message {
+        Message::Says(notice) => put_bytes(row, 0, notice.text()),
         Message::Denied(decision) => put_denial(row, decision),
         Message::CharacterAt(character, at) => {
             let at_code = put_bytes(row, 0, b"char ");
@@ -92,18 +93,5 @@ fn put_told(row: &mut [char], message: &Message) -> usize
             let at = put_bytes(row, 0, b"Replaced ");
             put_decimal(row, at, count)
         }
-        _ => unreachable!(),
-    }
-}
-
-/// Writes an echo text from column 0 on, and tells the column after it, at most 160.
-#[tactic(auto, using(crate::proofs::Fixed::fixed_plain, crate::proofs::Fixed::fixed_short, crate::proofs::Fixed::fixed_is, crate::proofs::Fixed::told))]
-pub(crate) fn put_message(row: &mut [char], message: &Message) -> usize
-    ensures wrote { Wrote row.old 0 (message_text message.now) row.new result }
-    ensures few { result ≤ 160 }
-{
-    match message.fixed_text() {
-        Some(text) => put_bytes(row, 0, text),
-        None => put_told(row, message),
     }
 }

@@ -6,7 +6,8 @@ use Rattle.mgs_model.specs.Cells.{glyph}
 use Rattle.mgs_model.specs.Outcome.{PointPlan, Keep_position, At}
 use Rattle.mgs_model.specs.Plans.{Around, Change, alteration}
 use Rattle.mgs_model.specs.declared.echo_text.Message.{Message}
-use Rattle.mgs_model.specs.declared.echo_text.Message.TheVariants.{BeginningOfBuffer, EndOfBuffer, NoMark}
+use Rattle.mgs_model.specs.declared.echo_text.Message.TheVariants.{Says}
+use Rattle.mgs_model.specs.declared.echo_text.Notice.TheVariants.{BeginningOfBuffer, EndOfBuffer, NoMark}
 use Rattle.mgs_model.specs.declared.session.Kind.TheVariants.{Other}
 use Rattle.mgs_model.specs.declared.session.Alteration.{Alteration}
 use Rattle.mgs_model.specs.declared.session.Alteration.TheVariants.{UpcaseWord, DowncaseWord, CapitalizeWord, UpcaseRegion, DowncaseRegion, JustOneSpace, DeleteHorizontalSpace, DeleteBlankLines, JoinLine, FillParagraph}
@@ -55,7 +56,7 @@ capitals : altered CapitalizeWord (codes "  oNE 1tWO, x") 0 (Some 9999) None ≡
 capitals = refl
 
 -- at the end it fails, but not no times
-no_words : altered UpcaseWord (codes "ab") 2 None None ≡ Err EndOfBuffer
+no_words : altered UpcaseWord (codes "ab") 2 None None ≡ Err (Says EndOfBuffer)
 no_words = refl
 
 no_times : altered CapitalizeWord (codes "ab") 2 (Some 0) None ≡ gives (codes "ab") 2
@@ -68,7 +69,7 @@ region_up = refl
 region_down : altered DowncaseRegion (codes "ABCD") 1 None (Some 3) ≡ gives (codes "AbcD") 1
 region_down = refl
 
-no_mark : altered DowncaseRegion (codes "ABCD") 1 None None ≡ Err NoMark
+no_mark : altered DowncaseRegion (codes "ABCD") 1 None None ≡ Err (Says NoMark)
 no_mark = refl
 
 -- WHITE
@@ -102,7 +103,7 @@ one_blank = refl
 joined : altered JoinLine (codes "a " ++ 10 ∷ codes "  b") 4 None None ≡ gives (codes "a b") 1
 joined = refl
 
-not_joined : altered JoinLine (codes "a b") 3 None None ≡ Err BeginningOfBuffer
+not_joined : altered JoinLine (codes "a b") 3 None None ≡ Err (Says BeginningOfBuffer)
 not_joined = refl
 
 -- FILLING: ten columns; a long word stands alone, and lines around the paragraph stay

@@ -9,7 +9,8 @@ use Rattle.mgs_model.specs.Commands.{find_command, command_names}
 use Rattle.mgs_model.specs.Completion.{completion}
 use Rattle.mgs_model.specs.Turns.{next}
 use Rattle.mgs_model.specs.Events.{turns, most_turns, path}
-use Rattle.mgs_model.specs.declared.echo_text.Message.TheVariants.{Silent, Denied, NoBuffer, NoMatch, NoSuchCommand, NotANumber, BadEntry, NoSuchEntry, ListFull, NoSuchUser, NoSuchGroup}
+use Rattle.mgs_model.specs.declared.echo_text.Message.TheVariants.{Says, Denied, BadEntry}
+use Rattle.mgs_model.specs.declared.echo_text.Notice.TheVariants.{Silent, NoBuffer, NoMatch, NoSuchCommand, NotANumber, NoSuchEntry, ListFull, NoSuchUser, NoSuchGroup}
 use Rattle.mgs_model.specs.declared.session.Command.TheVariants.{Move, Alter, Rearrange, Ask, Entries, ListEntries}
 use Rattle.mgs_model.specs.declared.session.Motion.TheVariants.{BufferEnd, GoToLine}
 use Rattle.mgs_model.specs.declared.session.Alteration.TheVariants.{KillWord}
@@ -57,12 +58,12 @@ killed_by_name : kill (doing (notes (codes "one two")) (C (Alter KillWord) None 
 unfolding turns path most_turns outcome next key_read find_command
 killed_by_name = refl
 
-not_named : echo (doing (notes []) (C (Ask RunWhich) None ∷ answer (codes "newlines"))) ≡ Some NoSuchCommand
+not_named : echo (doing (notes []) (C (Ask RunWhich) None ∷ answer (codes "newlines"))) ≡ Some (Says NoSuchCommand)
 unfolding turns path most_turns outcome next key_read find_command
 not_named = refl
 
 -- a row without a name has none
-nameless : echo (doing (notes []) (C (Ask RunWhich) None ∷ B 13 ∷ [])) ≡ Some NoSuchCommand
+nameless : echo (doing (notes []) (C (Ask RunWhich) None ∷ B 13 ∷ [])) ≡ Some (Says NoSuchCommand)
 unfolding turns path most_turns outcome next key_read find_command
 nameless = refl
 
@@ -81,7 +82,7 @@ in_common : completion command_names (codes "newl") ≡ Some (codes "newline")
 unfolding command_names
 in_common = refl
 
-no_name_so : echo (doing (notes []) (C (Ask RunWhich) None ∷ B 122 ∷ B 9 ∷ [])) ≡ Some NoMatch
+no_name_so : echo (doing (notes []) (C (Ask RunWhich) None ∷ B 122 ∷ B 9 ∷ [])) ≡ Some (Says NoMatch)
 unfolding turns path most_turns outcome next key_read find_command command_names
 no_name_so = refl
 
@@ -112,7 +113,7 @@ line_typed : points (doing lines (C (Move GoToLine) None ∷ answer (codes "0000
 unfolding turns path most_turns outcome next key_read
 line_typed = refl
 
-no_number : (echo (doing lines (C (Move GoToLine) None ∷ answer (codes "x"))) ≡ Some NotANumber) × (echo (doing lines (C (Move GoToLine) None ∷ answer (codes "00000002"))) ≡ Some NotANumber) × (echo (doing lines (C (Move GoToLine) None ∷ B 13 ∷ [])) ≡ Some NotANumber)
+no_number : (echo (doing lines (C (Move GoToLine) None ∷ answer (codes "x"))) ≡ Some (Says NotANumber)) × (echo (doing lines (C (Move GoToLine) None ∷ answer (codes "00000002"))) ≡ Some (Says NotANumber)) × (echo (doing lines (C (Move GoToLine) None ∷ B 13 ∷ [])) ≡ Some (Says NotANumber))
 unfolding turns path most_turns outcome next key_read
 no_number = (refl, refl, refl)
 
@@ -155,7 +156,7 @@ put_behind : entries (doing (listed 0) (asked_for EntryToInsert (Some 2) (codes 
 unfolding turns path most_turns outcome next key_read
 put_behind = refl
 
-no_place : (echo (doing (listed 0) (asked_for EntryToInsert (Some 3) (codes "ALLOW ann r"))) ≡ Some NoSuchEntry) × (echo (doing (listed 0) (asked_for EntryToInsert (Some 0) (codes "ALLOW ann r"))) ≡ Some NoSuchEntry)
+no_place : (echo (doing (listed 0) (asked_for EntryToInsert (Some 3) (codes "ALLOW ann r"))) ≡ Some (Says NoSuchEntry)) × (echo (doing (listed 0) (asked_for EntryToInsert (Some 0) (codes "ALLOW ann r"))) ≡ Some (Says NoSuchEntry))
 unfolding turns path most_turns outcome next key_read
 no_place = (refl, refl)
 
@@ -164,7 +165,7 @@ no_letters : echo (doing (listed 0) (asked_for EntryToInsert (Some 9) (codes "AL
 unfolding turns path most_turns outcome next key_read
 no_letters = refl
 
-no_room : (echo (doing (listed 63) (asked_for EntryToInsert (Some 65) (codes "ALLOW ann r"))) ≡ Some ListFull) × (echo (doing (listed 63) (asked_for EntryToInsert (Some 66) (codes "ALLOW ann r"))) ≡ Some NoSuchEntry)
+no_room : (echo (doing (listed 63) (asked_for EntryToInsert (Some 65) (codes "ALLOW ann r"))) ≡ Some (Says ListFull)) × (echo (doing (listed 63) (asked_for EntryToInsert (Some 66) (codes "ALLOW ann r"))) ≡ Some (Says NoSuchEntry))
 unfolding turns path most_turns outcome next key_read
 no_room = (refl, refl)
 
@@ -178,7 +179,7 @@ taken_out : entries (doing (listed 0) (C (Entries DeleteEntry) None ∷ [])) ≡
 unfolding turns path most_turns outcome next key_read
 taken_out = refl
 
-none_to_take : echo (doing (listed 0) (C (Entries DeleteEntry) (Some 2) ∷ [])) ≡ Some NoSuchEntry
+none_to_take : echo (doing (listed 0) (C (Entries DeleteEntry) (Some 2) ∷ [])) ≡ Some (Says NoSuchEntry)
 unfolding turns path most_turns outcome next key_read
 none_to_take = refl
 
@@ -187,7 +188,7 @@ put_in_place : map (λ (es : List Entry). take 2 es) (entries (doing (listed 63)
 unfolding turns path most_turns outcome next key_read
 put_in_place = refl
 
-no_such_place : (echo (doing (listed 0) (asked_for EntryToReplace (Some 2) (codes "ALLOW ann r"))) ≡ Some NoSuchEntry) × (echo (doing (listed 0) (asked_for EntryToReplace (Some 2) [])) ≡ Some (BadEntry Kind))
+no_such_place : (echo (doing (listed 0) (asked_for EntryToReplace (Some 2) (codes "ALLOW ann r"))) ≡ Some (Says NoSuchEntry)) × (echo (doing (listed 0) (asked_for EntryToReplace (Some 2) [])) ≡ Some (BadEntry Kind))
 unfolding turns path most_turns outcome next key_read
 no_such_place = (refl, refl)
 
@@ -215,7 +216,7 @@ changed_where_shown : entries (doing (listed 0) (C ListEntries None ∷ C (Entri
 unfolding turns path most_turns outcome next key_read
 changed_where_shown = refl
 
-nothing_listed : echo (doing (listed 0) (C (Rearrange ListBuffers) None ∷ C ListEntries None ∷ [])) ≡ Some NoBuffer
+nothing_listed : echo (doing (listed 0) (C (Rearrange ListBuffers) None ∷ C ListEntries None ∷ [])) ≡ Some (Says NoBuffer)
 unfolding turns path most_turns outcome next key_read
 nothing_listed = refl
 
@@ -228,11 +229,11 @@ new_owner : owners (doing (listed 0) (asked_for WhichOwner None (codes "bob"))) 
 unfolding turns path most_turns outcome next key_read
 new_owner = refl
 
-no_owner : echo (doing (listed 0) (asked_for WhichOwner None (codes "eve"))) ≡ Some NoSuchUser
+no_owner : echo (doing (listed 0) (asked_for WhichOwner None (codes "eve"))) ≡ Some (Says NoSuchUser)
 unfolding turns path most_turns outcome next key_read
 no_owner = refl
 
-same_owner : (echo (doing (listed 0) (asked_for WhichOwner None (codes "ann"))) ≡ Some Silent) × (owners (doing (listed 0) (asked_for WhichOwner None (codes "ann"))) ≡ codes "ann" ∷ [])
+same_owner : (echo (doing (listed 0) (asked_for WhichOwner None (codes "ann"))) ≡ Some (Says Silent)) × (owners (doing (listed 0) (asked_for WhichOwner None (codes "ann"))) ≡ codes "ann" ∷ [])
 unfolding turns path most_turns outcome next key_read
 same_owner = (refl, refl)
 
@@ -251,17 +252,17 @@ new_group : groups (doing (staffed None (owned ∷ [])) (asked_for WhichGroup No
 unfolding turns path most_turns outcome next key_read
 new_group = refl
 
-no_group : echo (doing (staffed None (owned ∷ [])) (asked_for WhichGroup None (codes "zzz"))) ≡ Some NoSuchGroup
+no_group : echo (doing (staffed None (owned ∷ [])) (asked_for WhichGroup None (codes "zzz"))) ≡ Some (Says NoSuchGroup)
 unfolding turns path most_turns outcome next key_read
 no_group = refl
 
 -- a user's name is no group's
-user_is_no_group : echo (doing (staffed None (owned ∷ [])) (asked_for WhichGroup None (codes "bob"))) ≡ Some NoSuchGroup
+user_is_no_group : echo (doing (staffed None (owned ∷ [])) (asked_for WhichGroup None (codes "bob"))) ≡ Some (Says NoSuchGroup)
 unfolding turns path most_turns outcome next key_read
 user_is_no_group = refl
 
 -- an empty answer means none
-group_taken : (echo (doing (staffed (Some (codes "staff")) (owned ∷ [])) (asked_for WhichGroup None [])) ≡ Some Silent) × (groups (doing (staffed (Some (codes "staff")) (owned ∷ [])) (asked_for WhichGroup None [])) ≡ None ∷ [])
+group_taken : (echo (doing (staffed (Some (codes "staff")) (owned ∷ [])) (asked_for WhichGroup None [])) ≡ Some (Says Silent)) × (groups (doing (staffed (Some (codes "staff")) (owned ∷ [])) (asked_for WhichGroup None [])) ≡ None ∷ [])
 unfolding turns path most_turns outcome next key_read
 group_taken = (refl, refl)
 

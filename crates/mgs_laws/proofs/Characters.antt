@@ -12,7 +12,8 @@ use Rattle.mgs_model.specs.Commands.{find_command}
 use Rattle.mgs_model.specs.Turns.{next}
 use Rattle.mgs_model.specs.Events.{Open, step, turns, most_turns, path}
 use Rattle.mgs_model.specs.declared.search.Direction.TheVariants.{Forward}
-use Rattle.mgs_model.specs.declared.echo_text.Message.TheVariants.{Silent, Denied, BadName, BadEntry, KeyNotBound, NoBuffer, NoMatch, NoMemory, NotANumber, Quitting}
+use Rattle.mgs_model.specs.declared.echo_text.Message.TheVariants.{Says, Denied, BadEntry}
+use Rattle.mgs_model.specs.declared.echo_text.Notice.TheVariants.{Silent, BadName, KeyNotBound, NoBuffer, NoMatch, NoMemory, NotANumber, Quitting}
 use Rattle.mgs_model.specs.declared.entry.EntryFault.TheVariants.{Who}
 use Rattle.mgs_model.specs.declared.session.Mode.TheVariants.{Plain, Prompt, Searching, Replacing}
 use Rattle.mgs_model.specs.declared.session.Command.TheVariants.{Ask, Seek, Set}
@@ -44,22 +45,22 @@ unfolding turns path most_turns outcome next key_read sequence_read is_utf8 char
 put_behind = (refl, refl, refl, refl)
 
 -- a byte that cannot go on with it, or begins none, is told, and what was typed before stays
-broken : (echo (asked (97 ∷ 0xC3 ∷ 65 ∷ [])) ≡ Some KeyNotBound) × (input (asked (97 ∷ 0xC3 ∷ 65 ∷ 98 ∷ [])) ≡ Some (codes "ab")) × (echo (asked (97 ∷ 0xFF ∷ [])) ≡ Some KeyNotBound) × (modes (asked (97 ∷ 0xFF ∷ [])) ≡ Some (Prompt SwitchTo)) × (input (asked (97 ∷ 0xC3 ∷ 13 ∷ 98 ∷ [])) ≡ Some (codes "ab"))
+broken : (echo (asked (97 ∷ 0xC3 ∷ 65 ∷ [])) ≡ Some (Says KeyNotBound)) × (input (asked (97 ∷ 0xC3 ∷ 65 ∷ 98 ∷ [])) ≡ Some (codes "ab")) × (echo (asked (97 ∷ 0xFF ∷ [])) ≡ Some (Says KeyNotBound)) × (modes (asked (97 ∷ 0xFF ∷ [])) ≡ Some (Prompt SwitchTo)) × (input (asked (97 ∷ 0xC3 ∷ 13 ∷ 98 ∷ [])) ≡ Some (codes "ab"))
 unfolding turns path most_turns outcome next key_read sequence_read is_utf8 chars encode_utf8 utf8_valid_len utf8_error_len
 broken = (refl, refl, refl, refl, refl)
 
 -- behind ESC and M-[ no character begins
-behind_escape : (echo (asked (27 ∷ 0xC3 ∷ [])) ≡ Some KeyNotBound) × (echo (asked (27 ∷ 91 ∷ 0xC3 ∷ [])) ≡ Some KeyNotBound) × (held (asked (27 ∷ 91 ∷ 27 ∷ 0xC3 ∷ [])) ≡ Some []) × (modes (asked (27 ∷ 0xC3 ∷ [])) ≡ Some (Prompt SwitchTo))
+behind_escape : (echo (asked (27 ∷ 0xC3 ∷ [])) ≡ Some (Says KeyNotBound)) × (echo (asked (27 ∷ 91 ∷ 0xC3 ∷ [])) ≡ Some (Says KeyNotBound)) × (held (asked (27 ∷ 91 ∷ 27 ∷ 0xC3 ∷ [])) ≡ Some []) × (modes (asked (27 ∷ 0xC3 ∷ [])) ≡ Some (Prompt SwitchTo))
 unfolding turns path most_turns outcome next key_read sequence_read is_utf8 chars encode_utf8 utf8_valid_len utf8_error_len
 behind_escape = (refl, refl, refl, refl)
 
 -- C-g quits the prompt also within a character
-quit : (echo (asked (97 ∷ 0xC3 ∷ 7 ∷ [])) ≡ Some Quitting) × (modes (asked (97 ∷ 0xC3 ∷ 7 ∷ [])) ≡ Some Plain) × (held (asked (97 ∷ 0xC3 ∷ 7 ∷ [])) ≡ Some [])
+quit : (echo (asked (97 ∷ 0xC3 ∷ 7 ∷ [])) ≡ Some (Says Quitting)) × (modes (asked (97 ∷ 0xC3 ∷ 7 ∷ [])) ≡ Some Plain) × (held (asked (97 ∷ 0xC3 ∷ 7 ∷ [])) ≡ Some [])
 unfolding turns path most_turns outcome next key_read sequence_read is_utf8 chars encode_utf8 utf8_valid_len utf8_error_len
 quit = (refl, refl, refl)
 
 -- what has such a character is no name, no beginning of one, no number and no entry
-no_name : (echo (asked (0xC3 ∷ 0xA9 ∷ 13 ∷ [])) ≡ Some BadName) × (echo (asked (0xC3 ∷ 0xA9 ∷ 9 ∷ [])) ≡ Some NoMatch) × (echo (doing (notes []) (C (Ask GoToWhich) None ∷ typed (49 ∷ 0xC3 ∷ 0xA9 ∷ 13 ∷ []))) ≡ Some NotANumber) × (echo (doing (notes []) (C (Ask EntryToInsert) None ∷ typed (codes "ALLOW " ++ 0xC3 ∷ 0xA9 ∷ codes " r" ++ 13 ∷ []))) ≡ Some (BadEntry Who))
+no_name : (echo (asked (0xC3 ∷ 0xA9 ∷ 13 ∷ [])) ≡ Some (Says BadName)) × (echo (asked (0xC3 ∷ 0xA9 ∷ 9 ∷ [])) ≡ Some (Says NoMatch)) × (echo (doing (notes []) (C (Ask GoToWhich) None ∷ typed (49 ∷ 0xC3 ∷ 0xA9 ∷ 13 ∷ []))) ≡ Some (Says NotANumber)) × (echo (doing (notes []) (C (Ask EntryToInsert) None ∷ typed (codes "ALLOW " ++ 0xC3 ∷ 0xA9 ∷ codes " r" ++ 13 ∷ []))) ≡ Some (BadEntry Who))
 unfolding turns path most_turns outcome next key_read sequence_read is_utf8 chars encode_utf8 utf8_valid_len utf8_error_len
 no_name = (refl, refl, refl, refl)
 
@@ -69,7 +70,7 @@ unfolding turns path most_turns outcome next key_read sequence_read is_utf8 char
 found_once = refl
 
 -- a play stops there, and the prompt stays
-stopped : (input (doing (notes []) (C (Ask SwitchTo) None ∷ [])) ≡ Some []) × (modes (doing (notes []) (M (24 ∷ 98 ∷ 97 ∷ 0xC3 ∷ 65 ∷ 98 ∷ []) ∷ X 101 (Set CallMacro) (Some 2) ∷ [])) ≡ Some (Prompt SwitchTo)) × (input (doing (notes []) (M (24 ∷ 98 ∷ 97 ∷ 0xC3 ∷ 65 ∷ 98 ∷ []) ∷ X 101 (Set CallMacro) (Some 2) ∷ [])) ≡ Some (codes "a")) × (echo (doing (notes []) (M (24 ∷ 98 ∷ 97 ∷ 0xC3 ∷ 65 ∷ 98 ∷ []) ∷ X 101 (Set CallMacro) (Some 2) ∷ [])) ≡ Some KeyNotBound)
+stopped : (input (doing (notes []) (C (Ask SwitchTo) None ∷ [])) ≡ Some []) × (modes (doing (notes []) (M (24 ∷ 98 ∷ 97 ∷ 0xC3 ∷ 65 ∷ 98 ∷ []) ∷ X 101 (Set CallMacro) (Some 2) ∷ [])) ≡ Some (Prompt SwitchTo)) × (input (doing (notes []) (M (24 ∷ 98 ∷ 97 ∷ 0xC3 ∷ 65 ∷ 98 ∷ []) ∷ X 101 (Set CallMacro) (Some 2) ∷ [])) ≡ Some (codes "a")) × (echo (doing (notes []) (M (24 ∷ 98 ∷ 97 ∷ 0xC3 ∷ 65 ∷ 98 ∷ []) ∷ X 101 (Set CallMacro) (Some 2) ∷ [])) ≡ Some (Says KeyNotBound))
 unfolding turns path most_turns outcome next key_read sequence_read is_utf8 chars encode_utf8 utf8_valid_len utf8_error_len
 stopped = (refl, refl, refl, refl)
 
@@ -84,12 +85,12 @@ unfolding turns path most_turns outcome next key_read sequence_read is_utf8 char
 found = (refl, refl, refl, refl, refl)
 
 -- what cannot go on ends nothing
-search_stays : (echo (sought (97 ∷ 0xC3 ∷ 13 ∷ [])) ≡ Some KeyNotBound) × (modes (sought (97 ∷ 0xC3 ∷ 13 ∷ [])) ≡ Some (Searching Forward false)) × (lines (sought (97 ∷ 0xC3 ∷ 13 ∷ 0xC3 ∷ 0xA9 ∷ [])) ≡ Some (Some (codes "I-search: aé"))) × (echo (sought (97 ∷ 0x80 ∷ [])) ≡ Some KeyNotBound)
+search_stays : (echo (sought (97 ∷ 0xC3 ∷ 13 ∷ [])) ≡ Some (Says KeyNotBound)) × (modes (sought (97 ∷ 0xC3 ∷ 13 ∷ [])) ≡ Some (Searching Forward false)) × (lines (sought (97 ∷ 0xC3 ∷ 13 ∷ 0xC3 ∷ 0xA9 ∷ [])) ≡ Some (Some (codes "I-search: aé"))) × (echo (sought (97 ∷ 0x80 ∷ [])) ≡ Some (Says KeyNotBound))
 unfolding turns path most_turns outcome next key_read sequence_read is_utf8 chars encode_utf8 utf8_valid_len utf8_error_len
 search_stays = (refl, refl, refl, refl)
 
 -- C-g goes to the origin also within a character
-search_quit : (echo (sought (97 ∷ 0xC3 ∷ 7 ∷ [])) ≡ Some Quitting) × (points (sought (97 ∷ 0xC3 ∷ 7 ∷ [])) ≡ Some (0 ∷ [])) × (held (sought (97 ∷ 0xC3 ∷ 7 ∷ [])) ≡ Some [])
+search_quit : (echo (sought (97 ∷ 0xC3 ∷ 7 ∷ [])) ≡ Some (Says Quitting)) × (points (sought (97 ∷ 0xC3 ∷ 7 ∷ [])) ≡ Some (0 ∷ [])) × (held (sought (97 ∷ 0xC3 ∷ 7 ∷ [])) ≡ Some [])
 unfolding turns path most_turns outcome next key_read sequence_read is_utf8 chars encode_utf8 utf8_valid_len utf8_error_len
 search_quit = (refl, refl, refl)
 
@@ -97,7 +98,7 @@ search_quit = (refl, refl, refl)
 abbrev locked_out : World
 locked_out = other_types (step (sought []) (Open 2 (codes "ann") 24 80)) (21 ∷ 49 ∷ 27 ∷ 120 ∷ codes "acl-delete" ++ 13 ∷ [])
 
-denied : (echo (all_done locked_out (typed (0xC3 ∷ []))) ≡ Some Silent) × (echo (all_done locked_out (typed (0xC3 ∷ 65 ∷ []))) ≡ Some KeyNotBound) × (echo (all_done locked_out (typed (0xC3 ∷ 0xA9 ∷ []))) ≡ Some (Denied (NotGranted ReadData)))
+denied : (echo (all_done locked_out (typed (0xC3 ∷ []))) ≡ Some (Says Silent)) × (echo (all_done locked_out (typed (0xC3 ∷ 65 ∷ []))) ≡ Some (Says KeyNotBound)) × (echo (all_done locked_out (typed (0xC3 ∷ 0xA9 ∷ []))) ≡ Some (Denied (NotGranted ReadData)))
 unfolding turns path most_turns outcome next key_read find_command sequence_read is_utf8 chars encode_utf8 utf8_valid_len utf8_error_len
 denied = (refl, refl, refl)
 
@@ -105,12 +106,12 @@ denied = (refl, refl, refl)
 abbrev killed : World
 killed = other_types (step (sought (97 ∷ 0xC3 ∷ [])) (Open 2 (codes "ann") 24 80)) (24 ∷ 107 ∷ 13 ∷ [])
 
-half_read : (modes killed ≡ Some Plain) × (held killed ≡ Some (0xC3 ∷ [])) × (echo (all_done killed (typed (0xA9 ∷ []))) ≡ Some NoBuffer) × (echo (all_done killed (typed (65 ∷ []))) ≡ Some KeyNotBound)
+half_read : (modes killed ≡ Some Plain) × (held killed ≡ Some (0xC3 ∷ [])) × (echo (all_done killed (typed (0xA9 ∷ []))) ≡ Some (Says NoBuffer)) × (echo (all_done killed (typed (65 ∷ []))) ≡ Some (Says KeyNotBound))
 unfolding turns path most_turns outcome next key_read find_command sequence_read is_utf8 chars encode_utf8 utf8_valid_len utf8_error_len
 half_read = (refl, refl, refl, refl)
 
 -- memory refused: what is half read is forgotten
-refused : (echo (all_done (sought (97 ∷ 0xC3 ∷ [])) (S 0xA9 0 ∷ [])) ≡ Some NoMemory) × (held (all_done (sought (97 ∷ 0xC3 ∷ [])) (S 0xA9 0 ∷ [])) ≡ Some []) × (input (all_done (sought (97 ∷ 0xC3 ∷ [])) (S 0xA9 0 ∷ [])) ≡ Some (codes "a"))
+refused : (echo (all_done (sought (97 ∷ 0xC3 ∷ [])) (S 0xA9 0 ∷ [])) ≡ Some (Says NoMemory)) × (held (all_done (sought (97 ∷ 0xC3 ∷ [])) (S 0xA9 0 ∷ [])) ≡ Some []) × (input (all_done (sought (97 ∷ 0xC3 ∷ [])) (S 0xA9 0 ∷ [])) ≡ Some (codes "a"))
 unfolding turns path most_turns outcome next key_read sequence_read is_utf8 chars encode_utf8 utf8_valid_len utf8_error_len
 refused = (refl, refl, refl)
 
@@ -118,6 +119,6 @@ refused = (refl, refl, refl)
 abbrev replacing : List ℕ → World
 replacing bytes = doing (notes (codes "aébé")) (C (Ask ReplaceWhat) None ∷ typed (0xC3 ∷ 0xA9 ∷ 13 ∷ 0xE6 ∷ 0xBC ∷ 0xA2 ∷ 13 ∷ bytes))
 
-replaced : (texts (replacing (33 ∷ [])) ≡ codes "a漢b漢" ∷ []) × (modes (replacing (0xC3 ∷ 0xA9 ∷ [])) ≡ Some Replacing) × (echo (replacing (0xC3 ∷ [])) ≡ Some Silent) × (held (replacing (0xC3 ∷ [])) ≡ Some [])
+replaced : (texts (replacing (33 ∷ [])) ≡ codes "a漢b漢" ∷ []) × (modes (replacing (0xC3 ∷ 0xA9 ∷ [])) ≡ Some Replacing) × (echo (replacing (0xC3 ∷ [])) ≡ Some (Says Silent)) × (held (replacing (0xC3 ∷ [])) ≡ Some [])
 unfolding turns path most_turns outcome next key_read sequence_read is_utf8 chars encode_utf8 utf8_valid_len utf8_error_len
 replaced = (refl, refl, refl, refl)

@@ -10,7 +10,8 @@ use Rattle.mgs_model.specs.Acts.{fails, outcome, sets}
 use Rattle.mgs_model.specs.Apply.{act, applied, apply, change_first, session_after, session_arranged, without_session}
 use Rattle.mgs_model.specs.Events.{state_set, with_state}
 use Rattle.mgs_model.specs.declared.echo_text.Message.{Message}
-use Rattle.mgs_model.specs.declared.echo_text.Message.TheVariants.{InMacro}
+use Rattle.mgs_model.specs.declared.echo_text.Message.TheVariants.{Says}
+use Rattle.mgs_model.specs.declared.echo_text.Notice.TheVariants.{InMacro}
 use Rattle.mgs_model.specs.declared.session.Command.TheVariants.{Set, Exit}
 use Rattle.mgs_model.specs.declared.session.Setting.TheVariants.{CallMacro}
 use Rattle.mgs_laws.proofs.LeftToDo.{state_twice, seen_begun}
@@ -20,9 +21,9 @@ use Rattle.std.specs.Prelude.{Err}
 -- AN ACT THAT FAILS
 
 -- the end of a session while a macro plays
-pub exit_fails : (v : View) (n : Option ℕ) (stored : Bool) → v.session.state.playing ≡ true → outcome v (Run Exit n []) stored ≡ fails v.session.state InMacro
+pub exit_fails : (v : View) (n : Option ℕ) (stored : Bool) → v.session.state.playing ≡ true → outcome v (Run Exit n []) stored ≡ fails v.session.state (Says InMacro)
 unfolding outcome
-exit_fails v n stored playing = ap (λ (b : Bool). let ends : Outcome = record { state = acted_state v.session.state; kill = Keep_kill; arrange = Stay; effect = Quit } in cond b (fails v.session.state InMacro) ends) playing
+exit_fails v n stored playing = ap (λ (b : Bool). let ends : Outcome = record { state = acted_state v.session.state; kill = Keep_kill; arrange = Stay; effect = Quit } in cond b (fails v.session.state (Says InMacro)) ends) playing
 
 -- a macro that cannot be played
 pub call_fails : (v : View) (n : Option ℕ) (message : Message) (stored : Bool) → setting CallMacro (acted_state v.session.state) n ≡ Err message → outcome v (Run (Set CallMacro) n []) stored ≡ fails v.session.state message
@@ -60,7 +61,7 @@ ends state = record { state = acted_state state; kill = Keep_kill; arrange = Sta
 
 exit_ends : (v : View) (n : Option ℕ) (stored : Bool) → v.session.state.playing ≡ false → outcome v (Run Exit n []) stored ≡ ends v.session.state
 unfolding outcome
-exit_ends v n stored typed = ap (λ (b : Bool). cond b (fails v.session.state InMacro) (ends v.session.state)) typed
+exit_ends v n stored typed = ap (λ (b : Bool). cond b (fails v.session.state (Says InMacro)) (ends v.session.state)) typed
 
 ends_world : (w : World) (state : State) (id : ℕ) → apply (with_state id (λ old. state) w) id (ends state) ≡ record w { sessions = without_session id w.sessions }
 ends_world w state id =

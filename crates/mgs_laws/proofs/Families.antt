@@ -13,7 +13,8 @@ use Rattle.mgs_model.specs.Apply.{outcome_in}
 use Rattle.mgs_model.specs.Events.{Open, run, turns, most_turns, path}
 use Rattle.mgs_laws.specs.Refusals.{refused_in, refused_act, may_be_refused}
 use Rattle.mgs_model.specs.declared.search.Direction.TheVariants.{Forward}
-use Rattle.mgs_model.specs.declared.echo_text.Message.TheVariants.{NoMemory, Denied, InMacro, NoFurtherUndo, NoFile, Replaced, NoBuffer, NoSuchBuffer, Silent, KeyNotBound, Quitting, ImpossibleChange, NothingToYank, CharacterAt, BeginningOfBuffer}
+use Rattle.mgs_model.specs.declared.echo_text.Message.TheVariants.{Says, Denied, Replaced, CharacterAt}
+use Rattle.mgs_model.specs.declared.echo_text.Notice.TheVariants.{NoMemory, InMacro, NoFurtherUndo, NoFile, NoBuffer, NoSuchBuffer, Silent, KeyNotBound, Quitting, ImpossibleChange, NothingToYank, BeginningOfBuffer}
 use Rattle.mgs_model.specs.declared.session.Command.TheVariants.{Insert, InsertReading, Move, Alter, Seek, Scroll, Set, Rearrange, Ask, Entries, UndoEdit, NotModified, SaveBuffer}
 use Rattle.mgs_model.specs.declared.session.Insertion.TheVariants.{Yank}
 use Rattle.mgs_model.specs.declared.session.Scrolling.TheVariants.{ScrollUp, ScrollDown}
@@ -52,11 +53,11 @@ unfolding turns path most_turns outcome next key_read
 begun_anew = refl
 
 -- C-x ESC x is one word that is none, and C-g ends it
-swallowed : (echo (doing (notes []) (B 24 ∷ B 27 ∷ B 120 ∷ [])) ≡ Some KeyNotBound) × (texts (doing (notes []) (B 24 ∷ B 27 ∷ B 120 ∷ [])) ≡ [] ∷ [])
+swallowed : (echo (doing (notes []) (B 24 ∷ B 27 ∷ B 120 ∷ [])) ≡ Some (Says KeyNotBound)) × (texts (doing (notes []) (B 24 ∷ B 27 ∷ B 120 ∷ [])) ≡ [] ∷ [])
 unfolding turns path most_turns outcome next key_read
 swallowed = (refl, refl)
 
-quit_half_read : echo (doing (notes []) (B 24 ∷ B 27 ∷ B 7 ∷ [])) ≡ Some Quitting
+quit_half_read : echo (doing (notes []) (B 24 ∷ B 27 ∷ B 7 ∷ [])) ≡ Some (Says Quitting)
 unfolding turns path most_turns outcome next key_read
 quit_half_read = refl
 
@@ -72,7 +73,7 @@ unread = record (notes []) { buffers = buffer_of (codes "notes") (codes "ab") (r
 nothing_unread_world : World
 nothing_unread_world = doing_bob unread (B 21 ∷ B 48 ∷ B 120 ∷ [])
 
-nothing_unread : (nothing_unread_world.buffers ≡ unread.buffers) × (points nothing_unread_world ≡ Some (2 ∷ [])) × (echo nothing_unread_world ≡ Some Silent)
+nothing_unread : (nothing_unread_world.buffers ≡ unread.buffers) × (points nothing_unread_world ≡ Some (2 ∷ [])) × (echo nothing_unread_world ≡ Some (Says Silent))
 unfolding nothing_unread_world turns path most_turns outcome next key_read
 nothing_unread = (refl, refl, refl)
 
@@ -126,7 +127,7 @@ last_enlarged : heights (doing (notes []) (C (Rearrange SplitWindow) None ∷ C 
 unfolding turns path most_turns outcome next key_read
 last_enlarged = refl
 
-impossible : echo (doing (notes []) (C (Rearrange SplitWindow) None ∷ C (Rearrange EnlargeWindow) (Some 10) ∷ [])) ≡ Some ImpossibleChange
+impossible : echo (doing (notes []) (C (Rearrange SplitWindow) None ∷ C (Rearrange EnlargeWindow) (Some 10) ∷ [])) ≡ Some (Says ImpossibleChange)
 unfolding turns path most_turns outcome next key_read
 impossible = refl
 
@@ -176,12 +177,12 @@ unfolding turns path most_turns outcome next key_read
 target_second = refl
 
 -- a source that is not there is told before the target's right, which is not judged then
-missing_source : echo (doing_bob sources (C (Ask InsertWhich) None ∷ B 110 ∷ B 111 ∷ B 13 ∷ [])) ≡ Some NoSuchBuffer
+missing_source : echo (doing_bob sources (C (Ask InsertWhich) None ∷ B 110 ∷ B 111 ∷ B 13 ∷ [])) ≡ Some (Says NoSuchBuffer)
 unfolding turns path most_turns outcome next key_read
 missing_source = refl
 
 -- where nothing is shown there is nothing to judge
-nothing_shown : echo (doing_bob sources (C (Rearrange ListBuffers) None ∷ C (Ask InsertWhich) None ∷ B 104 ∷ B 101 ∷ B 114 ∷ B 115 ∷ B 13 ∷ [])) ≡ Some NoBuffer
+nothing_shown : echo (doing_bob sources (C (Rearrange ListBuffers) None ∷ C (Ask InsertWhich) None ∷ B 104 ∷ B 101 ∷ B 114 ∷ B 115 ∷ B 13 ∷ [])) ≡ Some (Says NoBuffer)
 unfolding turns path most_turns outcome next key_read
 nothing_shown = refl
 
@@ -196,7 +197,7 @@ unfolding turns path most_turns outcome next key_read
 play_stops = refl
 
 -- a macro that ends the session does not play to its end
-play_fails : echo (doing (notes []) (C (Set StartMacro) None ∷ C (Set CallMacro) None ∷ [])) ≡ Some InMacro
+play_fails : echo (doing (notes []) (C (Set StartMacro) None ∷ C (Set CallMacro) None ∷ [])) ≡ Some (Says InMacro)
 unfolding turns path most_turns outcome next key_read
 play_fails = refl
 
@@ -210,7 +211,7 @@ refused : texts (doing (notes []) (M (120 ∷ []) ∷ R (Set CallMacro) (Some 9)
 unfolding turns path most_turns outcome next key_read
 refused = refl
 
-refused_told : echo (doing (notes []) (M (120 ∷ []) ∷ R (Set CallMacro) (Some 9) 2 ∷ [])) ≡ Some NoMemory
+refused_told : echo (doing (notes []) (M (120 ∷ []) ∷ R (Set CallMacro) (Some 9) 2 ∷ [])) ≡ Some (Says NoMemory)
 unfolding turns path most_turns outcome next key_read
 refused_told = refl
 
@@ -234,11 +235,11 @@ unfolding turns path most_turns outcome next key_read
 undone_twice = refl
 
 -- a third one finds nothing more, and breaks no run: after C-f undo would begin anew
-nothing_more : echo (doing (notes (codes "ab")) (C (Alter DeleteChar) None ∷ C (Alter DeleteChar) None ∷ C UndoEdit None ∷ C UndoEdit None ∷ C UndoEdit None ∷ [])) ≡ Some NoFurtherUndo
+nothing_more : echo (doing (notes (codes "ab")) (C (Alter DeleteChar) None ∷ C (Alter DeleteChar) None ∷ C UndoEdit None ∷ C UndoEdit None ∷ C UndoEdit None ∷ [])) ≡ Some (Says NoFurtherUndo)
 unfolding turns path most_turns outcome next key_read
 nothing_more = refl
 
-still_nothing : echo (doing (notes (codes "ab")) (C (Alter DeleteChar) None ∷ C (Alter DeleteChar) None ∷ C UndoEdit None ∷ C UndoEdit None ∷ C UndoEdit None ∷ C UndoEdit None ∷ [])) ≡ Some NoFurtherUndo
+still_nothing : echo (doing (notes (codes "ab")) (C (Alter DeleteChar) None ∷ C (Alter DeleteChar) None ∷ C UndoEdit None ∷ C UndoEdit None ∷ C UndoEdit None ∷ C UndoEdit None ∷ [])) ≡ Some (Says NoFurtherUndo)
 unfolding turns path most_turns outcome next key_read
 still_nothing = refl
 
@@ -288,7 +289,7 @@ given : echo (doing (notes (codes "ab")) (C (Ask WhichOwner) None ∷ B 98 ∷ B
 unfolding turns path most_turns outcome next key_read
 given = refl
 
-no_file : echo (doing (notes (codes "ab")) (C SaveBuffer None ∷ [])) ≡ Some NoFile
+no_file : echo (doing (notes (codes "ab")) (C SaveBuffer None ∷ [])) ≡ Some (Says NoFile)
 unfolding turns path most_turns outcome next key_read
 no_file = refl
 
@@ -335,7 +336,7 @@ yanked_twice : map (λ (b : Buffer). b.serial) (doing (notes (codes "ab")) (C (A
 unfolding turns path most_turns outcome next key_read
 yanked_twice = refl
 
-nothing_to_yank : echo (doing (notes []) (C (Insert Yank) (Some 0) ∷ [])) ≡ Some NothingToYank
+nothing_to_yank : echo (doing (notes []) (C (Insert Yank) (Some 0) ∷ [])) ≡ Some (Says NothingToYank)
 unfolding turns path most_turns outcome next key_read
 nothing_to_yank = refl
 
@@ -360,7 +361,7 @@ unfolding turns path most_turns outcome next key_read
 lines_killed = refl
 
 -- at a text's end the last two characters change places, and at a line's start nothing does
-transposed : (texts (doing (notes (codes "abc")) (C (Move BufferEnd) None ∷ C (Alter TransposeChars) None ∷ [])) ≡ codes "acb" ∷ []) × (echo (doing (notes (codes "a")) (B 6 ∷ C (Alter TransposeChars) None ∷ [])) ≡ Some BeginningOfBuffer)
+transposed : (texts (doing (notes (codes "abc")) (C (Move BufferEnd) None ∷ C (Alter TransposeChars) None ∷ [])) ≡ codes "acb" ∷ []) × (echo (doing (notes (codes "a")) (B 6 ∷ C (Alter TransposeChars) None ∷ [])) ≡ Some (Says BeginningOfBuffer))
 unfolding turns path most_turns outcome next key_read
 transposed = (refl, refl)
 

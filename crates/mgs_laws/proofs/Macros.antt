@@ -8,7 +8,8 @@ use Rattle.mgs_model.specs.Keys.{key_read}
 use Rattle.mgs_model.specs.Commands.{find_command}
 use Rattle.mgs_model.specs.Turns.{next}
 use Rattle.mgs_model.specs.Events.{with_state, turns, most_turns, path}
-use Rattle.mgs_model.specs.declared.echo_text.Message.TheVariants.{Denied, InMacro, NotInMacro, NoMacro, TooMany, MacroTooLong, NoMemory, EndOfBuffer}
+use Rattle.mgs_model.specs.declared.echo_text.Message.TheVariants.{Says, Denied}
+use Rattle.mgs_model.specs.declared.echo_text.Notice.TheVariants.{InMacro, NotInMacro, NoMacro, TooMany, MacroTooLong, NoMemory, EndOfBuffer}
 use Rattle.mgs_model.specs.declared.session.Mode.TheVariants.{Prompt}
 use Rattle.mgs_model.specs.declared.session.Kind.{Kind}
 use Rattle.mgs_model.specs.declared.session.Kind.TheVariants.{Other, Kill}
@@ -48,12 +49,12 @@ unfolding turns path most_turns outcome next key_read
 played = (refl, refl)
 
 -- C-u 0 plays nothing, and more than 100 times is too often
-times : (texts (doing (notes []) (M (codes "z") ∷ play (Some 0) ∷ [])) ≡ [] ∷ []) × (echo (doing (notes []) (M (codes "z") ∷ play (Some 101) ∷ [])) ≡ Some TooMany) × (texts (doing (notes []) (M (codes "z") ∷ play (Some 100) ∷ [])) ≡ replicate 100 122 ∷ [])
+times : (texts (doing (notes []) (M (codes "z") ∷ play (Some 0) ∷ [])) ≡ [] ∷ []) × (echo (doing (notes []) (M (codes "z") ∷ play (Some 101) ∷ [])) ≡ Some (Says TooMany)) × (texts (doing (notes []) (M (codes "z") ∷ play (Some 100) ∷ [])) ≡ replicate 100 122 ∷ [])
 unfolding turns path most_turns outcome next key_read
 times = (refl, refl, refl)
 
 -- each of the three commands where it can't be done
-refused : (echo (doing (notes []) (start ∷ start ∷ [])) ≡ Some InMacro) × (echo (doing (notes []) (start ∷ play None ∷ [])) ≡ Some InMacro) × (echo (doing (notes []) (end ∷ [])) ≡ Some NotInMacro) × (echo (doing (notes []) (play (Some 101) ∷ [])) ≡ Some NoMacro)
+refused : (echo (doing (notes []) (start ∷ start ∷ [])) ≡ Some (Says InMacro)) × (echo (doing (notes []) (start ∷ play None ∷ [])) ≡ Some (Says InMacro)) × (echo (doing (notes []) (end ∷ [])) ≡ Some (Says NotInMacro)) × (echo (doing (notes []) (play (Some 101) ∷ [])) ≡ Some (Says NoMacro))
 unfolding turns path most_turns outcome next key_read
 refused = (refl, refl, refl, refl)
 
@@ -80,7 +81,7 @@ most : (option_map length (recorded (recorded_so_far 511 (B 120 ∷ []))) ≡ So
 unfolding turns path most_turns outcome next key_read
 most = (refl, refl, refl)
 
-too_long : (echo (recorded_so_far 512 (B 120 ∷ [])) ≡ Some MacroTooLong) × (recorded (recorded_so_far 512 (B 120 ∷ [])) ≡ Some []) × (is_recording (recorded_so_far 512 (B 120 ∷ [])) ≡ Some false) × (texts (recorded_so_far 512 (B 120 ∷ [])) ≡ codes "a b" ∷ [])
+too_long : (echo (recorded_so_far 512 (B 120 ∷ [])) ≡ Some (Says MacroTooLong)) × (recorded (recorded_so_far 512 (B 120 ∷ [])) ≡ Some []) × (is_recording (recorded_so_far 512 (B 120 ∷ [])) ≡ Some false) × (texts (recorded_so_far 512 (B 120 ∷ [])) ≡ codes "a b" ∷ [])
 unfolding turns path most_turns outcome next key_read
 too_long = (refl, refl, refl, refl)
 
@@ -90,7 +91,7 @@ unfolding turns path most_turns outcome next key_read
 half_read = refl
 
 -- the closing two count
-closed_last : (option_map length (recorded (recorded_so_far 510 (end ∷ []))) ≡ Some 510) × (echo (recorded_so_far 511 (B 24 ∷ B 41 ∷ [])) ≡ Some MacroTooLong)
+closed_last : (option_map length (recorded (recorded_so_far 510 (end ∷ []))) ≡ Some 510) × (echo (recorded_so_far 511 (B 24 ∷ B 41 ∷ [])) ≡ Some (Says MacroTooLong))
 unfolding turns path most_turns outcome next key_read
 closed_last = (refl, refl)
 
@@ -103,7 +104,7 @@ unfolding turns path most_turns outcome next key_read
 kind_broken = (refl, refl)
 
 -- A PLAY STOPS at the first failure, word that is no key, or quit
-stops : (texts (doing (notes (codes "ab")) (M (6 ∷ 120 ∷ []) ∷ play (Some 9) ∷ [])) ≡ codes "axbx" ∷ []) × (echo (doing (notes (codes "ab")) (M (6 ∷ 120 ∷ []) ∷ play (Some 9) ∷ [])) ≡ Some EndOfBuffer) × (texts (doing (notes []) (M (120 ∷ 28 ∷ 121 ∷ []) ∷ play None ∷ [])) ≡ codes "x" ∷ []) × (texts (doing (notes []) (M (120 ∷ 24 ∷ 98 ∷ 7 ∷ 121 ∷ []) ∷ play None ∷ [])) ≡ codes "x" ∷ []) × (texts (doing (notes []) (M (120 ∷ 7 ∷ 121 ∷ []) ∷ play None ∷ [])) ≡ codes "x" ∷ [])
+stops : (texts (doing (notes (codes "ab")) (M (6 ∷ 120 ∷ []) ∷ play (Some 9) ∷ [])) ≡ codes "axbx" ∷ []) × (echo (doing (notes (codes "ab")) (M (6 ∷ 120 ∷ []) ∷ play (Some 9) ∷ [])) ≡ Some (Says EndOfBuffer)) × (texts (doing (notes []) (M (120 ∷ 28 ∷ 121 ∷ []) ∷ play None ∷ [])) ≡ codes "x" ∷ []) × (texts (doing (notes []) (M (120 ∷ 24 ∷ 98 ∷ 7 ∷ 121 ∷ []) ∷ play None ∷ [])) ≡ codes "x" ∷ []) × (texts (doing (notes []) (M (120 ∷ 7 ∷ 121 ∷ []) ∷ play None ∷ [])) ≡ codes "x" ∷ [])
 unfolding turns path most_turns outcome next key_read
 stops = (refl, refl, refl, refl, refl)
 
@@ -132,7 +133,7 @@ unfolding turns path most_turns outcome next key_read
 open_at_end = (refl, refl, refl)
 
 -- SAVING AND LEAVING are no part of a play, by their keys and by their names
-not_played : (echo (doing (notes []) (M (24 ∷ 19 ∷ []) ∷ play None ∷ [])) ≡ Some InMacro) × (echo (doing (notes []) (M (24 ∷ 3 ∷ []) ∷ play None ∷ [])) ≡ Some InMacro) × (echo (doing (notes []) (M (27 ∷ 120 ∷ codes "save-buffer" ++ 13 ∷ []) ∷ play None ∷ [])) ≡ Some InMacro)
+not_played : (echo (doing (notes []) (M (24 ∷ 19 ∷ []) ∷ play None ∷ [])) ≡ Some (Says InMacro)) × (echo (doing (notes []) (M (24 ∷ 3 ∷ []) ∷ play None ∷ [])) ≡ Some (Says InMacro)) × (echo (doing (notes []) (M (27 ∷ 120 ∷ codes "save-buffer" ++ 13 ∷ []) ∷ play None ∷ [])) ≡ Some (Says InMacro))
 unfolding turns path most_turns outcome next key_read find_command
 not_played = (refl, refl, refl)
 
@@ -142,7 +143,7 @@ unfolding turns path most_turns outcome next key_read
 joined = (refl, refl, refl)
 
 -- MEMORY is refused to the third act: two stand. Where it is refused to the first, all is as before
-third_refused : (texts (doing (notes []) (recording (typed (codes "z")) ++ R (Set CallMacro) (Some 4) 2 ∷ [])) ≡ codes "zzz" ∷ []) × (echo (doing (notes []) (recording (typed (codes "z")) ++ R (Set CallMacro) (Some 4) 2 ∷ [])) ≡ Some NoMemory)
+third_refused : (texts (doing (notes []) (recording (typed (codes "z")) ++ R (Set CallMacro) (Some 4) 2 ∷ [])) ≡ codes "zzz" ∷ []) × (echo (doing (notes []) (recording (typed (codes "z")) ++ R (Set CallMacro) (Some 4) 2 ∷ [])) ≡ Some (Says NoMemory))
 unfolding turns path most_turns outcome next key_read
 third_refused = (refl, refl)
 

@@ -24,7 +24,8 @@ use Rattle.mgs_model.specs.declared.entry.Entry.{Entry}
 use Rattle.mgs_model.specs.declared.entry.Decision.{Decision}
 use Rattle.mgs_model.specs.declared.entry.Decision.TheVariants.{Granted, DeniedBy, NotGranted}
 use Rattle.mgs_model.specs.declared.echo_text.Message.{Message}
-use Rattle.mgs_model.specs.declared.echo_text.Message.TheVariants.{BadColumn, BadName, BufferFull, Denied, InMacro, KeyNotBound, KillTooLarge, NoArgument, NoBuffer, NoFile, NoSuchBuffer, NoSuchGroup, NoSuchUser, NotInMacro, SaveFailed, Silent, TooManyBuffers}
+use Rattle.mgs_model.specs.declared.echo_text.Message.TheVariants.{Says, Denied}
+use Rattle.mgs_model.specs.declared.echo_text.Notice.TheVariants.{BadColumn, BadName, BufferFull, InMacro, KeyNotBound, KillTooLarge, NoArgument, NoBuffer, NoFile, NoSuchBuffer, NoSuchGroup, NoSuchUser, NotInMacro, SaveFailed, Silent, TooManyBuffers}
 use Rattle.mgs_model.specs.declared.session.ByName.{ByName}
 use Rattle.mgs_model.specs.declared.session.ByName.TheVariants.{SwitchToBuffer, KillBuffer, InsertBuffer}
 use Rattle.mgs_model.specs.declared.session.Scrolling.{Scrolling}
@@ -150,25 +151,25 @@ edit_mild v name a b put h = by (is_edit a b put)
 
 finished_holds : (v : View) (c : Act) (f : Finish) (e : Effect) → IsMild v e → Holds v c (finished v.session.state f e)
 finished_holds v c f e m =
-    unless_holds v c KillTooLarge (is_too_large f.kill) (record { state = finished_state f v.session.state; kill = f.kill; arrange = Adjust f.point f.mark f.top None Keep_search; effect = e })
+    unless_holds v c (Says KillTooLarge) (is_too_large f.kill) (record { state = finished_state f v.session.state; kill = f.kill; arrange = Adjust f.point f.mark f.top None Keep_search; effect = e })
     (record { lawfully = m.mildly; kills = λ h. (let z : true ≡ false = sym h ∙ m.no_rule in cc); saved = λ h. m.no_save; todo = λ h. all_left })
 
 search_finished_holds : (v : View) (c : Act) (f : SearchFinish) (e : Effect) → IsMild v e → Holds v c (search_finished v.session.state f e)
 search_finished_holds v c f e m = keeps_holds v c (search_finished_state f v.session.state) (Adjust f.point Keep_mark Keep_position None f.sought) e m.mildly m.no_save (by f.mode)
   where
-    by : (plan : ModePlan) → IsLeft v.session.state.todo (mode_left plan (record (acted_state v.session.state) { echo = Silent })).todo
+    by : (plan : ModePlan) → IsLeft v.session.state.todo (mode_left plan (record (acted_state v.session.state) { echo = Says Silent })).todo
     by (Over n) = record { left = Not_replacing; is_left = refl }
     by Keep_mode = all_left
     by (Goes_on n) = all_left
     by (Failing failing) = all_left
 
 -- where there is room
-fits_holds : (v : View) (c : Act) (b : BufferSeen) (from until : ℕ) (put : List ℕ) (o : Outcome) → Holds v c o → Holds v c (cond (is_full (size_told b.told) (serial_told b.told) from until put) (fails v.session.state BufferFull) o)
-fits_holds v c b from until put o h = unless_holds v c BufferFull (is_full (size_told b.told) (serial_told b.told) from until put) o h
+fits_holds : (v : View) (c : Act) (b : BufferSeen) (from until : ℕ) (put : List ℕ) (o : Outcome) → Holds v c o → Holds v c (cond (is_full (size_told b.told) (serial_told b.told) from until put) (fails v.session.state (Says BufferFull)) o)
+fits_holds v c b from until put o h = unless_holds v c (Says BufferFull) (is_full (size_told b.told) (serial_told b.told) from until put) o h
 
 edits_holds : (v : View) (c : Act) (rights : Target → ℕ) (plan : Target → Result Change Message) → MayEdit v rights → (t : Option Target) → judged v (here t rights) ≡ Granted → Holds v c (edits v.session.state t plan)
 unfolding MayEdit
-edits_holds v c rights plan may None e = fails_holds v c NoBuffer
+edits_holds v c rights plan may None e = fails_holds v c (Says NoBuffer)
 edits_holds v c rights plan may (Some t) e = by (plan t)
   where
     by : (p : Result Change Message) → Holds v c (edited_by v.session.state t.buffer p)
@@ -177,7 +178,7 @@ edits_holds v c rights plan may (Some t) e = by (plan t)
 
 replaces_holds : (v : View) (c : Act) (plan : Target → Result SearchChange Message) (t : Option Target) → judged v (here t (λ t. 3)) ≡ Granted → Holds v c (replaces_one v.session.state t plan)
 unfolding MayEdit
-replaces_holds v c plan None e = fails_holds v c NoBuffer
+replaces_holds v c plan None e = fails_holds v c (Says NoBuffer)
 replaces_holds v c plan (Some t) e = by (plan t)
   where
     by : (p : Result SearchChange Message) → Holds v c (replaced_by v.session.state t.buffer p)
@@ -187,7 +188,7 @@ replaces_holds v c plan (Some t) e = by (plan t)
 -- FAMILIES THAT HAVE NO EFFECT
 
 moves_holds : (v : View) (c : Act) (plan : Target → Result Finish Message) (t : Option Target) → Holds v c (moves v.session.state t plan)
-moves_holds v c plan None = fails_holds v c NoBuffer
+moves_holds v c plan None = fails_holds v c (Says NoBuffer)
 moves_holds v c plan (Some t) = by (plan t)
   where
     by : (p : Result Finish Message) → Holds v c (moved_by v.session.state p)
@@ -195,7 +196,7 @@ moves_holds v c plan (Some t) = by (plan t)
     by (Ok f) = finished_holds v c f No_effect (no_effect_mild v)
 
 seeks_holds : (v : View) (c : Act) (plan : Target → Result SearchFinish Message) (t : Option Target) → Holds v c (seeks v.session.state t plan)
-seeks_holds v c plan None = fails_holds v c NoBuffer
+seeks_holds v c plan None = fails_holds v c (Says NoBuffer)
 seeks_holds v c plan (Some t) = by (plan t)
   where
     by : (p : Result SearchFinish Message) → Holds v c (sought_by v.session.state p)
@@ -217,15 +218,15 @@ sets_unless v c message true p h = fails_holds v c message
 sets_unless v c message false p h = h
 
 sets_holds : (v : View) (c : Setting) (n : Option ℕ) (typed : List ℕ) → Holds v (Run (Set c) n typed) (sets v.session.state (setting c (acted_state v.session.state) n))
-sets_holds v SetFillColumn None typed = fails_holds v _ NoArgument
-sets_holds v SetFillColumn (Some n) typed = sets_unless v _ BadColumn (n == 0) _ (owns_holds v _ _ all_left)
+sets_holds v SetFillColumn None typed = fails_holds v _ (Says NoArgument)
+sets_holds v SetFillColumn (Some n) typed = sets_unless v _ (Says BadColumn) (n == 0) _ (owns_holds v _ _ all_left)
 sets_holds v KeyboardQuit n typed = owns_holds v _ _ (record { left = Nothing_left; is_left = refl })
-sets_holds v StartMacro n typed = sets_unless v _ InMacro (v.session.state.recording || v.session.state.playing) _ (owns_holds v _ _ all_left)
-sets_holds v EndMacro n typed = sets_unless v _ InMacro v.session.state.playing _ (by v.session.state.recording)
+sets_holds v StartMacro n typed = sets_unless v _ (Says InMacro) (v.session.state.recording || v.session.state.playing) _ (owns_holds v _ _ all_left)
+sets_holds v EndMacro n typed = sets_unless v _ (Says InMacro) v.session.state.playing _ (by v.session.state.recording)
   where
-    by : (f : Bool) → Holds v (Run (Set EndMacro) n typed) (sets v.session.state (cond f (Ok (record (acted_state v.session.state) { recording = false; macro = take (length v.session.state.macro - 2) v.session.state.macro })) (Err NotInMacro)))
+    by : (f : Bool) → Holds v (Run (Set EndMacro) n typed) (sets v.session.state (cond f (Ok (record (acted_state v.session.state) { recording = false; macro = take (length v.session.state.macro - 2) v.session.state.macro })) (Err (Says NotInMacro))))
     by true = owns_holds v _ _ all_left
-    by false = fails_holds v _ NotInMacro
+    by false = fails_holds v _ (Says NotInMacro)
 sets_holds v CallMacro n typed = by (setting CallMacro (acted_state v.session.state) n) (λ h. h)
   where
     by : (p : Result State Message) → (is_brief_setting v.session.state CallMacro n ≡ true → is_refused p ≡ true) → Holds v (Run (Set CallMacro) n typed) (sets v.session.state p)
@@ -237,7 +238,7 @@ arranges_holds v c (Err message) = fails_holds v c message
 arranges_holds v c (Ok plan) = keeps_holds v c _ plan No_effect refl refl all_left
 
 lists_holds : (v : View) (c : Act) (o : Option BufferSeen) → Holds v c (lists v o)
-lists_holds v c None = fails_holds v c NoBuffer
+lists_holds v c None = fails_holds v c (Says NoBuffer)
 lists_holds v c (Some b) = keeps_holds v c _ _ No_effect refl refl all_left
 
 -- FAMILIES WITH ANOTHER EFFECT
@@ -246,7 +247,7 @@ effect_holds : (v : View) (c : Act) (e : Effect) → lawful v e ≡ true → sav
 effect_holds v c e l s = keeps_holds v c (acted_state v.session.state) Stay e l s all_left
 
 rules_hold : (v : View) (c : Act) (rights : ℕ) (plan : BufferSeen → Result Effect Message) → ((b : BufferSeen) → judged v (about (Some b) rights) ≡ Granted → Holds v c (effects v.session.state (plan b))) → (o : Option BufferSeen) → judged v (about o rights) ≡ Granted → Holds v c (rules v.session.state o plan)
-rules_hold v c rights plan may None e = fails_holds v c NoBuffer
+rules_hold v c rights plan may None e = fails_holds v c (Says NoBuffer)
 rules_hold v c rights plan may (Some b) e = may b e
 
 list_set_holds : (v : View) (c : Act) (b : BufferSeen) (p : Result (List Entry) Message) → judged v (about (Some b) 262144) ≡ Granted → Holds v c (effects v.session.state (list_set b.name p))
@@ -267,27 +268,27 @@ unmodified_holds v c b e =
     effect_holds v c _ (and_both _ _ each.0 each.1.0) refl
 
 saves_holds : (v : View) (n : Option ℕ) (typed : List ℕ) (stored : Bool) (t : Option Target) → judged v (here t (λ t. 3)) ≡ Granted → Holds v (Run SaveBuffer n typed) (saves v.session.state t stored)
-saves_holds v n typed stored None e = fails_holds v _ NoBuffer
+saves_holds v n typed stored None e = fails_holds v _ (Says NoBuffer)
 saves_holds v n typed stored (Some t) e =
     let each : Each (deciders_found (find_seen t.buffer.name v.buffers)) allows (rights_in 3) = request_granted v (record { buffer = t.buffer.name; rights = 3 }) [] e in
-    unless_holds v _ InMacro v.session.state.playing _ (unless_holds v _ NoFile (not (has_file t.buffer.told)) _ (unless_holds v _ SaveFailed (not stored) _
+    unless_holds v _ (Says InMacro) v.session.state.playing _ (unless_holds v _ (Says NoFile) (not (has_file t.buffer.told)) _ (unless_holds v _ (Says SaveFailed) (not stored) _
     (record { lawfully = and_both _ _ each.0 each.1.0; kills = λ h. refl; saved = λ h. (let z : true ≡ false = h in cc); todo = λ h. all_left })))
 
 -- BUFFERS BY NAME
 
 created_holds : (v : View) (c : Act) (name : List ℕ) → find_seen name v.buffers ≡ None → Holds v c (creates_buffer v name)
 created_holds v c name e =
-    unless_holds v c BadName (not (is_name name)) _ (unless_holds v c TooManyBuffers (nat_le 256 (length v.buffers)) _
+    unless_holds v c (Says BadName) (not (is_name name)) _ (unless_holds v c (Says TooManyBuffers) (nat_le 256 (length v.buffers)) _
     (keeps_holds v c _ _ (Create name v.session.user) (ap (λ o. not (is_some o)) e) refl all_left))
 
 killed_holds : (v : View) (c : Act) (name : List ℕ) (o : Option BufferSeen) → judged v (elim o as (λ _. List Request) [ None ↦ [] | Some b ↦ record { buffer = name; rights = 65536 } ∷ [] ]) ≡ Granted → Holds v c (kills_buffer v name o)
-killed_holds v c [] o e = fails_holds v c NoBuffer
-killed_holds v c (d ∷ ds) None e = fails_holds v c NoSuchBuffer
+killed_holds v c [] o e = fails_holds v c (Says NoBuffer)
+killed_holds v c (d ∷ ds) None e = fails_holds v c (Says NoSuchBuffer)
 killed_holds v c (d ∷ ds) (Some b) e = keeps_holds v c (acted_state v.session.state) Stay _ (request_granted v (record { buffer = d ∷ ds; rights = 65536 }) [] e).0 refl all_left
 
 copied_holds : (v : View) (c : Act) (n : Option ℕ) (typed : List ℕ) (o : Option BufferSeen) (t : Option Target) → judged v (elim t as (λ _. List Request) [ None ↦ [] | Some t ↦ copy_needs o typed t ]) ≡ Granted → Holds v c (edits v.session.state t (λ t. inserted (option_map (λ b. text_in b.full) o) (around v.session n typed t)))
-copied_holds v c n typed o None e = fails_holds v c NoBuffer
-copied_holds v c n typed None (Some t) e = fails_holds v c NoSuchBuffer
+copied_holds v c n typed o None e = fails_holds v c (Says NoBuffer)
+copied_holds v c n typed None (Some t) e = fails_holds v c (Says NoSuchBuffer)
 copied_holds v c n typed (Some b) (Some t) e =
     edits_holds v c insertion_right (λ t. inserted (Some (text_in b.full)) (around v.session n typed t)) (insertion_may v) (Some t) (rest_granted v (record { buffer = typed; rights = 1 }) (here (Some t) insertion_right) e)
 
@@ -303,7 +304,7 @@ named_holds v c InsertBuffer n typed e = copied_holds v c n typed (find_seen typ
 -- EVERY ACT
 
 allowed_holds : (v : View) (c : Act) (stored : Bool) → judged v (needs v c) ≡ Granted → Holds v c (allowed v c stored)
-allowed_holds v Unbound stored e = fails_holds v _ KeyNotBound
+allowed_holds v Unbound stored e = fails_holds v _ (Says KeyNotBound)
 allowed_holds v (Run (Insert c) n typed) stored e = edits_holds v _ insertion_right _ (insertion_may v) (target v) e
 allowed_holds v (Run (InsertReading c) n typed) stored e =
     edits_holds v _ (λ t. 1 + insertion_right t) _ (reading_insertion_may v) (target v) e
@@ -320,15 +321,15 @@ allowed_holds v (Run (Entries c) n typed) stored e =
     rules_hold v _ 262144 _ (λ b. list_set_holds v _ b (entries_changed c (entries_told b.told) n typed)) (subject v) e
 allowed_holds v (Run ListEntries n typed) stored e = lists_holds v _ (subject v)
 allowed_holds v (Run SetOwner n typed) stored e =
-    rules_hold v _ 524288 _ (owners_set_hold v _ (ToUser typed) NoSuchUser (is_among typed v.directory.users)) (subject v) e
+    rules_hold v _ 524288 _ (owners_set_hold v _ (ToUser typed) (Says NoSuchUser) (is_among typed v.directory.users)) (subject v) e
 allowed_holds v (Run SetGroup n typed) stored e =
-    rules_hold v _ 524288 _ (owners_set_hold v _ (ToGroup (group_answered typed)) NoSuchGroup (is_group_answer v.directory.groups typed)) (subject v) e
+    rules_hold v _ 524288 _ (owners_set_hold v _ (ToGroup (group_answered typed)) (Says NoSuchGroup) (is_group_answer v.directory.groups typed)) (subject v) e
 allowed_holds v (Run UndoEdit n typed) stored e = edits_holds v _ (λ t. 3) _ (alteration_may v) (target v) e
 allowed_holds v (Run NotModified n typed) stored e = rules_hold v _ 3 _ (unmodified_holds v _) (shown_buffer v) e
 allowed_holds v (Run SaveBuffer n typed) stored e = saves_holds v n typed stored (target v) e
 allowed_holds v (Run LeaveSearch n typed) stored e = keeps_holds v _ _ _ No_effect refl refl (record { left = Nothing_left; is_left = refl })
 allowed_holds v (Run Exit n typed) stored e =
-    unless_holds v _ InMacro v.session.state.playing _ (keeps_holds v _ (acted_state v.session.state) Stay Quit refl refl all_left)
+    unless_holds v _ (Says InMacro) v.session.state.playing _ (keeps_holds v _ (acted_state v.session.state) Stay Quit refl refl all_left)
 
 permitted_holds : (v : View) (c : Act) (d : Decision) (o : Outcome) → (d ≡ Granted → Holds v c o) → Holds v c (permitted v.session.state d o)
 permitted_holds v c Granted o h = h refl

@@ -10,7 +10,8 @@ use Rattle.mgs_model.specs.Plans.{acted_state}
 use Rattle.mgs_model.specs.Acts.{Target, allowed, fails, has_file, judged, needs, outcome, permitted, saves, target}
 use Rattle.mgs_model.specs.Apply.{act, applied}
 use Rattle.mgs_model.specs.Events.{act_effects, effect_in, saved_by, with_state}
-use Rattle.mgs_model.specs.declared.echo_text.Message.TheVariants.{InMacro, NoFile, SaveFailed, Wrote}
+use Rattle.mgs_model.specs.declared.echo_text.Message.TheVariants.{Says, Wrote}
+use Rattle.mgs_model.specs.declared.echo_text.Notice.TheVariants.{InMacro, NoFile, SaveFailed}
 use Rattle.mgs_model.specs.declared.session.Command.{Command}
 use Rattle.mgs_model.specs.declared.session.Command.TheVariants.{SaveBuffer}
 use Rattle.mgs_model.specs.declared.entry.Decision.{Decision}
@@ -20,10 +21,10 @@ use Rattle.mgs_laws.proofs.Saves.{act_saves_none}
 use Rattle.mgs_laws.proofs.Turning.{begun_view}
 
 -- a save is refused
-saves_refused : (state : State) (t : Target) (stored : Bool) → state.playing ≡ true → saves state (Some t) stored ≡ fails state InMacro
+saves_refused : (state : State) (t : Target) (stored : Bool) → state.playing ≡ true → saves state (Some t) stored ≡ fails state (Says InMacro)
 saves_refused state t stored playing =
     let written : Outcome = record { state = record (acted_state state) { echo = Wrote t.buffer.name }; kill = Keep_kill; arrange = Stay; effect = Save t.buffer.name (text_in t.buffer.full) } in
-    ap (λ (b : Bool). cond b (fails state InMacro) (cond (not (has_file t.buffer.told)) (fails state NoFile) (cond (not stored) (fails state SaveFailed) written))) playing
+    ap (λ (b : Bool). cond b (fails state (Says InMacro)) (cond (not (has_file t.buffer.told)) (fails state (Says NoFile)) (cond (not stored) (fails state (Says SaveFailed)) written))) playing
 
 saves_alike : (state : State) (o : Option Target) (s t : Bool) → state.playing ≡ true → saves state o s ≡ saves state o t
 saves_alike state None s t playing = refl

@@ -9,7 +9,8 @@ use Rattle.mgs_model.specs.Picture.{Picture}
 use Rattle.mgs_model.specs.Draw.{draw}
 use Rattle.mgs_model.specs.declared.search.Direction.TheVariants.{Forward, Backward}
 use Rattle.mgs_model.specs.declared.echo_text.Message.{Message}
-use Rattle.mgs_model.specs.declared.echo_text.Message.TheVariants.{Silent, NoMatch}
+use Rattle.mgs_model.specs.declared.echo_text.Message.TheVariants.{Says}
+use Rattle.mgs_model.specs.declared.echo_text.Notice.TheVariants.{Silent, NoMatch}
 use Rattle.mgs_model.specs.declared.session.Mode.{Mode}
 use Rattle.mgs_model.specs.declared.session.Mode.TheVariants.{Plain, Prompt, Searching, Replacing}
 use Rattle.mgs_model.specs.declared.session.Question.TheVariants.{SwitchTo}
@@ -43,29 +44,29 @@ last (r ∷ s ∷ rs) = last (s ∷ rs)
 abbrev echoed : Picture → List ℕ × ℕ × ℕ
 echoed p = (last p.lines, p.row, p.col)
 
-in_no_mode : echoed (screen_of Plain [] Silent) ≡ (codes "                    ", 0, 2)
+in_no_mode : echoed (screen_of Plain [] (Says Silent)) ≡ (codes "                    ", 0, 2)
 unfolding draw fitted glyph shown_row
 in_no_mode = refl
 
-behind_the_prompt : echoed (screen_of (Prompt SwitchTo) [] Silent) ≡ (codes "Switch to buffer:   ", 5, 18)
+behind_the_prompt : echoed (screen_of (Prompt SwitchTo) [] (Says Silent)) ≡ (codes "Switch to buffer:   ", 5, 18)
 unfolding draw fitted glyph shown_row line_shown
 behind_the_prompt = refl
 
-behind_the_input : echoed (screen_of (Prompt SwitchTo) (codes "no") Silent) ≡ (codes "$itch to buffer: no ", 5, 19)
+behind_the_input : echoed (screen_of (Prompt SwitchTo) (codes "no") (Says Silent)) ≡ (codes "$itch to buffer: no ", 5, 19)
 unfolding draw fitted glyph shown_row line_shown
 behind_the_input = refl
 
 -- an echo text hides the line, and the cursor is at the point
-hidden : echoed (screen_of (Prompt SwitchTo) (codes "no") NoMatch) ≡ (codes "No match            ", 0, 2)
+hidden : echoed (screen_of (Prompt SwitchTo) (codes "no") (Says NoMatch)) ≡ (codes "No match            ", 0, 2)
 unfolding draw fitted glyph shown_row line_shown
 hidden = refl
 
 -- the line of a query-replace is no prompt
-asked : echoed (screen_of Replacing (codes "no") Silent) ≡ (codes "Replace?            ", 0, 2)
+asked : echoed (screen_of Replacing (codes "no") (Says Silent)) ≡ (codes "Replace?            ", 0, 2)
 unfolding draw fitted glyph shown_row line_shown
 asked = refl
 
 -- nor is that of an incremental search, of which the end is shown where it is too long
-searching : (echoed (screen_of (Searching Forward false) (codes "ab") Silent) ≡ (codes "I-search: ab        ", 0, 2)) × (echoed (screen_of (Searching Backward false) (codes "x") Silent) ≡ (codes "$search backward: x ", 0, 2)) × (echoed (screen_of (Searching Forward true) (codes "ab") Silent) ≡ (codes "$iling I-search: ab ", 0, 2))
+searching : (echoed (screen_of (Searching Forward false) (codes "ab") (Says Silent)) ≡ (codes "I-search: ab        ", 0, 2)) × (echoed (screen_of (Searching Backward false) (codes "x") (Says Silent)) ≡ (codes "$search backward: x ", 0, 2)) × (echoed (screen_of (Searching Forward true) (codes "ab") (Says Silent)) ≡ (codes "$iling I-search: ab ", 0, 2))
 unfolding draw fitted glyph shown_row line_shown
 searching = (refl, refl, refl)

@@ -9,7 +9,8 @@ use Rattle.mgs_model.specs.Turns.{next}
 use Rattle.mgs_model.specs.Events.{Byte, Open, step, turns, most_turns, path}
 use Rattle.mgs_laws.specs.Refusals.{refused_in, refused_act, may_be_refused}
 use Rattle.mgs_model.specs.declared.echo_text.Message.{Message}
-use Rattle.mgs_model.specs.declared.echo_text.Message.TheVariants.{Silent, Denied, NoBuffer, NoPattern, NoMemory, Quitting, Replaced}
+use Rattle.mgs_model.specs.declared.echo_text.Message.TheVariants.{Says, Denied, Replaced}
+use Rattle.mgs_model.specs.declared.echo_text.Notice.TheVariants.{Silent, NoBuffer, NoPattern, NoMemory, Quitting}
 use Rattle.mgs_model.specs.declared.session.Mode.TheVariants.{Plain, Prompt, Replacing}
 use Rattle.mgs_model.specs.declared.session.Command.TheVariants.{Rearrange, Ask}
 use Rattle.mgs_model.specs.declared.session.Arrangement.TheVariants.{ListBuffers}
@@ -68,7 +69,7 @@ stopped : (told (replacing (codes "aaa") (codes "a") (codes "b") (codes "yq")) �
 unfolding turns path most_turns outcome next key_read
 stopped = (refl, refl, refl)
 
-quit : told (replacing (codes "aaa") (codes "a") (codes "b") (codes "y" ++ 7 ∷ [])) ≡ (codes "baa" ∷ [], Some (2 ∷ []), Some Quitting)
+quit : told (replacing (codes "aaa") (codes "a") (codes "b") (codes "y" ++ 7 ∷ [])) ≡ (codes "baa" ∷ [], Some (2 ∷ []), Some (Says Quitting))
 unfolding turns path most_turns outcome next key_read
 quit = refl
 
@@ -88,14 +89,14 @@ unfolding turns path most_turns outcome next key_read
 none = (refl, refl)
 
 -- an empty old text is judged at the last RET, behind the rights
-no_pattern : (modes (doing (notes (codes "a")) (C (Ask ReplaceWhat) None ∷ B 13 ∷ [])) ≡ Some (Prompt ReplaceWith)) × (echo (replacing (codes "a") [] (codes "b") []) ≡ Some NoPattern)
+no_pattern : (modes (doing (notes (codes "a")) (C (Ask ReplaceWhat) None ∷ B 13 ∷ [])) ≡ Some (Prompt ReplaceWith)) × (echo (replacing (codes "a") [] (codes "b") []) ≡ Some (Says NoPattern))
 unfolding turns path most_turns outcome next key_read
 no_pattern = (refl, refl)
 
 abbrev unread : World
 unread = record (notes []) { buffers = buffer_of (codes "notes") (codes "aa") (record { entry_type = Allow; who = User (codes "bob"); mask = 132 } ∷ []) ∷ [] }
 
-denied_first : (echo (doing_bob unread (asked [] [])) ≡ Some (Denied (NotGranted ReadData))) × (echo (doing (notes []) (C (Rearrange ListBuffers) None ∷ asked [] [])) ≡ Some NoBuffer)
+denied_first : (echo (doing_bob unread (asked [] [])) ≡ Some (Denied (NotGranted ReadData))) × (echo (doing (notes []) (C (Rearrange ListBuffers) None ∷ asked [] [])) ≡ Some (Says NoBuffer))
 unfolding turns path most_turns outcome next key_read
 denied_first = (refl, refl)
 
@@ -103,7 +104,7 @@ denied_first = (refl, refl)
 abbrev readable : World
 readable = record (notes []) { buffers = buffer_of (codes "notes") (codes "a a a") (record { entry_type = Allow; who = User (codes "bob"); mask = 129 } ∷ []) ∷ [] }
 
-skips_alone : told (doing_bob readable (asked (codes "a") (codes "b") ++ typed (codes "n"))) ≡ (codes "a a a" ∷ [], Some (3 ∷ []), Some Silent)
+skips_alone : told (doing_bob readable (asked (codes "a") (codes "b") ++ typed (codes "n"))) ≡ (codes "a a a" ∷ [], Some (3 ∷ []), Some (Says Silent))
 unfolding turns path most_turns outcome next key_read
 skips_alone = refl
 
@@ -131,12 +132,12 @@ abbrev disturbed : List ℕ → World
 disturbed bytes =
     all_done (step (step (replacing (codes "abab") (codes "ab") (codes "c") []) (Open 2 (codes "ann") 24 80)) (Byte 2 120 true None)) (typed bytes)
 
-not_replaced : told (disturbed (codes "y")) ≡ (codes "xabab" ∷ [], Some (3 ∷ []), Some Silent)
+not_replaced : told (disturbed (codes "y")) ≡ (codes "xabab" ∷ [], Some (3 ∷ []), Some (Says Silent))
 unfolding turns path most_turns outcome next key_read
 not_replaced = refl
 
 -- that counts nothing; the next match is found from the anchor on, and `.` ends it all the same
-next_replaced : (told (disturbed (codes "yy")) ≡ (codes "xcab" ∷ [], Some (4 ∷ []), Some Silent)) × (told (disturbed (codes "y!")) ≡ (codes "xcc" ∷ [], Some (3 ∷ []), Some (Replaced 2))) × (told (disturbed (codes ".")) ≡ (codes "xabab" ∷ [], Some (3 ∷ []), Some (Replaced 0))) × (told (disturbed (codes "n")) ≡ (codes "xabab" ∷ [], Some (3 ∷ []), Some Silent))
+next_replaced : (told (disturbed (codes "yy")) ≡ (codes "xcab" ∷ [], Some (4 ∷ []), Some (Says Silent))) × (told (disturbed (codes "y!")) ≡ (codes "xcc" ∷ [], Some (3 ∷ []), Some (Replaced 2))) × (told (disturbed (codes ".")) ≡ (codes "xabab" ∷ [], Some (3 ∷ []), Some (Replaced 0))) × (told (disturbed (codes "n")) ≡ (codes "xabab" ∷ [], Some (3 ∷ []), Some (Says Silent)))
 unfolding turns path most_turns outcome next key_read
 next_replaced = (refl, refl, refl, refl)
 
@@ -144,7 +145,7 @@ next_replaced = (refl, refl, refl, refl)
 abbrev refused : World
 refused = all_done (replacing (codes "a a a") (codes "a") (codes "b") []) (S 33 1 ∷ [])
 
-one_done : (told refused ≡ (codes "b a a" ∷ [], Some (3 ∷ []), Some NoMemory)) × (modes refused ≡ Some Replacing) × (told (all_done refused (B 33 ∷ [])) ≡ (codes "b b b" ∷ [], Some (5 ∷ []), Some (Replaced 3)))
+one_done : (told refused ≡ (codes "b a a" ∷ [], Some (3 ∷ []), Some (Says NoMemory))) × (modes refused ≡ Some Replacing) × (told (all_done refused (B 33 ∷ [])) ≡ (codes "b b b" ∷ [], Some (5 ∷ []), Some (Replaced 3)))
 unfolding turns path most_turns outcome next key_read
 one_done = (refl, refl, refl)
 

@@ -7,7 +7,8 @@ use Rattle.mgs_model.specs.Turns.{command_turn}
 use Rattle.mgs_model.specs.Events.{Open, Byte, step, begun_state, settled, turns, turn_done, with_state, most_turns}
 use Rattle.mgs_model.specs.Draw.{state_line}
 use Rattle.mgs_model.specs.declared.echo_text.Message.{Message}
-use Rattle.mgs_model.specs.declared.echo_text.Message.TheVariants.{Silent}
+use Rattle.mgs_model.specs.declared.echo_text.Message.TheVariants.{Says}
+use Rattle.mgs_model.specs.declared.echo_text.Notice.TheVariants.{Silent}
 use Rattle.mgs_model.specs.declared.session.Mode.{Mode}
 use Rattle.mgs_model.specs.declared.session.Command.{Command}
 use Rattle.mgs_model.specs.declared.entry.Entry.{Entry}
@@ -39,7 +40,7 @@ abbrev pub state_in : World → State
 state_in w = elim (find_session 1 w.sessions) [ None ↦ first_state | Some x ↦ x.state ]
 
 abbrev pub commanded : World → Command → Option ℕ → Option ℕ → World
-commanded w c n stop = settled (turns most_turns 1 true (turn_done 1 true (command_turn (record (state_in w) { echo = Silent }) n c) w stop)).world
+commanded w c n stop = settled (turns most_turns 1 true (turn_done 1 true (command_turn (record (state_in w) { echo = Says Silent }) n c) w stop)).world
 
 abbrev pub does : World → Doing → World
 does w (B byte) = step w (Byte 1 byte true None)

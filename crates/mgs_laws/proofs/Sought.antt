@@ -14,7 +14,8 @@ use Rattle.mgs_model.specs.Events.{Open, step, turns, most_turns, path}
 use Rattle.mgs_laws.specs.Refusals.{refused_in, refused_act, may_be_refused}
 use Rattle.mgs_model.specs.declared.search.Direction.{Direction}
 use Rattle.mgs_model.specs.declared.search.Direction.TheVariants.{Forward, Backward}
-use Rattle.mgs_model.specs.declared.echo_text.Message.TheVariants.{Silent, Denied, NoBuffer, NoPattern, NotFound, Quitting, NoMemory}
+use Rattle.mgs_model.specs.declared.echo_text.Message.TheVariants.{Says, Denied}
+use Rattle.mgs_model.specs.declared.echo_text.Notice.TheVariants.{Silent, NoBuffer, NoPattern, NotFound, Quitting, NoMemory}
 use Rattle.mgs_model.specs.declared.session.Mode.TheVariants.{Plain}
 use Rattle.mgs_model.specs.declared.session.Command.TheVariants.{Move, Seek, Rearrange, Ask}
 use Rattle.mgs_model.specs.declared.session.Motion.TheVariants.{BufferEnd}
@@ -57,7 +58,7 @@ not_found_again : told (forward (codes "abcabc") (codes "c" ++ 19 ∷ 19 ∷ [])
 unfolding turns path most_turns outcome next key_read
 not_found_again = refl
 
-quit : (points (forward (codes "abcabc") (codes "c" ++ 19 ∷ 19 ∷ 7 ∷ [])) ≡ Some (0 ∷ [])) × (echo (forward (codes "abcabc") (codes "c" ++ 19 ∷ 19 ∷ 7 ∷ [])) ≡ Some Quitting) × (last (forward (codes "abcabc") (codes "c" ++ 7 ∷ [])) ≡ Some [])
+quit : (points (forward (codes "abcabc") (codes "c" ++ 19 ∷ 19 ∷ 7 ∷ [])) ≡ Some (0 ∷ [])) × (echo (forward (codes "abcabc") (codes "c" ++ 19 ∷ 19 ∷ 7 ∷ [])) ≡ Some (Says Quitting)) × (last (forward (codes "abcabc") (codes "c" ++ 7 ∷ [])) ≡ Some [])
 unfolding turns path most_turns outcome next key_read
 quit = (refl, refl, refl)
 
@@ -135,7 +136,7 @@ unfolding turns path most_turns outcome next key_read find_command
 denied = (refl, refl, refl)
 
 -- RET and C-g need none
-not_denied : (last (all_done locked_out (B 13 ∷ [])) ≡ Some (codes "a")) × (echo (all_done locked_out (B 7 ∷ [])) ≡ Some Quitting) × (points (all_done locked_out (B 7 ∷ [])) ≡ Some (0 ∷ []))
+not_denied : (last (all_done locked_out (B 13 ∷ [])) ≡ Some (codes "a")) × (echo (all_done locked_out (B 7 ∷ [])) ≡ Some (Says Quitting)) × (points (all_done locked_out (B 7 ∷ [])) ≡ Some (0 ∷ []))
 unfolding turns path most_turns outcome next key_read find_command
 not_denied = (refl, refl, refl)
 
@@ -157,7 +158,7 @@ found_moved = (refl, refl, refl)
 abbrev killed : World
 killed = other_types (step (forward (codes "abc") (codes "b")) (Open 2 (codes "ann") 24 80)) (24 ∷ 107 ∷ 13 ∷ [])
 
-over : (modes killed ≡ Some Plain) × (echo killed ≡ Some Silent) × (last killed ≡ Some []) × (texts killed ≡ [])
+over : (modes killed ≡ Some Plain) × (echo killed ≡ Some (Says Silent)) × (last killed ≡ Some []) × (texts killed ≡ [])
 unfolding turns path most_turns outcome next key_read
 over = (refl, refl, refl, refl)
 
@@ -167,7 +168,7 @@ unfolding turns path most_turns outcome next key_read
 may_begin = refl
 
 -- where it is, nothing has begun
-not_begun : (modes (doing (notes (codes "ab")) (R (Seek (StartSearch Forward)) None 0 ∷ [])) ≡ Some Plain) × (echo (doing (notes (codes "ab")) (R (Seek (StartSearch Forward)) None 0 ∷ [])) ≡ Some NoMemory)
+not_begun : (modes (doing (notes (codes "ab")) (R (Seek (StartSearch Forward)) None 0 ∷ [])) ≡ Some Plain) × (echo (doing (notes (codes "ab")) (R (Seek (StartSearch Forward)) None 0 ∷ [])) ≡ Some (Says NoMemory))
 unfolding turns path most_turns outcome next key_read
 not_begun = (refl, refl)
 
@@ -183,7 +184,7 @@ went : (points (doing (notes (codes "abcABC")) (asked Forward (codes "B"))) ≡ 
 unfolding turns path most_turns outcome next key_read
 went = (refl, refl, refl, refl)
 
-nowhere : (echo (doing (notes (codes "abc")) (asked Forward (codes "x"))) ≡ Some NotFound) × (echo (doing (notes (codes "abc")) (asked Backward (codes "a"))) ≡ Some NotFound) × (echo (doing (notes (codes "abc")) (asked Forward [])) ≡ Some NoPattern)
+nowhere : (echo (doing (notes (codes "abc")) (asked Forward (codes "x"))) ≡ Some (Says NotFound)) × (echo (doing (notes (codes "abc")) (asked Backward (codes "a"))) ≡ Some (Says NotFound)) × (echo (doing (notes (codes "abc")) (asked Forward [])) ≡ Some (Says NoPattern))
 unfolding turns path most_turns outcome next key_read
 nowhere = (refl, refl, refl)
 
@@ -196,6 +197,6 @@ asked_line : lines (doing (notes []) (C (Ask (SearchWhat Backward)) None ∷ B 9
 unfolding turns path most_turns outcome next key_read
 asked_line = refl
 
-no_buffer : (echo (doing (notes []) (C (Rearrange ListBuffers) None ∷ asked Forward [])) ≡ Some NoBuffer) × (echo (doing (notes []) (C (Rearrange ListBuffers) None ∷ C (Seek (StartSearch Forward)) None ∷ [])) ≡ Some NoBuffer)
+no_buffer : (echo (doing (notes []) (C (Rearrange ListBuffers) None ∷ asked Forward [])) ≡ Some (Says NoBuffer)) × (echo (doing (notes []) (C (Rearrange ListBuffers) None ∷ C (Seek (StartSearch Forward)) None ∷ [])) ≡ Some (Says NoBuffer))
 unfolding turns path most_turns outcome next key_read
 no_buffer = (refl, refl)

@@ -8,7 +8,8 @@ use Rattle.mgs_model.specs.Turns.{Turn, Keep, answer_turn, completed, names_comp
 use Rattle.mgs_model.specs.declared.sequence.Sequence.{Sequence}
 use Rattle.mgs_model.specs.declared.sequence.Sequence.TheVariants.{Whole, Begun, Broken}
 use Rattle.mgs_model.specs.Plans.{failed_state}
-use Rattle.mgs_model.specs.declared.echo_text.Message.TheVariants.{Quitting, NoMatch}
+use Rattle.mgs_model.specs.declared.echo_text.Message.TheVariants.{Says}
+use Rattle.mgs_model.specs.declared.echo_text.Notice.TheVariants.{Quitting, NoMatch}
 use Rattle.mgs_model.specs.declared.session.Question.{Question}
 use Rattle.mgs_model.specs.declared.session.Question.TheVariants.{ReplaceWith}
 use Rattle.mgs_mini.specs.declared.Waiting.{Waiting}
@@ -60,7 +61,7 @@ typed_state state input waiting = record state { input = input; keys = keys_of w
 abbrev pub stepped : View → Question → State → Step → Turn
 stepped v c state GoesOn = Keep state
 stepped v c state Answered = answer_turn c state
-stepped v c state Quit = Keep (failed_state Quitting state)
+stepped v c state Quit = Keep (failed_state (Says Quitting) state)
 stepped v c state Completes = Keep (completed state (completion (names_completed v c) state.input))
 stepped v c state Unbound = Keep (unbound_state state)
 
@@ -81,7 +82,7 @@ last_dropped input = take (length input - 1) input
 -- the record that a completion leaves: where there was none, the session is told
 abbrev pub told : Bool → State → State
 told true state = state
-told false state = record state { echo = NoMatch }
+told false state = record state { echo = Says NoMatch }
 
 -- that a byte leads from one input of a prompt to another, and a completion, where there is one
 abbrev pub IsPromptTurn : PromptInput → ℕ → PromptInput → Step → Type 0

@@ -19,7 +19,8 @@ use Rattle.mgs_model.specs.declared.right.Right.TheVariants.{ReadData, WriteData
 use Rattle.mgs_model.specs.declared.entry.Decision.{Decision}
 use Rattle.mgs_model.specs.declared.entry.Decision.TheVariants.{Granted}
 use Rattle.mgs_model.specs.declared.echo_text.Message.{Message}
-use Rattle.mgs_model.specs.declared.echo_text.Message.TheVariants.{Denied, Silent, KeyNotBound, NoBuffer, BufferFull, KillTooLarge, InMacro, NoSuchBuffer, BadName, TooManyBuffers, NoSuchUser, NoSuchGroup, NoFile, SaveFailed, Wrote, Quitting, Replaced}
+use Rattle.mgs_model.specs.declared.echo_text.Message.TheVariants.{Says, Denied, Wrote, Replaced}
+use Rattle.mgs_model.specs.declared.echo_text.Notice.TheVariants.{Silent, KeyNotBound, NoBuffer, BufferFull, KillTooLarge, InMacro, NoSuchBuffer, BadName, TooManyBuffers, NoSuchUser, NoSuchGroup, NoFile, SaveFailed, Quitting}
 use Rattle.mgs_model.specs.declared.session.Mode.{Mode}
 use Rattle.mgs_model.specs.declared.session.Mode.TheVariants.{Plain, Prompt, Searching}
 use Rattle.mgs_model.specs.declared.session.Question.{Question}
@@ -206,7 +207,7 @@ finished_state f state = record (acted_state state) { echo = f.told; kind = f.ki
 
 abbrev pub finished : State → Finish → Effect → Outcome
 finished state f effect =
-    if is_too_large f.kill then fails state KillTooLarge
+    if is_too_large f.kill then fails state (Says KillTooLarge)
     else record { state = finished_state f state; kill = f.kill; arrange = Adjust f.point f.mark f.top None Keep_search; effect = effect }
 
 abbrev pub edit_of : List ℕ → ℕ → ℕ → List ℕ → Effect
@@ -215,12 +216,12 @@ edit_of name a b put = if is_edit a b put then Edit name a b put else No_effect
 abbrev pub edited_by : State → BufferSeen → Result Change Message → Outcome
 edited_by state b (Err message) = fails state message
 edited_by state b (Ok c) =
-    if is_full (size_told b.told) (serial_told b.told) c.a c.b c.put then fails state BufferFull
+    if is_full (size_told b.told) (serial_told b.told) c.a c.b c.put then fails state (Says BufferFull)
     else finished state c.finish (edit_of b.name c.a c.b c.put)
 
 -- a family that edits the selected window's buffer
 abbrev pub edits : State → Option Target → (Target → Result Change Message) → Outcome
-edits state None plan = fails state NoBuffer
+edits state None plan = fails state (Says NoBuffer)
 edits state (Some t) plan = edited_by state t.buffer (plan t)
 
 abbrev pub moved_by : State → Result Finish Message → Outcome
@@ -229,7 +230,7 @@ moved_by state (Ok f) = finished state f No_effect
 
 -- a family that cannot
 abbrev pub moves : State → Option Target → (Target → Result Finish Message) → Outcome
-moves state None plan = fails state NoBuffer
+moves state None plan = fails state (Says NoBuffer)
 moves state (Some t) plan = moved_by state (plan t)
 
 -- where the last match was met, its mode ends and so does the replacing of all
@@ -243,7 +244,7 @@ mode_left (Over n) state = replacing_over (counted state.count n) state
 mode_left (Failing failing) state = record state { mode = failing_in failing state.mode }
 
 abbrev pub search_finished_state : SearchFinish → State → State
-search_finished_state f state = mode_left f.mode (record (acted_state state) { echo = Silent })
+search_finished_state f state = mode_left f.mode (record (acted_state state) { echo = Says Silent })
 
 abbrev pub search_finished : State → SearchFinish → Effect → Outcome
 search_finished state f effect =
@@ -255,18 +256,18 @@ sought_by state (Ok f) = search_finished state f No_effect
 
 -- a family that searches
 abbrev pub seeks : State → Option Target → (Target → Result SearchFinish Message) → Outcome
-seeks state None plan = fails state NoBuffer
+seeks state None plan = fails state (Says NoBuffer)
 seeks state (Some t) plan = sought_by state (plan t)
 
 abbrev pub replaced_by : State → BufferSeen → Result SearchChange Message → Outcome
 replaced_by state b (Err message) = fails state message
 replaced_by state b (Ok c) =
-    if is_full (size_told b.told) (serial_told b.told) c.a c.b c.put then fails state BufferFull
+    if is_full (size_told b.told) (serial_told b.told) c.a c.b c.put then fails state (Says BufferFull)
     else search_finished state c.finish (edit_of b.name c.a c.b c.put)
 
 -- one that replaces what was found
 abbrev pub replaces_one : State → Option Target → (Target → Result SearchChange Message) → Outcome
-replaces_one state None plan = fails state NoBuffer
+replaces_one state None plan = fails state (Says NoBuffer)
 replaces_one state (Some t) plan = replaced_by state t.buffer (plan t)
 
 abbrev pub sets : State → Result State Message → Outcome
@@ -308,31 +309,31 @@ shows_named v name effect = arranges v.session.state effect (Ok (comes v.session
 
 abbrev pub creates_buffer : View → List ℕ → Outcome
 creates_buffer v name =
-    if not (is_name name) then fails v.session.state BadName
-    else if nat_le BUFFER_LIMIT (length v.buffers) then fails v.session.state TooManyBuffers
+    if not (is_name name) then fails v.session.state (Says BadName)
+    else if nat_le BUFFER_LIMIT (length v.buffers) then fails v.session.state (Says TooManyBuffers)
     else shows_named v name (Create name v.session.user)
 
 abbrev pub kills_buffer : View → List ℕ → Option BufferSeen → Outcome
-kills_buffer v [] found = fails v.session.state NoBuffer
-kills_buffer v (c ∷ cs) None = fails v.session.state NoSuchBuffer
+kills_buffer v [] found = fails v.session.state (Says NoBuffer)
+kills_buffer v (c ∷ cs) None = fails v.session.state (Says NoSuchBuffer)
 kills_buffer v (c ∷ cs) (Some b) = record { state = acted_state v.session.state; kill = Keep_kill; arrange = Stay; effect = Kill (c ∷ cs) }
 
 -- one effect on the buffer that is shown, or whose list is
 abbrev pub rules : State → Option BufferSeen → (BufferSeen → Result Effect Message) → Outcome
-rules state None plan = fails state NoBuffer
+rules state None plan = fails state (Says NoBuffer)
 rules state (Some b) plan = effects state (plan b)
 
 -- the selected window comes to the access list of the buffer that it shows, or whose list it shows
 abbrev pub lists : View → Option BufferSeen → Outcome
-lists v None = fails v.session.state NoBuffer
+lists v None = fails v.session.state (Says NoBuffer)
 lists v (Some b) = arranges v.session.state No_effect (Ok (comes v.session.windows v.session.selected (List_of b.name)))
 
 abbrev pub saves : State → Option Target → Bool → Outcome
-saves state None stored = fails state NoBuffer
+saves state None stored = fails state (Says NoBuffer)
 saves state (Some t) stored =
-    if state.playing then fails state InMacro
-    else if not (has_file t.buffer.told) then fails state NoFile
-    else if not stored then fails state SaveFailed
+    if state.playing then fails state (Says InMacro)
+    else if not (has_file t.buffer.told) then fails state (Says NoFile)
+    else if not stored then fails state (Says SaveFailed)
     else record { state = record (acted_state state) { echo = Wrote t.buffer.name }; kill = Keep_kill; arrange = Stay; effect = Save t.buffer.name (text_in t.buffer.full) }
 
 -- a listing or an access list goes by rows, and a text by lines
@@ -379,7 +380,7 @@ meaning_by_name v InsertBuffer n typed =
 
 -- the store's answer to a save decides what that does; what is asked for does not go by it
 abbrev pub meaning : View → Act → Bool → Meaning
-meaning v Unbound stored = asking [] (fails v.session.state KeyNotBound)
+meaning v Unbound stored = asking [] (fails v.session.state (Says KeyNotBound))
 meaning v (Run (Insert c) n typed) stored = editing v n typed insertion_right (λ b x. insertion c x)
 meaning v (Run (InsertReading c) n typed) stored = editing v n typed (λ t. bit_of ReadData + insertion_right t) (λ b x. reading_insertion c (text_in b.full) x)
 meaning v (Run (Move c) n typed) stored =
@@ -396,16 +397,16 @@ meaning v (Run (Ask c) n typed) stored = asking [] (owns (asks c n v.session.sta
 meaning v (Run (Named c) n typed) stored = meaning_by_name v c n typed
 meaning v (Run (Entries c) n typed) stored = ruling v (subject v) (bit_of WriteAcl) (λ b. list_set b.name (entries_changed c (entries_told b.told) n typed))
 meaning v (Run ListEntries n typed) stored = asking (about (subject v) (bit_of ReadAcl)) (lists v (subject v))
-meaning v (Run SetOwner n typed) stored = ruling v (subject v) (bit_of WriteOwner) (λ b. if is_among typed v.directory.users then Ok (SetOwners b.name (ToUser typed)) else Err NoSuchUser)
+meaning v (Run SetOwner n typed) stored = ruling v (subject v) (bit_of WriteOwner) (λ b. if is_among typed v.directory.users then Ok (SetOwners b.name (ToUser typed)) else Err (Says NoSuchUser))
 meaning v (Run SetGroup n typed) stored = ruling v (subject v) (bit_of WriteOwner)
-    (λ b. if is_group_answer v.directory.groups typed then Ok (SetOwners b.name (ToGroup (group_answered typed))) else Err NoSuchGroup)
+    (λ b. if is_group_answer v.directory.groups typed then Ok (SetOwners b.name (ToGroup (group_answered typed))) else Err (Says NoSuchGroup))
 meaning v (Run UndoEdit n typed) stored = editing v n typed (λ t. read_write) (λ b x. undo (items_in b.full) x)
 meaning v (Run NotModified n typed) stored = ruling v (shown_buffer v) read_write (λ b. Ok (Unmodified b.name))
 meaning v (Run SaveBuffer n typed) stored = asking (here (target v) (λ t. read_write)) (saves v.session.state (target v) stored)
 meaning v (Run LeaveSearch n typed) stored =
-    asking [] (record { state = failed_state Quitting v.session.state; kill = Keep_kill; arrange = Adjust At_origin Keep_mark Keep_position None No_search; effect = No_effect })
+    asking [] (record { state = failed_state (Says Quitting) v.session.state; kill = Keep_kill; arrange = Adjust At_origin Keep_mark Keep_position None No_search; effect = No_effect })
 meaning v (Run Exit n typed) stored =
-    asking [] (if v.session.state.playing then fails v.session.state InMacro else record { state = acted_state v.session.state; kill = Keep_kill; arrange = Stay; effect = Quit })
+    asking [] (if v.session.state.playing then fails v.session.state (Says InMacro) else record { state = acted_state v.session.state; kill = Keep_kill; arrange = Stay; effect = Quit })
 
 abbrev pub needs : View → Act → List Request
 needs v c = (meaning v c false).needs

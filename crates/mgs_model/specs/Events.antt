@@ -10,7 +10,8 @@ use Rattle.mgs_model.specs.Apply.{is_search_mode, change_first, outcome_in, act,
 use Rattle.mgs_model.specs.View.{View, view_of}
 use Rattle.mgs_model.specs.Turns.{Turn, Rest, Keep, Do, next}
 use Rattle.mgs_model.specs.declared.right.Right.TheVariants.{ReadData, ReadAttributes}
-use Rattle.mgs_model.specs.declared.echo_text.Message.TheVariants.{NoMemory, MacroTooLong}
+use Rattle.mgs_model.specs.declared.echo_text.Message.TheVariants.{Says}
+use Rattle.mgs_model.specs.declared.echo_text.Notice.TheVariants.{NoMemory, MacroTooLong}
 use Rattle.mgs_model.specs.declared.session.Kind.TheVariants.{Other}
 use Rattle.mgs_model.specs.declared.errors.OpenFault.{OpenFault}
 use Rattle.mgs_model.specs.declared.errors.OpenFault.TheVariants.{NoUser, Size, Full}
@@ -127,7 +128,7 @@ rests _ = false
 
 -- memory was refused: this is told, what was half read is forgotten, and nothing more is done
 abbrev pub refused_state : State → State
-refused_state state = record state { echo = NoMemory; argument = None; keys = []; todo = [] }
+refused_state state = record state { echo = Says NoMemory; argument = None; keys = []; todo = [] }
 
 -- an act is decided with the state that it begins from; a refused one leaves the state that was there before
 abbrev pub act_done : ℕ → Bool → State → Act → World → Option ℕ → Doing
@@ -165,7 +166,7 @@ is_macro_full state = state.recording && nat_le MACRO_LIMIT (length state.macro)
 -- ends the recording
 abbrev pub begun_if : Bool → ℕ → State → State
 begun_if too_long byte state =
-    if too_long then record state { echo = MacroTooLong; macro = []; recording = false; kind = Other; todo = [] }
+    if too_long then record state { echo = Says MacroTooLong; macro = []; recording = false; kind = Other; todo = [] }
     else record state { macro = if state.recording then state.macro ++ byte ∷ [] else state.macro; todo = Typed byte ∷ [] }
 
 abbrev pub begun_state : ℕ → State → State

@@ -16,7 +16,8 @@ use Rattle.mgs_model.specs.declared.search.Direction.{Direction}
 use Rattle.mgs_model.specs.declared.search.Direction.TheVariants.{Forward, Backward}
 use Rattle.mgs_model.specs.declared.echo_text.CursorPosition.{CursorPosition}
 use Rattle.mgs_model.specs.declared.echo_text.Message.{Message}
-use Rattle.mgs_model.specs.declared.echo_text.Message.TheVariants.{Silent, BeginningOfBuffer, EndOfBuffer, Quitting, MarkSet, NoMark, NothingToYank, CharacterAt, EndAt, NoArgument, BadColumn, InMacro, NotInMacro, NoMacro, TooMany, OnlyOneWindow, WindowTooSmall, TooManyWindows, ImpossibleChange, NoSuchBuffer, NotANumber, BadEntry, NoSuchEntry, ListFull, NoFurtherUndo, BufferFull}
+use Rattle.mgs_model.specs.declared.echo_text.Message.TheVariants.{Says, CharacterAt, EndAt, BadEntry}
+use Rattle.mgs_model.specs.declared.echo_text.Notice.TheVariants.{Silent, BeginningOfBuffer, EndOfBuffer, Quitting, MarkSet, NoMark, NothingToYank, NoArgument, BadColumn, InMacro, NotInMacro, NoMacro, TooMany, OnlyOneWindow, WindowTooSmall, TooManyWindows, ImpossibleChange, NoSuchBuffer, NotANumber, NoSuchEntry, ListFull, NoFurtherUndo, BufferFull}
 use Rattle.mgs_model.specs.declared.session.Mode.TheVariants.{Plain}
 use Rattle.mgs_model.specs.declared.session.Kind.{Kind}
 use Rattle.mgs_model.specs.declared.session.Kind.TheVariants.{Other, Kill, Line, Undo}
@@ -44,7 +45,7 @@ use Rattle.mgs_model.specs.declared.limits.TheConstants.{ENTRY_LIMIT, REPETITION
 
 -- a failure breaks a run of kills, of lines or of undos; that there is nothing more to undo breaks none of undos
 abbrev pub kind_failed : Message → Kind → Kind
-kind_failed NoFurtherUndo (Undo buffer target last) = Undo buffer target last
+kind_failed (Says NoFurtherUndo) (Undo buffer target last) = Undo buffer target last
 kind_failed _ kind = Other
 
 -- a command has failed, or was denied: this is told, its mode ends, and what was half read or still to be done is forgotten
@@ -89,7 +90,7 @@ pub record Change : Type 0 where
   pub finish : Finish
 
 abbrev pub stays : Finish
-stays = record { point = Keep_position; mark = Keep_mark; top = Keep_position; kill = Keep_kill; kind = Other; told = Silent }
+stays = record { point = Keep_position; mark = Keep_mark; top = Keep_position; kill = Keep_kill; kind = Other; told = Says Silent }
 
 abbrev pub goes : ℕ → Finish
 goes p = record stays { point = At p }
@@ -126,14 +127,14 @@ abbrev pub is_at_start : Around → Bool
 is_at_start x = (x.place == 0) && nat_lt 0 (times x)
 
 abbrev pub fails_at_end : {A : Type 0} → Around → A → Result A Message
-fails_at_end x plan = if is_at_end x then Err EndOfBuffer else Ok plan
+fails_at_end x plan = if is_at_end x then Err (Says EndOfBuffer) else Ok plan
 
 abbrev pub fails_at_start : {A : Type 0} → Around → A → Result A Message
-fails_at_start x plan = if is_at_start x then Err BeginningOfBuffer else Ok plan
+fails_at_start x plan = if is_at_start x then Err (Says BeginningOfBuffer) else Ok plan
 
 -- the region lies between the mark and the place
 abbrev pub in_region : {A : Type 0} → Around → (ℕ → ℕ → A) → Result A Message
-in_region x f = fails_without NoMark x.mark (λ m. f (min m x.place) (max m x.place))
+in_region x f = fails_without (Says NoMark) x.mark (λ m. f (min m x.place) (max m x.place))
 
 -- KILLS: a piece joins what was killed or copied just before, behind it, or in front of it where it is killed backwards; else it
 -- is the kill buffer
@@ -159,7 +160,7 @@ abbrev pub insertion : Insertion → Around → Result Change Message
 insertion (SelfInsert c) x = Ok (puts x.place x.place (replicate (times x) c))
 insertion Newline x = Ok (puts x.place x.place (replicate (times x) line_feed))
 insertion OpenLine x = Ok (replaces x.place x.place (replicate (times x) line_feed) (goes x.place))
-insertion Yank x = if length x.kill == 0 then Err NothingToYank else Ok (yanked x (repeat (times x) x.kill))
+insertion Yank x = if length x.kill == 0 then Err (Says NothingToYank) else Ok (yanked x (repeat (times x) x.kill))
 
 -- line feeds, and the white that begins the place's line, as far as it stands before the place
 abbrev pub reading_insertion : ReadingInsertion → List ℕ → Around → Result Change Message
@@ -168,16 +169,16 @@ reading_insertion NewlineAndIndent text x =
 
 -- BY NAME: the text of another buffer, where there is one
 abbrev pub inserted : Option (List ℕ) → Around → Result Change Message
-inserted text x = fails_without NoSuchBuffer text (yanked x)
+inserted text x = fails_without (Says NoSuchBuffer) text (yanked x)
 
 -- MOTIONS cannot edit
 
 -- so many lines down, or up
 abbrev pub down : List ℕ → Around → ℕ → (ℕ → Finish) → Result Finish Message
-down text x n leaves = if is_last_line text x.place && nat_lt 0 n then Err EndOfBuffer else Ok (leaves (lines_down text x.place n))
+down text x n leaves = if is_last_line text x.place && nat_lt 0 n then Err (Says EndOfBuffer) else Ok (leaves (lines_down text x.place n))
 
 abbrev pub up : List ℕ → Around → ℕ → (ℕ → Finish) → Result Finish Message
-up text x n leaves = if is_first_line text x.place && nat_lt 0 n then Err BeginningOfBuffer else Ok (leaves (lines_up text x.place n))
+up text x n leaves = if is_first_line text x.place && nat_lt 0 n then Err (Says BeginningOfBuffer) else Ok (leaves (lines_up text x.place n))
 
 -- the column that a motion by lines goes for: that of the last one in a run of them, else the place's
 abbrev pub goal_in : Kind → ℕ → ℕ
@@ -210,7 +211,7 @@ line_wanted (Some n) typed = Some n
 
 -- lines count from 1 here; 0 is the first one too, and what is past the last one is the last one
 abbrev pub goes_to_line : List ℕ → Option ℕ → Result Finish Message
-goes_to_line text line = fails_without NotANumber line (λ n. goes (lines_down text 0 (n - 1)))
+goes_to_line text line = fails_without (Says NotANumber) line (λ n. goes (lines_down text 0 (n - 1)))
 
 abbrev pub motion : Motion → List ℕ → Around → Result Finish Message
 motion ForwardChar text x = fails_at_end x (goes (min (x.place + times x) x.size))
@@ -230,8 +231,8 @@ motion Recenter text x = Ok (record stays { top = At (start_of (line_of text x.p
 motion WhatCursorPosition text x =
     let position : CursorPosition = record { point = x.place; size = x.size; line = line_of text x.place + 1; column = column text x.place } in
     Ok (record stays { told = position_told position (slice_get text x.place) })
-motion SetMark text x = Ok (record stays { mark = Mark_at x.place; told = MarkSet })
-motion ExchangePointAndMark text x = fails_without NoMark x.mark (λ m. record (goes m) { mark = Mark_at x.place })
+motion SetMark text x = Ok (record stays { mark = Mark_at x.place; told = Says MarkSet })
+motion ExchangePointAndMark text x = fails_without (Says NoMark) x.mark (λ m. record (goes m) { mark = Mark_at x.place })
 motion MarkWholeBuffer text x = Ok (record (goes 0) { mark = Mark_at x.size })
 motion CopyRegion text x = in_region x (λ a b. with_kill Forward text x a b stays)
 
@@ -265,7 +266,7 @@ exchanged_at text p = if (p == length text) || is_feed (slice_index text p) then
 
 abbrev pub transposes : List ℕ → ℕ → Result Change Message
 transposes text q =
-    if q == 0 then Err BeginningOfBuffer
+    if q == 0 then Err (Says BeginningOfBuffer)
     else Ok (replaces (q - 1) (q + 1) (slice_range text q (q + 1) ++ slice_range text (q - 1) q) (goes (q + 1)))
 
 -- CASE: the characters from a up to b in another case, over words from the place on, or in the region, where the point stays
@@ -288,7 +289,7 @@ deletes_blank_lines text p =
 -- the line feed before the line that starts here, and the white around it
 abbrev pub joins_line : List ℕ → ℕ → Result Change Message
 joins_line text start =
-    if start == 0 then Err BeginningOfBuffer
+    if start == 0 then Err (Says BeginningOfBuffer)
     else Ok (replaces (white_start text (start - 1)) (white_end text start) (space ∷ []) (goes (white_start text (start - 1))))
 
 -- FILLING: nothing in a blank line
@@ -336,8 +337,8 @@ taken_back x item =
     replaces from (undone_to x.size item) item.removed (record (goes (from + length item.removed)) { kind = Undo x.name item.serial (x.serial + 1) })
 
 abbrev pub undone : Around → Option Item → Result Change Message
-undone x None = Err NoFurtherUndo
-undone x (Some item) = if x.serial == u64_max then Err BufferFull else Ok (taken_back x item)
+undone x None = Err (Says NoFurtherUndo)
+undone x (Some item) = if x.serial == u64_max then Err (Says BufferFull) else Ok (taken_back x item)
 
 abbrev pub undo : List Item → Around → Result Change Message
 undo items x = undone x (find (λ (item : Item). item.serial == undo_target x) items)
@@ -354,12 +355,12 @@ new_number entries (Some n) = n
 
 abbrev pub entry_inserted : List Entry → ℕ → Entry → Result (List Entry) Message
 entry_inserted entries n e =
-    if not (nat_le 1 n && nat_le n (length entries + 1)) then Err NoSuchEntry
-    else if nat_le ENTRY_LIMIT (length entries) then Err ListFull
+    if not (nat_le 1 n && nat_le n (length entries + 1)) then Err (Says NoSuchEntry)
+    else if nat_le ENTRY_LIMIT (length entries) then Err (Says ListFull)
     else Ok (insert entries (n - 1) e)
 
 abbrev pub entry_replaced : List Entry → Option ℕ → Entry → Result (List Entry) Message
-entry_replaced entries n e = if has_entry entries n then Ok (slice_set entries (count_of n - 1) e) else Err NoSuchEntry
+entry_replaced entries n e = if has_entry entries n then Ok (slice_set entries (count_of n - 1) e) else Err (Says NoSuchEntry)
 
 -- what is done with the entry that was typed
 abbrev pub with_entry : (Entry → Result (List Entry) Message) → Result Entry EntryFault → Result (List Entry) Message
@@ -368,24 +369,24 @@ with_entry change (Ok e) = change e
 
 abbrev pub entries_changed : EntryChange → List Entry → Option ℕ → List ℕ → Result (List Entry) Message
 entries_changed InsertEntry entries n typed = with_entry (entry_inserted entries (new_number entries n)) (entry_in typed)
-entries_changed DeleteEntry entries n typed = if has_entry entries n then Ok (remove entries (count_of n - 1)) else Err NoSuchEntry
+entries_changed DeleteEntry entries n typed = if has_entry entries n then Ok (remove entries (count_of n - 1)) else Err (Says NoSuchEntry)
 entries_changed ReplaceEntry entries n typed = with_entry (entry_replaced entries n) (entry_in typed)
 
 -- SETTINGS change the session's own state alone; the one that is given is that after a command that was done
 
 abbrev pub setting : Setting → State → Option ℕ → Result State Message
-setting SetFillColumn state None = Err NoArgument
-setting SetFillColumn state (Some n) = if n == 0 then Err BadColumn else Ok (record state { fill = n })
-setting KeyboardQuit state n = Ok (record (failed_state Quitting state) { recording = false; macro = cond state.recording [] state.macro })
-setting StartMacro state n = if state.recording || state.playing then Err InMacro else Ok (record state { recording = true; macro = [] })
+setting SetFillColumn state None = Err (Says NoArgument)
+setting SetFillColumn state (Some n) = if n == 0 then Err (Says BadColumn) else Ok (record state { fill = n })
+setting KeyboardQuit state n = Ok (record (failed_state (Says Quitting) state) { recording = false; macro = cond state.recording [] state.macro })
+setting StartMacro state n = if state.recording || state.playing then Err (Says InMacro) else Ok (record state { recording = true; macro = [] })
 setting EndMacro state n =
-    if state.playing then Err InMacro
+    if state.playing then Err (Says InMacro)
     else if state.recording then Ok (record state { recording = false; macro = take (length state.macro - 2) state.macro })
-    else Err NotInMacro
+    else Err (Says NotInMacro)
 setting CallMacro state n =
-    if state.recording || state.playing then Err InMacro
-    else if length state.macro == 0 then Err NoMacro
-    else if nat_lt REPETITION_LIMIT (count_of n) then Err TooMany
+    if state.recording || state.playing then Err (Says InMacro)
+    else if length state.macro == 0 then Err (Says NoMacro)
+    else if nat_lt REPETITION_LIMIT (count_of n) then Err (Says TooMany)
     else Ok (record state { todo = Play ∷ flat_map (λ (bytes : List ℕ). map Played bytes) (replicate (count_of n) state.macro) ++ state.todo })
 
 -- ARRANGEMENTS change the windows alone
@@ -431,22 +432,22 @@ neighbor k count = cond (nat_lt (k + 1) count) (k + 1) (k - 1)
 -- so many rows go from one window to another, if one stays
 abbrev pub given : List WindowSeen → ℕ → ℕ → ℕ → ℕ → Result Arrange Message
 given windows selected from to n =
-    if nat_le (height_at from windows) n then Err ImpossibleChange
+    if nat_le (height_at from windows) n then Err (Says ImpossibleChange)
     else Ok (Slots (resized (λ i h. cond (i == to) (h + n) (cond (i == from) (h - n) h)) 0 windows) selected Keep_search)
 
 abbrev pub arrangement : Arrangement → List WindowSeen → ℕ → Option ℕ → Result Arrange Message
 arrangement DeleteWindow windows k n =
-    if nat_lt (length windows) 2 then Err OnlyOneWindow
+    if nat_lt (length windows) 2 then Err (Says OnlyOneWindow)
     else Ok (Slots (remove (resized (λ i h. cond (i == heir k) (h + (height_at k windows + 1)) h) 0 windows) k) (k - 1) Keep_search)
 arrangement DeleteOtherWindows windows k n = Ok (Slots (old_slot k (rows_of windows - 1) ∷ []) 0 Keep_search)
 arrangement SplitWindow windows k n =
-    if nat_lt (height_at k windows) 3 then Err WindowTooSmall
-    else if nat_le WINDOW_LIMIT (length windows) then Err TooManyWindows
+    if nat_lt (height_at k windows) 3 then Err (Says WindowTooSmall)
+    else if nat_le WINDOW_LIMIT (length windows) then Err (Says TooManyWindows)
     else Ok (Slots (slots_but k (λ x. old_slot k (x.height / 2) ∷ old_slot k (x.height - 1 - x.height / 2) ∷ []) 0 windows) k Keep_search)
 arrangement NextWindow windows k n = Ok (selects windows (cond (nat_lt (k + 1) (length windows)) (k + 1) 0))
 arrangement PreviousWindow windows k n = Ok (selects windows (cond (k == 0) (length windows - 1) (k - 1)))
 arrangement EnlargeWindow windows k n =
-    if nat_lt (length windows) 2 then Err OnlyOneWindow else given windows k (neighbor k (length windows)) k (count_of n)
+    if nat_lt (length windows) 2 then Err (Says OnlyOneWindow) else given windows k (neighbor k (length windows)) k (count_of n)
 arrangement ShrinkWindow windows k n =
-    if nat_lt (length windows) 2 then Err OnlyOneWindow else given windows k k (neighbor k (length windows)) (count_of n)
+    if nat_lt (length windows) 2 then Err (Says OnlyOneWindow) else given windows k k (neighbor k (length windows)) (count_of n)
 arrangement ListBuffers windows k n = Ok (comes windows k Listing)

@@ -7,7 +7,8 @@ use Rattle.mgs_model.specs.Outcome.{PointPlan, Keep_position, At, SearchPlan, Ke
 use Rattle.mgs_model.specs.declared.search.SearchPlaces.{SearchPlaces}
 use Rattle.mgs_model.specs.declared.search.SearchStep.{SearchStep}
 use Rattle.mgs_model.specs.declared.echo_text.Message.{Message}
-use Rattle.mgs_model.specs.declared.echo_text.Message.TheVariants.{NoPattern, NotFound, NoBuffer}
+use Rattle.mgs_model.specs.declared.echo_text.Message.TheVariants.{Says}
+use Rattle.mgs_model.specs.declared.echo_text.Notice.TheVariants.{NoPattern, NotFound, NoBuffer}
 use Rattle.mgs_model.specs.declared.session.Seeking.{Seeking}
 use Rattle.mgs_model.specs.declared.session.Seeking.TheVariants.{SearchFor, StartSearch, SearchOn, StartReplace, SkipMatch}
 use Rattle.mgs_model.specs.declared.session.Replacement.{Replacement}
@@ -68,22 +69,22 @@ next_match x from n point text = met (length x.old) n point (first_match x.old t
 -- a search goes on in its own buffer; no key leads to a window that shows another. Whether it was failing before a step changes nothing
 abbrev pub seek : Seeking → List ℕ → AroundSearch → Result SearchFinish Message
 seek (SearchFor d) text x =
-    if length x.typed == 0 then Err NoPattern
-    else fails_without NotFound (match_once d x.typed text x.places.point) (λ m. record { point = At (match_point d x.typed m); sought = Keep_search; mode = Keep_mode })
+    if length x.typed == 0 then Err (Says NoPattern)
+    else fails_without (Says NotFound) (match_once d x.typed text x.places.point) (λ m. record { point = At (match_point d x.typed m); sought = Keep_search; mode = Keep_mode })
 seek (StartSearch d) text x = Ok (record { point = Keep_position; sought = Begin x.name x.places.point x.places.point; mode = Keep_mode })
 seek (SearchOn d step) text x =
     let s : Sought = record { direction = d; pattern = x.typed; failing = false } in
-    if x.sought_here then Ok (searched_on step s text x.places) else Err NoBuffer
+    if x.sought_here then Ok (searched_on step s text x.places) else Err (Says NoBuffer)
 seek StartReplace text x =
-    if length x.old == 0 then Err NoPattern
+    if length x.old == 0 then Err (Says NoPattern)
     else Ok (elim (first_match x.old text x.places.point) [ None ↦ record { point = Keep_position; sought = Keep_search; mode = Over 0 } | Some m ↦ record { point = At (m + length x.old); sought = Begin x.name x.places.point m; mode = Keep_mode } ])
 seek SkipMatch text x =
-    if x.sought_here then Ok (next_match x (x.places.anchor + cond (is_match text x) (length x.old) 0) 0 Keep_position text) else Err NoBuffer
+    if x.sought_here then Ok (next_match x (x.places.anchor + cond (is_match text x) (length x.old) 0) 0 Keep_position text) else Err (Says NoBuffer)
 
 -- REPLACING: a match that is no longer there is not replaced, which leaves something else
 abbrev pub if_match : List ℕ → AroundSearch → SearchFinish → SearchFinish → Result SearchChange Message
 if_match text x done gone =
-    if not x.sought_here then Err NoBuffer
+    if not x.sought_here then Err (Says NoBuffer)
     else if is_match text x then Ok (record { a = x.places.anchor; b = x.places.anchor + length x.old; put = x.typed; finish = done })
     else Ok (record { a = x.places.anchor; b = x.places.anchor; put = []; finish = gone })
 

@@ -15,7 +15,8 @@ use Rattle.mgs_model.specs.declared.search.Direction.{Direction}
 use Rattle.mgs_model.specs.declared.search.SearchStep.{SearchStep}
 use Rattle.mgs_model.specs.declared.search.SearchStep.TheVariants.{FromAnchor, Ends, Quits, Leaves}
 use Rattle.mgs_model.specs.declared.echo_text.Message.{Message}
-use Rattle.mgs_model.specs.declared.echo_text.Message.TheVariants.{Silent, KeyNotBound, Quitting, NoMatch, NoSuchCommand, Replaced}
+use Rattle.mgs_model.specs.declared.echo_text.Message.TheVariants.{Says, Replaced}
+use Rattle.mgs_model.specs.declared.echo_text.Notice.TheVariants.{Silent, KeyNotBound, Quitting, NoMatch, NoSuchCommand}
 use Rattle.mgs_model.specs.declared.session.Mode.{Mode}
 use Rattle.mgs_model.specs.declared.session.Mode.TheVariants.{Plain, Prompt, Searching, Replacing}
 use Rattle.mgs_model.specs.declared.session.Motion.TheVariants.{GoToLine}
@@ -70,7 +71,7 @@ key_turn state byte = read_turn state (key_read state.argument state.keys byte)
 
 -- TYPED BYTES that are no character and no key: this is told, and they are forgotten. The mode stays, and what was typed in it
 abbrev pub unbound_state : State → State
-unbound_state state = record state { echo = KeyNotBound; keys = []; kind = Other; todo = [] }
+unbound_state state = record state { echo = Says KeyNotBound; keys = []; kind = Other; todo = [] }
 
 -- THE INPUT OF A PROMPT
 
@@ -78,12 +79,12 @@ abbrev pub names_completed : View → Question → List (List ℕ)
 names_completed v c = cond (names_buffers c) (shown_names v) (cond (names_commands c) command_names [])
 
 abbrev pub completed : State → Option (List ℕ) → State
-completed state None = record state { echo = NoMatch }
+completed state None = record state { echo = Says NoMatch }
 completed state (Some input) = record state { input = input }
 
 -- the command of a name that was typed
 abbrev pub named_turn : State → Option ℕ → Option Command → Turn
-named_turn state n None = Keep (failed_state NoSuchCommand state)
+named_turn state n None = Keep (failed_state (Says NoSuchCommand) state)
 named_turn state n (Some c) = command_turn state n c
 
 -- an answer is handled in plain mode
@@ -127,7 +128,7 @@ input_turn state byte Broken = Keep (unbound_state state)
 -- C-g quits also in the middle of a word of keys. Such a word does nothing
 abbrev pub prompt_turn : View → Question → State → ℕ → Turn
 prompt_turn v c state byte =
-    if byte == 7 then Keep (failed_state Quitting state)
+    if byte == 7 then Keep (failed_state (Says Quitting) state)
     else if is_character_byte state.keys byte then input_turn state byte (character_read state.keys byte)
     else if length state.keys == 0 then prompt_key v c state byte
     else Keep (record state { keys = prompt_keys state.keys byte })
@@ -173,7 +174,7 @@ replace_turn state byte =
     else if (byte == 110) || (byte == 127) then Do state (Run (Seek SkipMatch) None state.input)
     else if byte == 33 then Keep (record state { todo = Replace_all ∷ state.todo })
     else if (byte == 113) || (byte == 13) then Keep (record state { echo = Replaced state.count; mode = Plain; input = []; old = []; count = 0 })
-    else if byte == 7 then Keep (failed_state Quitting state)
+    else if byte == 7 then Keep (failed_state (Says Quitting) state)
     else Keep state
 
 -- NEXT
@@ -193,8 +194,8 @@ first_played state (Do before act) = Do (record before { kind = Other }) act
 -- each byte empties the echo text
 abbrev pub todo_turn : View → State → List Todo → Turn
 todo_turn v state [] = Rest
-todo_turn v state (Typed byte ∷ todo) = byte_turn v (record state { echo = Silent; playing = false; todo = todo }) byte state.mode
-todo_turn v state (Played byte ∷ todo) = byte_turn v (record state { echo = Silent; playing = true; todo = todo }) byte state.mode
+todo_turn v state (Typed byte ∷ todo) = byte_turn v (record state { echo = Says Silent; playing = false; todo = todo }) byte state.mode
+todo_turn v state (Played byte ∷ todo) = byte_turn v (record state { echo = Says Silent; playing = true; todo = todo }) byte state.mode
 todo_turn v state (Replace_all ∷ todo) = replacing state ReplaceMatch
 todo_turn v state (Play ∷ todo) = first_played state (todo_turn v state todo)
 

@@ -1,7 +1,7 @@
 // Echo texts.
 ghost use Rattle.std.specs.Prelude.{◌≡◌};
 ghost use Rattle.std.specs.Option.{option_map};
-ghost use Rattle.mgs_model.specs.Messages.{fixed_text};
+ghost use Rattle.mgs_model.specs.Messages.{notice_text, text_in};
 
 use crate::entry::{Decision, EntryFault};
 use crate::name::Name;
@@ -23,10 +23,27 @@ pub struct CursorPosition {
 /// What a session's echo line says. `specs/Messages.antt` has the texts.
 #[derive(Clone, Copy, PartialEq, Eq)]
 pub enum Message {
-    /// Nothing.
-    Silent,
+    /// The same text each time.
+    Says(Notice),
     /// A right that the command needs is not granted.
     Denied(Decision),
+    /// The character after the point, and where the point stands.
+    CharacterAt(char, CursorPosition),
+    /// The point stands at the text's end.
+    EndAt(CursorPosition),
+    /// The text that was typed is no entry.
+    BadEntry(EntryFault),
+    /// `Wrote` and the name of the buffer that was saved.
+    Wrote(Name),
+    /// `Replaced` and how many matches a query-replace replaced.
+    Replaced(usize),
+}
+
+/// An echo text that is the same each time. `NOTICES` has the texts.
+#[derive(Clone, Copy, PartialEq, Eq)]
+pub enum Notice {
+    /// Nothing.
+    Silent,
     /// `Key not bound`: the word of keys has no command, or bytes past ASCII are no character.
     KeyNotBound,
     /// The selected window shows no buffer.
@@ -49,10 +66,6 @@ pub enum Message {
     KillTooLarge,
     /// `Nothing to yank`: the kill buffer is empty.
     NothingToYank,
-    /// The character after the point, and where the point stands.
-    CharacterAt(char, CursorPosition),
-    /// The point stands at the text's end.
-    EndAt(CursorPosition),
     /// `No argument`: C-x f without one.
     NoArgument,
     /// `Bad column`: C-x f with the argument 0.
@@ -85,8 +98,6 @@ pub enum Message {
     NoSuchCommand,
     /// `Not a number`: what was typed for C-x g is not 1 to 7 digits.
     NotANumber,
-    /// The text that was typed is no entry.
-    BadEntry(EntryFault),
     /// `No such entry`: the access list has no place of that number.
     NoSuchEntry,
     /// The access list has as many entries as it may have.
@@ -101,68 +112,71 @@ pub enum Message {
     NoFile,
     /// `Save failed`: the store did not take the text.
     SaveFailed,
-    /// `Wrote` and the name of the buffer that was saved.
-    Wrote(Name),
     /// `No pattern`: nothing is there to be looked for.
     NoPattern,
     /// A search found no match.
     NotFound,
     /// A byte is one too many for the macro that is recorded.
     MacroTooLong,
-    /// `Replaced` and how many matches a query-replace replaced.
-    Replaced(usize),
 }
 
-impl Message {
-    /// The text of a message that says the same each time. `None`: it tells what came of a command, such as a name or a number.
-    pub fn fixed_text(self) -> Option<&'static [u8]>
-        ensures { option_map (λ t. t.now) result ≡ fixed_text self }
+/// The text of each notice, in the code and in `specs/Messages.antt`.
+pub const NOTICES: &[(Notice, &[u8])] = &[
+    (Notice::Silent, b""),
+    (Notice::KeyNotBound, b"Key not bound"),
+    (Notice::NoBuffer, b"No buffer"),
+    (Notice::BeginningOfBuffer, b"Beginning of buffer"),
+    (Notice::EndOfBuffer, b"End of buffer"),
+    (Notice::BufferFull, b"Buffer full"),
+    (Notice::NoMemory, b"No memory"),
+    (Notice::Quitting, b"Quit"),
+    (Notice::MarkSet, b"Mark set"),
+    (Notice::NoMark, b"No mark"),
+    (Notice::KillTooLarge, b"Kill too large"),
+    (Notice::NothingToYank, b"Nothing to yank"),
+    (Notice::NoArgument, b"No argument"),
+    (Notice::BadColumn, b"Bad column"),
+    (Notice::InMacro, b"In macro"),
+    (Notice::NotInMacro, b"Not in macro"),
+    (Notice::NoMacro, b"No macro"),
+    (Notice::TooMany, b"Too many"),
+    (Notice::OnlyOneWindow, b"Only one window"),
+    (Notice::WindowTooSmall, b"Window too small"),
+    (Notice::TooManyWindows, b"Too many windows"),
+    (Notice::ImpossibleChange, b"Impossible change"),
+    (Notice::NoSuchBuffer, b"No such buffer"),
+    (Notice::BadName, b"Bad name"),
+    (Notice::TooManyBuffers, b"Too many buffers"),
+    (Notice::NoMatch, b"No match"),
+    (Notice::NoSuchCommand, b"No such command"),
+    (Notice::NotANumber, b"Not a number"),
+    (Notice::NoSuchEntry, b"No such entry"),
+    (Notice::ListFull, b"List full"),
+    (Notice::NoSuchUser, b"No such user"),
+    (Notice::NoSuchGroup, b"No such group"),
+    (Notice::NoFurtherUndo, b"No further undo information"),
+    (Notice::NoFile, b"No file"),
+    (Notice::SaveFailed, b"Save failed"),
+    (Notice::NoPattern, b"No pattern"),
+    (Notice::NotFound, b"Not found"),
+    (Notice::MacroTooLong, b"Macro too long"),
+];
+
+fn text_in<'a>(rows: &[(Notice, &'a [u8])], notice: Notice) -> Option<&'a [u8]>
+    ensures { option_map (λ text. text.now) result ≡ text_in (λ text. text.now) rows.now notice }
+{
+    rows.iter().find(|row| row.0 == notice).map(|row| row.1)
+}
+
+impl Notice {
+    /// What it says: visible ASCII characters and spaces.
+    #[tactic(auto, using(crate::proofs::Notices::has_text))]
+    pub fn text(self) -> &'static [u8]
+        ensures { result.now ≡ notice_text self }
     {
-        match self {
-            Message::Silent => Some(b""),
-            Message::KeyNotBound => Some(b"Key not bound"),
-            Message::NoBuffer => Some(b"No buffer"),
-            Message::BeginningOfBuffer => Some(b"Beginning of buffer"),
-            Message::EndOfBuffer => Some(b"End of buffer"),
-            Message::BufferFull => Some(b"Buffer full"),
-            Message::NoMemory => Some(b"No memory"),
-            Message::Quitting => Some(b"Quit"),
-            Message::MarkSet => Some(b"Mark set"),
-            Message::NoMark => Some(b"No mark"),
-            Message::KillTooLarge => Some(b"Kill too large"),
-            Message::NothingToYank => Some(b"Nothing to yank"),
-            Message::NoArgument => Some(b"No argument"),
-            Message::BadColumn => Some(b"Bad column"),
-            Message::InMacro => Some(b"In macro"),
-            Message::NotInMacro => Some(b"Not in macro"),
-            Message::NoMacro => Some(b"No macro"),
-            Message::TooMany => Some(b"Too many"),
-            Message::OnlyOneWindow => Some(b"Only one window"),
-            Message::WindowTooSmall => Some(b"Window too small"),
-            Message::TooManyWindows => Some(b"Too many windows"),
-            Message::ImpossibleChange => Some(b"Impossible change"),
-            Message::NoSuchBuffer => Some(b"No such buffer"),
-            Message::BadName => Some(b"Bad name"),
-            Message::TooManyBuffers => Some(b"Too many buffers"),
-            Message::NoMatch => Some(b"No match"),
-            Message::NoSuchCommand => Some(b"No such command"),
-            Message::NotANumber => Some(b"Not a number"),
-            Message::NoSuchEntry => Some(b"No such entry"),
-            Message::ListFull => Some(b"List full"),
-            Message::NoSuchUser => Some(b"No such user"),
-            Message::NoSuchGroup => Some(b"No such group"),
-            Message::NoFurtherUndo => Some(b"No further undo information"),
-            Message::NoFile => Some(b"No file"),
-            Message::SaveFailed => Some(b"Save failed"),
-            Message::NoPattern => Some(b"No pattern"),
-            Message::NotFound => Some(b"Not found"),
-            Message::MacroTooLong => Some(b"Macro too long"),
-            Message::Denied(_)
-            | Message::CharacterAt(_, _)
-            | Message::EndAt(_)
-            | Message::BadEntry(_)
-            | Message::Wrote(_)
-            | Message::Replaced(_) => None,
+        match text_in(NOTICES, self) {
+            Some(text) => text,
+            None => unreachable!(),
         }
     }
 }

@@ -17,7 +17,8 @@ use Rattle.mgs_model.specs.declared.session.Question.{Question}
 use Rattle.mgs_model.specs.declared.session.Setting.{Setting}
 use Rattle.mgs_model.specs.declared.session.Setting.TheVariants.{SetFillColumn, KeyboardQuit, StartMacro, EndMacro, CallMacro}
 use Rattle.mgs_model.specs.declared.echo_text.Message.{Message}
-use Rattle.mgs_model.specs.declared.echo_text.Message.TheVariants.{BadColumn, InMacro, NoArgument, NotInMacro, Quitting}
+use Rattle.mgs_model.specs.declared.echo_text.Message.TheVariants.{Says}
+use Rattle.mgs_model.specs.declared.echo_text.Notice.TheVariants.{BadColumn, InMacro, NoArgument, NotInMacro, Quitting}
 use Rattle.mgs_model.specs.declared.session.Kind.TheVariants.{Other}
 use Rattle.mgs_model.proofs.Firsts.{position_or_len-map, written_first}
 use Rattle.mgs_buffers.specs.MarkedBuffer.{MarkedBuffer}
@@ -79,32 +80,32 @@ module _ (directory : Directory) (ks : List MarkedBuffer) (xs : List Session) (n
   recorded_so y f message done true = done
   recorded_so y f message done false = failed_set message
 
-  started_so : (c : Bool) → world_of directory ks (slice_set xs at (cond c (failed InMacro h) (macro_started h))) next ≡ apply (world_of directory ks xs next) id (sets (state_of h.state) (cond c (Err InMacro) (Ok (record (acted_state (state_of h.state)) { recording = true; macro = [] }))))
-  started_so true = failed_set InMacro
+  started_so : (c : Bool) → world_of directory ks (slice_set xs at (cond c (failed (Says InMacro) h) (macro_started h))) next ≡ apply (world_of directory ks xs next) id (sets (state_of h.state) (cond c (Err (Says InMacro)) (Ok (record (acted_state (state_of h.state)) { recording = true; macro = [] }))))
+  started_so true = failed_set (Says InMacro)
   started_so false = acted_so (macro_started h) (λ state. record state { recording = true; macro = [] }) (λ state. refl) refl kept
 
   -- nothing ends while a macro plays
   ended_so : (c : Bool)
-      → (let ends : Result model.State Message = cond c (Ok (record (acted_state (state_of h.state)) { recording = false; macro = take (length (state_of h.state).macro - 2) (state_of h.state).macro })) (Err NotInMacro) in world_of directory ks (slice_set xs at (cond c (macro_ended h) (failed NotInMacro h))) next ≡ apply (world_of directory ks xs next) id (sets (state_of h.state) ends))
+      → (let ends : Result model.State Message = cond c (Ok (record (acted_state (state_of h.state)) { recording = false; macro = take (length (state_of h.state).macro - 2) (state_of h.state).macro })) (Err (Says NotInMacro)) in world_of directory ks (slice_set xs at (cond c (macro_ended h) (failed (Says NotInMacro) h))) next ≡ apply (world_of directory ks xs next) id (sets (state_of h.state) ends))
       → (p : Bool)
-      → (let ends : Result model.State Message = cond c (Ok (record (acted_state (state_of h.state)) { recording = false; macro = take (length (state_of h.state).macro - 2) (state_of h.state).macro })) (Err NotInMacro) in world_of directory ks (slice_set xs at (cond p (failed InMacro h) (cond c (macro_ended h) (failed NotInMacro h)))) next ≡ apply (world_of directory ks xs next) id (sets (state_of h.state) (cond p (Err InMacro) ends)))
-  ended_so c done true = failed_set InMacro
+      → (let ends : Result model.State Message = cond c (Ok (record (acted_state (state_of h.state)) { recording = false; macro = take (length (state_of h.state).macro - 2) (state_of h.state).macro })) (Err (Says NotInMacro)) in world_of directory ks (slice_set xs at (cond p (failed (Says InMacro) h) (cond c (macro_ended h) (failed (Says NotInMacro) h)))) next ≡ apply (world_of directory ks xs next) id (sets (state_of h.state) (cond p (Err (Says InMacro)) ends)))
+  ended_so c done true = failed_set (Says InMacro)
   ended_so c done false = done
 
   set_so : (s : Setting) (n : Option ℕ) → is_setting_done s ≡ true → world_of directory ks (slice_set xs at (session_set s n h)) next ≡ apply (world_of directory ks xs next) id (sets (state_of h.state) (setting s (acted_state (state_of h.state)) n))
-  set_so SetFillColumn None here = failed_set NoArgument
+  set_so SetFillColumn None here = failed_set (Says NoArgument)
   set_so SetFillColumn (Some n) here = by (n == 0)
     where
-      by : (b : Bool) → world_of directory ks (slice_set xs at (cond b (failed BadColumn h) (filling n (acted Other h)))) next ≡ apply (world_of directory ks xs next) id (sets (state_of h.state) (cond b (Err BadColumn) (Ok (record (acted_state (state_of h.state)) { fill = n }))))
-      by true = failed_set BadColumn
+      by : (b : Bool) → world_of directory ks (slice_set xs at (cond b (failed (Says BadColumn) h) (filling n (acted Other h)))) next ≡ apply (world_of directory ks xs next) id (sets (state_of h.state) (cond b (Err (Says BadColumn)) (Ok (record (acted_state (state_of h.state)) { fill = n }))))
+      by true = failed_set (Says BadColumn)
       by false = acted_so (filling n (acted Other h)) (λ state. record state { fill = n }) (λ state. refl) refl kept
   set_so KeyboardQuit n here =
-      let after : model.State = record (failed_state Quitting (state_of h.state)) { recording = false; macro = cond h.state.recorder.recording [] h.state.recorder.macro } in
-      owned_so (macro_given_up (failed Quitting h)) after refl
+      let after : model.State = record (failed_state (Says Quitting) (state_of h.state)) { recording = false; macro = cond h.state.recorder.recording [] h.state.recorder.macro } in
+      owned_so (macro_given_up (failed (Says Quitting) h)) after refl
   set_so StartMacro n here = started_so (h.state.recorder.recording || h.state.player.playing)
   set_so EndMacro n here =
       let ends : model.State → model.State = λ state. record state { recording = false; macro = take (length state.macro - 2) state.macro } in
-      ended_so h.state.recorder.recording (recorded_so (macro_ended h) ends NotInMacro (acted_so (macro_ended h) ends (λ state. refl) refl kept) h.state.recorder.recording) h.state.player.playing
+      ended_so h.state.recorder.recording (recorded_so (macro_ended h) ends (Says NotInMacro) (acted_so (macro_ended h) ends (λ state. refl) refl kept) h.state.recorder.recording) h.state.player.playing
   set_so CallMacro n here = cc
 
   pub set_done : (s : Setting) (n : Option ℕ) (stored : Bool) → is_setting_done s ≡ true → world_of directory ks (slice_set xs at (session_set s n h)) next ≡ apply (world_of directory ks xs next) id (outcome (view (world_of directory ks xs next) (session_of ks h)) (outcomes.Run (Set s) n []) stored)

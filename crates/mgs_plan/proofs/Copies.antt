@@ -23,7 +23,8 @@ use Rattle.mgs_session.specs.Sessions.{window_marks_of}
 use Rattle.mgs_session.specs.declared.Session.{Session}
 use Rattle.mgs_plan.specs.Actions.{AreMarks, edit_outcome, insertion_mask, place_in}
 use Rattle.mgs_plan.specs.Inserting.{copy_outcome, insertion_of, insertion_outcome, outcome_from}
-use Rattle.mgs_model.specs.declared.echo_text.Message.TheVariants.{NoBuffer}
+use Rattle.mgs_model.specs.declared.echo_text.Message.TheVariants.{Says}
+use Rattle.mgs_model.specs.declared.echo_text.Notice.TheVariants.{NoBuffer}
 use Rattle.mgs_plan.specs.Deciding.{IsOutcome, outcome_read}
 use Rattle.mgs_plan.specs.declared.outcome.Outcome as code
 use Rattle.mgs_plan.specs.declared.outcome.Outcome.TheVariants.{Fails}
@@ -137,7 +138,7 @@ module _ (directory : Directory) (ks : List MarkedBuffer) (xs : List Session) (n
 
   -- FOR A SESSION
 
-  pub insert_unshown : window_marks_of h ≡ None → IsOutcome directory ks xs next h (Run (Named InsertBuffer) n typed) (Fails NoBuffer)
+  pub insert_unshown : window_marks_of h ≡ None → IsOutcome directory ks xs next h (Run (Named InsertBuffer) n typed) (Fails (Says NoBuffer))
   insert_unshown none = λ stored.
       unstored seen (Run (Named InsertBuffer) n typed) stored refl
       ∙ insertion_known (rw none tt) ∙ ap (insertion_outcome directory ks (state_of h.state) h.user typed) none

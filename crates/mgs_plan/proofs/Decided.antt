@@ -15,7 +15,8 @@ use Rattle.mgs_session.specs.declared.Session.{Session}
 use Rattle.mgs_model.specs.declared.session.Command.{Command}
 use Rattle.mgs_model.specs.declared.session.Command.TheVariants.{Insert, InsertReading, Move, Alter, Seek, Scroll, UndoEdit, NotModified}
 use Rattle.mgs_model.specs.declared.session.Seeking.TheVariants.{SearchFor}
-use Rattle.mgs_model.specs.declared.echo_text.Message.TheVariants.{NoBuffer}
+use Rattle.mgs_model.specs.declared.echo_text.Message.TheVariants.{Says}
+use Rattle.mgs_model.specs.declared.echo_text.Notice.TheVariants.{NoBuffer}
 use Rattle.mgs_model.specs.declared.search.Direction.{Direction}
 use Rattle.mgs_session.specs.Sessions.{window_marks_of}
 use Rattle.mgs_windows.specs.declared.WindowMarks.{WindowMarks}
@@ -80,7 +81,7 @@ module _ (directory : Directory) (ks : List MarkedBuffer) (xs : List Session) (n
       ∙ sought_plan directory ks xs next h x (SearchFor d) n typed sel (mark_is_kept x.name x.point ks marks.point) (no_search_at_rest ks h fresh)
       ∙ sym (planned (state_of h.state) h.kill)
 
-  pub search_unshown : window_marks_of h ≡ None → IsOutcome directory ks xs next h (Run (Seek (SearchFor d)) n typed) (Fails NoBuffer)
+  pub search_unshown : window_marks_of h ≡ None → IsOutcome directory ks xs next h (Run (Seek (SearchFor d)) n typed) (Fails (Says NoBuffer))
   search_unshown none = λ stored.
       unstored (view_at directory ks xs next h) (Run (Seek (SearchFor d)) n typed) stored refl
       ∙ sought_off_target (view_at directory ks xs next h) (SearchFor d) n typed (selected_none directory ks xs next h none)

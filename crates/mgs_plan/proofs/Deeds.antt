@@ -15,7 +15,8 @@ use Rattle.mgs_model.specs.Acts.{edit_of, effects, fails, finished, finished_sta
 use Rattle.mgs_model.specs.Apply.{after_quit, apply, buffers_after, change_at, change_first, kill_after, is_search_mode, session_arranged, window_adjusted}
 use Rattle.mgs_model.specs.Text.{is_edit}
 use Rattle.mgs_model.specs.declared.echo_text.Message.{Message}
-use Rattle.mgs_model.specs.declared.echo_text.Message.TheVariants.{KillTooLarge, Silent}
+use Rattle.mgs_model.specs.declared.echo_text.Message.TheVariants.{Says}
+use Rattle.mgs_model.specs.declared.echo_text.Notice.TheVariants.{KillTooLarge, Silent}
 use Rattle.mgs_model.specs.declared.session.Kind.TheVariants.{Other}
 use Rattle.mgs_model.proofs.Firsts.{change_first_found, find-map, position_or_len-map, written_first}
 use Rattle.mgs_marks.specs.Marks.{mark_in}
@@ -196,7 +197,7 @@ finished_so directory ks xs next id at h x c behind text f order room sound plac
     ∙ ap (change_first (has_id id) (session_arranged (ended (unmarked left) (edit_of x.name c.a c.b c.put) state))) (sessions_went x.name c ks xs order room (mark_is_kept x.name x.point ks marks.point))
     ∙ sym (no_quit x.name c id _))
     ∙ ap (λ m. apply (world_of directory ks xs next) id (ended (record left { mark = mark_read m }) (edit_of x.name c.a c.b c.put) state)) (sym none)
-    ∙ ap (λ b. apply (world_of directory ks xs next) id (cond b (fails state KillTooLarge) (ended left (edit_of x.name c.a c.b c.put) state))) (sym small)
+    ∙ ap (λ b. apply (world_of directory ks xs next) id (cond b (fails state (Says KillTooLarge)) (ended left (edit_of x.name c.a c.b c.put) state))) (sym small)
 
 -- a failure ends any mode
 pub failed_so : (directory : Directory) (ks : List MarkedBuffer) (xs : List Session) (next : Option ℕ) (id at : ℕ) (h : Session) (message : Message) → at ≡ position_or_len (session_id id) xs → at < length xs → slice_get xs at ≡ Some h → state_of h.state ≡ idle (state_of h.state) → world_of directory ks (slice_set xs at (failed message h)) next ≡ apply (world_of directory ks xs next) id (fails (state_of h.state) message)
@@ -208,13 +209,13 @@ failed_so directory ks xs next id at h message place within is fresh =
     ∙ ap (change_first (has_id id) f) (sym (map-id (map (session_of ks) xs))))
 
 -- a flag is cleared
-cleared_so : (directory : Directory) (ks : List MarkedBuffer) (xs : List Session) (next : Option ℕ) (id at : ℕ) (h : Session) (name : List ℕ) → at ≡ position_or_len (session_id id) xs → at < length xs → slice_get xs at ≡ Some h → state_of h.state ≡ idle (state_of h.state) → world_of directory (change_first (marked_named name) marked_unmodified ks) (slice_set xs at (told Silent (acted Other h))) next ≡ apply (world_of directory ks xs next) id (effects (state_of h.state) (Ok (Unmodified name)))
+cleared_so : (directory : Directory) (ks : List MarkedBuffer) (xs : List Session) (next : Option ℕ) (id at : ℕ) (h : Session) (name : List ℕ) → at ≡ position_or_len (session_id id) xs → at < length xs → slice_get xs at ≡ Some h → state_of h.state ≡ idle (state_of h.state) → world_of directory (change_first (marked_named name) marked_unmodified ks) (slice_set xs at (told (Says Silent) (acted Other h))) next ≡ apply (world_of directory ks xs next) id (effects (state_of h.state) (Ok (Unmodified name)))
 cleared_so directory ks xs next id at h name place within is fresh =
     let f = session_arranged (effects (state_of h.state) (Ok (Unmodified name))) in
     let ls = change_first (marked_named name) marked_unmodified ks in
     same_world directory _ _ _ _ (id_after next) (buffers_unmodified name ks)
-    (written_first (session_of ls) (has_id id) f xs at h (told Silent (acted Other h)) (place ∙ sym (position_or_len-map (session_of ls) (has_id id) xs)) within (sym (get_or_from_slice_get xs at h h is))
-    (λ i. record (session_of ls h) { state = at_rest (λ (state : model.State). record state { echo = Silent; kind = Other }) acted_state (λ state. refl) (state_of h.state) fresh i; search = search_kept ls h fresh i })
+    (written_first (session_of ls) (has_id id) f xs at h (told (Says Silent) (acted Other h)) (place ∙ sym (position_or_len-map (session_of ls) (has_id id) xs)) within (sym (get_or_from_slice_get xs at h h is))
+    (λ i. record (session_of ls h) { state = at_rest (λ (state : model.State). record state { echo = Says Silent; kind = Other }) acted_state (λ state. refl) (state_of h.state) fresh i; search = search_kept ls h fresh i })
     ∙ ap (change_first (has_id id) f) (sessions_unmodified name ks xs ∙ sym (map-id (map (session_of ks) xs))))
 
 -- ANY ACTION

@@ -6,7 +6,8 @@ use Rattle.mgs_model.specs.Rights.{rights_in}
 use Rattle.mgs_model.specs.View.{BufferSeen, View, buffer_seen, find_seen, view}
 use Rattle.mgs_model.specs.Outcome.{Run}
 use Rattle.mgs_model.specs.Acts.{about, judged, lists, outcome, permitted, subject}
-use Rattle.mgs_model.specs.declared.echo_text.Message.TheVariants.{NoBuffer}
+use Rattle.mgs_model.specs.declared.echo_text.Message.TheVariants.{Says}
+use Rattle.mgs_model.specs.declared.echo_text.Notice.TheVariants.{NoBuffer}
 use Rattle.mgs_model.specs.declared.session.Command.TheVariants.{ListEntries}
 use Rattle.mgs_buffers.specs.MarkedBuffer.{HasBuffer, MarkedBuffer, has_buffer, marked_at}
 use Rattle.mgs_session.specs.Sessions.{subject_of}
@@ -45,7 +46,7 @@ list_seen directory ks xs next n h unnamed = go (subject_kept ks (subject_of h))
 -- FOR A SESSION
 
 module _ (directory : Directory) (ks : List MarkedBuffer) (xs : List Session) (next n : Option ℕ) (h : Session) (unnamed : has_buffer [] ks ≡ false) where
-  pub list_unshown : None ≡ subject_kept ks (subject_of h) → IsOutcome directory ks xs next h (Run ListEntries n []) (Fails NoBuffer)
+  pub list_unshown : None ≡ subject_kept ks (subject_of h) → IsOutcome directory ks xs next h (Run ListEntries n []) (Fails (Says NoBuffer))
   list_unshown none = λ stored.
       unstored (view_at directory ks xs next h) (Run ListEntries n []) stored refl
       ∙ list_seen directory ks xs next n h unnamed ∙ ap (λ s. list_outcome directory ks h.user s (view_at directory ks xs next h)) (sym none)

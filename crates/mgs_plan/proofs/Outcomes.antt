@@ -19,7 +19,8 @@ use Rattle.mgs_model.specs.declared.right.Right.TheVariants.{ReadData, WriteData
 use Rattle.mgs_model.specs.declared.entry.Decision.{Decision}
 use Rattle.mgs_model.specs.declared.entry.Decision.TheVariants.{Granted}
 use Rattle.mgs_model.specs.declared.echo_text.Message.{Message}
-use Rattle.mgs_model.specs.declared.echo_text.Message.TheVariants.{NoBuffer}
+use Rattle.mgs_model.specs.declared.echo_text.Message.TheVariants.{Says}
+use Rattle.mgs_model.specs.declared.echo_text.Notice.TheVariants.{NoBuffer}
 use Rattle.mgs_model.specs.declared.session.Command.{Command}
 use Rattle.mgs_model.specs.declared.session.Command.TheVariants.{Insert, InsertReading, Move, Alter, Seek, Replace, Scroll, UndoEdit, NotModified}
 use Rattle.mgs_model.specs.declared.session.Seeking.{Seeking}
@@ -346,19 +347,19 @@ sought_plan directory ks xs next h x c n typed sel kept quiet =
     ∙ sought_owned directory ks xs next h (state_of h.state) x c n typed sel kept
 
 -- where the selected window shows nothing
-none_edited : (v : View) (rights : Target → ℕ) (plan : Target → Result Change Message) → target v ≡ None → permitted v.session.state (judged v (here (target v) rights)) (edits v.session.state (target v) plan) ≡ fails v.session.state NoBuffer
+none_edited : (v : View) (rights : Target → ℕ) (plan : Target → Result Change Message) → target v ≡ None → permitted v.session.state (judged v (here (target v) rights)) (edits v.session.state (target v) plan) ≡ fails v.session.state (Says NoBuffer)
 none_edited v rights plan none = ap (λ o. permitted v.session.state (judged v (here o rights)) (edits v.session.state o plan)) none
 
-none_moved : (v : View) (plan : Target → Result Finish Message) → target v ≡ None → permitted v.session.state (judged v (here (target v) (λ t. 1))) (moves v.session.state (target v) plan) ≡ fails v.session.state NoBuffer
+none_moved : (v : View) (plan : Target → Result Finish Message) → target v ≡ None → permitted v.session.state (judged v (here (target v) (λ t. 1))) (moves v.session.state (target v) plan) ≡ fails v.session.state (Says NoBuffer)
 none_moved v plan none = ap (λ o. permitted v.session.state (judged v (here o (λ t. 1))) (moves v.session.state o plan)) none
 
-none_ruled : (v : View) (plan : BufferSeen → Result Effect Message) → target v ≡ None → permitted v.session.state (judged v (about (shown_buffer v) 3)) (rules v.session.state (shown_buffer v) plan) ≡ fails v.session.state NoBuffer
+none_ruled : (v : View) (plan : BufferSeen → Result Effect Message) → target v ≡ None → permitted v.session.state (judged v (about (shown_buffer v) 3)) (rules v.session.state (shown_buffer v) plan) ≡ fails v.session.state (Says NoBuffer)
 none_ruled v plan none = ap (λ (o : Option Target). permitted v.session.state (judged v (about (option_map (λ (t : Target). t.buffer) o) 3)) (rules v.session.state (option_map (λ (t : Target). t.buffer) o) plan)) none
 
 -- what it comes to there
 abbrev off_outcome : View → Option Scrolling → Outcome
-off_outcome v None = fails v.session.state NoBuffer
-off_outcome v (Some s) = cond (has_rows (selected_seen v)) (scrolls_rows v.session.state (row_in s (selected_seen v))) (fails v.session.state NoBuffer)
+off_outcome v None = fails v.session.state (Says NoBuffer)
+off_outcome v (Some s) = cond (has_rows (selected_seen v)) (scrolls_rows v.session.state (row_in s (selected_seen v))) (fails v.session.state (Says NoBuffer))
 
 pub off_target : (v : View) (c : Command) (n : Option ℕ) (typed : List ℕ) → is_on_text c ≡ true → target v ≡ None → outcome v (outcomes.Run c n typed) true ≡ off_outcome v (scroll_in c)
 unfolding outcome
@@ -373,25 +374,25 @@ off_target v UndoEdit n typed h none = none_edited v (λ t. 3) (λ t. undo (item
 off_target v NotModified n typed h none = none_ruled v (λ (b : BufferSeen). Ok (Unmodified b.name)) none
 off_target v _ n typed h none = cc
 
-pub sought_off_target : (v : View) (c : Seeking) (n : Option ℕ) (typed : List ℕ) → target v ≡ None → outcome v (outcomes.Run (Seek c) n typed) true ≡ fails v.session.state NoBuffer
+pub sought_off_target : (v : View) (c : Seeking) (n : Option ℕ) (typed : List ℕ) → target v ≡ None → outcome v (outcomes.Run (Seek c) n typed) true ≡ fails v.session.state (Says NoBuffer)
 unfolding outcome
 sought_off_target v c n typed none =
     ap (λ (o : Option Target). permitted v.session.state (judged v (here o (λ t. 1))) (seeks v.session.state o (λ t. seek c (text_in t.buffer.full) (around_search v.session typed t)))) none
 
-pub replaced_off_target : (v : View) (c : Replacement) (n : Option ℕ) (typed : List ℕ) → target v ≡ None → outcome v (outcomes.Run (Replace c) n typed) true ≡ fails v.session.state NoBuffer
+pub replaced_off_target : (v : View) (c : Replacement) (n : Option ℕ) (typed : List ℕ) → target v ≡ None → outcome v (outcomes.Run (Replace c) n typed) true ≡ fails v.session.state (Says NoBuffer)
 unfolding outcome
 replaced_off_target v c n typed none =
     ap (λ (o : Option Target). permitted v.session.state (judged v (here o (λ t. 3))) (replaces_one v.session.state o (λ t. replace c (text_in t.buffer.full) (around_search v.session typed t)))) none
 
 -- the rows of the selected window, as the session sees them
 rows_off : (state : State) (s : Scrolling) (can : List ℕ → Bool) (ks : List MarkedBuffer) (o : Option Window) → option_and_then (λ (w : Window). w.shows) o ≡ None
-    → (let seen = option_map (window_seen can) (option_map (window_of ks) o) in cond (has_rows seen) (scrolls_rows state (row_in s seen)) (fails state NoBuffer) ≡ outcome_without state (rows_scrolled (Some s) o))
+    → (let seen = option_map (window_seen can) (option_map (window_of ks) o) in cond (has_rows seen) (scrolls_rows state (row_in s seen)) (fails state (Says NoBuffer)) ≡ outcome_without state (rows_scrolled (Some s) o))
 rows_off state s can ks None none = refl
 rows_off state s can ks (Some w) none =
-    ap (λ (o : Option WindowMarks). let seen : Option WindowSeen = Some (window_seen can (window_shown ks w.height o w.rows)) in cond (has_rows seen) (scrolls_rows state (row_in s seen)) (fails state NoBuffer)) none
+    ap (λ (o : Option WindowMarks). let seen : Option WindowSeen = Some (window_seen can (window_shown ks w.height o w.rows)) in cond (has_rows seen) (scrolls_rows state (row_in s seen)) (fails state (Says NoBuffer))) none
     ∙ by w.height w.rows
   where
-    by : (height : ℕ) (rows : RowPane) → (let seen : Option WindowSeen = Some (window_seen can (window_shown ks height None rows)) in cond (has_rows seen) (scrolls_rows state (row_in s seen)) (fails state NoBuffer)) ≡ outcome_without state (pane_scrolled s height rows)
+    by : (height : ℕ) (rows : RowPane) → (let seen : Option WindowSeen = Some (window_seen can (window_shown ks height None rows)) in cond (has_rows seen) (scrolls_rows state (row_in s seen)) (fails state (Says NoBuffer))) ≡ outcome_without state (pane_scrolled s height rows)
     by height NoRows = refl
     by height _ = refl
 
@@ -400,7 +401,7 @@ off_seen directory ks xs next h None none = refl
 off_seen directory ks xs next h (Some s) none =
     let can = reads directory (buffers_of ks) h.user in
     let ws = h.windows.windows in
-    ap (λ (seen : Option WindowSeen). cond (has_rows seen) (scrolls_rows (state_of h.state) (row_in s seen)) (fails (state_of h.state) NoBuffer))
+    ap (λ (seen : Option WindowSeen). cond (has_rows seen) (scrolls_rows (state_of h.state) (row_in s seen)) (fails (state_of h.state) (Says NoBuffer)))
     (slice_get-map (window_seen can) (map (window_of ks) ws) h.windows.selected ∙ ap (option_map (window_seen can)) (slice_get-map (window_of ks) ws h.windows.selected))
     ∙ rows_off (state_of h.state) s can ks (slice_get ws h.windows.selected) none
 

@@ -13,7 +13,8 @@ use Rattle.mgs_model.specs.declared.owners.NewOwner.TheVariants.{ToUser, ToGroup
 use Rattle.mgs_model.specs.Plans.{entries_changed}
 use Rattle.mgs_model.specs.Acts.{about, effects, entries_told, fails, judged, outcome, permitted, list_set, rules, subject}
 use Rattle.mgs_model.specs.declared.echo_text.Message.{Message}
-use Rattle.mgs_model.specs.declared.echo_text.Message.TheVariants.{NoBuffer, NoSuchUser, NoSuchGroup}
+use Rattle.mgs_model.specs.declared.echo_text.Message.TheVariants.{Says}
+use Rattle.mgs_model.specs.declared.echo_text.Notice.TheVariants.{NoBuffer, NoSuchUser, NoSuchGroup}
 use Rattle.mgs_model.specs.declared.right.Right.{Right}
 use Rattle.mgs_model.specs.declared.right.Right.TheVariants.{ReadData, WriteAcl}
 use Rattle.mgs_model.specs.declared.session.EntryChange.{EntryChange}
@@ -40,16 +41,16 @@ use Rattle.mgs_plan.proofs.Stored.{is_save, unstored}
 -- A USER'S NAME
 
 abbrev owner_found : List ℕ → Option (List ℕ) → Result Effect Message
-owner_found name None = Err NoSuchUser
+owner_found name None = Err (Says NoSuchUser)
 owner_found name (Some owner) = Ok (SetOwners name (ToUser owner))
 
 -- whoever is found by the name that was typed has that name
-user_found : (name typed : List ℕ) (users : List (List ℕ)) → owner_found name (find (same_name typed) users) ≡ cond (is_among typed users) (Ok (SetOwners name (ToUser typed))) (Err NoSuchUser)
+user_found : (name typed : List ℕ) (users : List (List ℕ)) → owner_found name (find (same_name typed) users) ≡ cond (is_among typed users) (Ok (SetOwners name (ToUser typed))) (Err (Says NoSuchUser))
 user_found name typed [] = refl
 user_found name typed (user ∷ users) = by (same_name typed user) refl (user_found name typed users)
   where
-    by : (b : Bool) → same_name typed user ≡ b → owner_found name (find (same_name typed) users) ≡ cond (is_among typed users) (Ok (SetOwners name (ToUser typed))) (Err NoSuchUser)
-        → owner_found name (cond b (Some user) (find (same_name typed) users)) ≡ cond (b || is_among typed users) (Ok (SetOwners name (ToUser typed))) (Err NoSuchUser)
+    by : (b : Bool) → same_name typed user ≡ b → owner_found name (find (same_name typed) users) ≡ cond (is_among typed users) (Ok (SetOwners name (ToUser typed))) (Err (Says NoSuchUser))
+        → owner_found name (cond b (Some user) (find (same_name typed) users)) ≡ cond (b || is_among typed users) (Ok (SetOwners name (ToUser typed))) (Err (Says NoSuchUser))
     by true is later = ap (λ (m : List ℕ). Ok (SetOwners name (ToUser m))) (sym (same_is typed user is))
     by false is later = later
 
@@ -58,23 +59,23 @@ pub owner_some : (directory : Directory) (state : State) (name owner typed : Lis
 owner_some directory state name owner typed found =
     ap (λ o. effects state (owner_found name o)) found ∙ ap (effects state) (user_found name typed directory.users)
 
-pub owner_none : (directory : Directory) (state : State) (name typed : List ℕ) → None ≡ find (same_name typed) directory.users → fails state NoSuchUser ≡ effects state (owner_plan directory name typed)
+pub owner_none : (directory : Directory) (state : State) (name typed : List ℕ) → None ≡ find (same_name typed) directory.users → fails state (Says NoSuchUser) ≡ effects state (owner_plan directory name typed)
 owner_none directory state name typed found =
     ap (λ o. effects state (owner_found name o)) found ∙ ap (effects state) (user_found name typed directory.users)
 
 -- A GROUP'S NAME
 
 abbrev group_found : List ℕ → Option (List ℕ) → Result Effect Message
-group_found name None = Err NoSuchGroup
+group_found name None = Err (Says NoSuchGroup)
 group_found name (Some group) = Ok (SetOwners name (ToGroup (Some group)))
 
 -- the group that is found by the name that was typed has that name
-named_found : (name typed : List ℕ) (groups : List UserGroup) → group_found name (find (same_name typed) (map (λ g. g.name) groups)) ≡ cond (is_group_named typed groups) (Ok (SetOwners name (ToGroup (Some typed)))) (Err NoSuchGroup)
+named_found : (name typed : List ℕ) (groups : List UserGroup) → group_found name (find (same_name typed) (map (λ g. g.name) groups)) ≡ cond (is_group_named typed groups) (Ok (SetOwners name (ToGroup (Some typed)))) (Err (Says NoSuchGroup))
 named_found name typed [] = refl
 named_found name typed (g ∷ groups) = by (same_name typed g.name) refl (named_found name typed groups)
   where
-    by : (b : Bool) → same_name typed g.name ≡ b → group_found name (find (same_name typed) (map (λ g. g.name) groups)) ≡ cond (is_group_named typed groups) (Ok (SetOwners name (ToGroup (Some typed)))) (Err NoSuchGroup)
-        → group_found name (cond b (Some g.name) (find (same_name typed) (map (λ g. g.name) groups))) ≡ cond (b || is_group_named typed groups) (Ok (SetOwners name (ToGroup (Some typed)))) (Err NoSuchGroup)
+    by : (b : Bool) → same_name typed g.name ≡ b → group_found name (find (same_name typed) (map (λ g. g.name) groups)) ≡ cond (is_group_named typed groups) (Ok (SetOwners name (ToGroup (Some typed)))) (Err (Says NoSuchGroup))
+        → group_found name (cond b (Some g.name) (find (same_name typed) (map (λ g. g.name) groups))) ≡ cond (b || is_group_named typed groups) (Ok (SetOwners name (ToGroup (Some typed)))) (Err (Says NoSuchGroup))
     by true is later = ap (λ (m : List ℕ). Ok (SetOwners name (ToGroup (Some m)))) (sym (same_is typed g.name is))
     by false is later = later
 
@@ -88,7 +89,7 @@ pub group_some : (directory : Directory) (state : State) (name group typed : Lis
 group_some directory state name group typed some found =
     ap (λ o. effects state (group_found name o)) found ∙ ap (effects state) (group_planned directory name typed some)
 
-pub group_none : (directory : Directory) (state : State) (name typed : List ℕ) → (length typed == 0) ≡ false → None ≡ find (same_name typed) (map (λ g. g.name) directory.groups) → fails state NoSuchGroup ≡ effects state (group_plan directory name typed)
+pub group_none : (directory : Directory) (state : State) (name typed : List ℕ) → (length typed == 0) ≡ false → None ≡ find (same_name typed) (map (λ g. g.name) directory.groups) → fails state (Says NoSuchGroup) ≡ effects state (group_plan directory name typed)
 group_none directory state name typed some found =
     ap (λ o. effects state (group_found name o)) found ∙ ap (effects state) (group_planned directory name typed some)
 
@@ -100,7 +101,7 @@ group_empty directory state name (c ∷ cs) none = absurd (omega (arith, eqb-tru
 -- WHAT THE ACT COMES TO
 
 -- where no buffer is shown
-none_ruled : (v : View) (rights : ℕ) (plan : BufferSeen → Result Effect Message) → subject v ≡ None → permitted v.session.state (judged v (about (subject v) rights)) (rules v.session.state (subject v) plan) ≡ fails v.session.state NoBuffer
+none_ruled : (v : View) (rights : ℕ) (plan : BufferSeen → Result Effect Message) → subject v ≡ None → permitted v.session.state (judged v (about (subject v) rights)) (rules v.session.state (subject v) plan) ≡ fails v.session.state (Says NoBuffer)
 none_ruled v rights plan none = about_none v rights (λ o. rules v.session.state o plan) none
 
 -- whoever may write the list is told of it
@@ -124,18 +125,18 @@ shown_ruled : (directory : Directory) (ks : List MarkedBuffer) (xs : List Sessio
     → (let v = view (world_of directory ks xs next) (session_of ks h) in subject v ≡ Some (buffer_seen directory h.user (marked_at name ks).buffer) → outcome v (Run (command_of c) n typed) true ≡ ruling_in directory ks (state_of h.state) h.user name c n typed)
 unfolding outcome
 shown_ruled directory ks xs next h Owner n typed name kept is =
-    shown_by directory ks xs next h 524288 (λ (k : BufferSeen). cond (is_among typed directory.users) (Ok (SetOwners k.name (ToUser typed))) (Err NoSuchUser)) (λ m. ruling_plan directory m (marked_at name ks).buffer.entries Owner n typed) name kept is refl
+    shown_by directory ks xs next h 524288 (λ (k : BufferSeen). cond (is_among typed directory.users) (Ok (SetOwners k.name (ToUser typed))) (Err (Says NoSuchUser))) (λ m. ruling_plan directory m (marked_at name ks).buffer.entries Owner n typed) name kept is refl
 shown_ruled directory ks xs next h Group n typed name kept is =
-    shown_by directory ks xs next h 524288 (λ (k : BufferSeen). cond (is_group_answer directory.groups typed) (Ok (SetOwners k.name (ToGroup (group_answered typed)))) (Err NoSuchGroup)) (λ m. ruling_plan directory m (marked_at name ks).buffer.entries Group n typed) name kept is refl
+    shown_by directory ks xs next h 524288 (λ (k : BufferSeen). cond (is_group_answer directory.groups typed) (Ok (SetOwners k.name (ToGroup (group_answered typed)))) (Err (Says NoSuchGroup))) (λ m. ruling_plan directory m (marked_at name ks).buffer.entries Group n typed) name kept is refl
 shown_ruled directory ks xs next h (Entries c) n typed name kept is =
     let b = (marked_at name ks).buffer in
     shown_by directory ks xs next h 262144 (λ (k : BufferSeen). list_set k.name (entries_changed c (entries_told k.told) n typed)) (λ m. ruling_plan directory m b.entries (Entries c) n typed) name kept is
     (list_told (state_of h.state) (decider directory b.owners h.user b.entries) b c n typed)
 
-unshown_ruled : (v : View) (c : Ruling) (n : Option ℕ) (typed : List ℕ) → subject v ≡ None → outcome v (Run (command_of c) n typed) true ≡ fails v.session.state NoBuffer
+unshown_ruled : (v : View) (c : Ruling) (n : Option ℕ) (typed : List ℕ) → subject v ≡ None → outcome v (Run (command_of c) n typed) true ≡ fails v.session.state (Says NoBuffer)
 unfolding outcome
-unshown_ruled v Owner n typed none = none_ruled v 524288 (λ (k : BufferSeen). cond (is_among typed v.directory.users) (Ok (SetOwners k.name (ToUser typed))) (Err NoSuchUser)) none
-unshown_ruled v Group n typed none = none_ruled v 524288 (λ (k : BufferSeen). cond (is_group_answer v.directory.groups typed) (Ok (SetOwners k.name (ToGroup (group_answered typed)))) (Err NoSuchGroup)) none
+unshown_ruled v Owner n typed none = none_ruled v 524288 (λ (k : BufferSeen). cond (is_among typed v.directory.users) (Ok (SetOwners k.name (ToUser typed))) (Err (Says NoSuchUser))) none
+unshown_ruled v Group n typed none = none_ruled v 524288 (λ (k : BufferSeen). cond (is_group_answer v.directory.groups typed) (Ok (SetOwners k.name (ToGroup (group_answered typed)))) (Err (Says NoSuchGroup))) none
 unshown_ruled v (Entries c) n typed none = none_ruled v 262144 (λ (k : BufferSeen). list_set k.name (entries_changed c (entries_told k.told) n typed)) none
 
 ruling_known : (directory : Directory) (ks : List MarkedBuffer) (xs : List Session) (next : Option ℕ) (h : Session) (c : Ruling) (n : Option ℕ) (typed : List ℕ) → has_buffer [] ks ≡ false
@@ -153,7 +154,7 @@ no_save Owner n typed = refl
 no_save _ n typed = refl
 
 module _ (directory : Directory) (ks : List MarkedBuffer) (xs : List Session) (next : Option ℕ) (h : Session) (c : Ruling) (n : Option ℕ) (typed : List ℕ) (unnamed : has_buffer [] ks ≡ false) where
-  pub rule_unshown : None ≡ subject_kept ks (subject_of h) → IsOutcome directory ks xs next h (Run (command_of c) n typed) (Fails NoBuffer)
+  pub rule_unshown : None ≡ subject_kept ks (subject_of h) → IsOutcome directory ks xs next h (Run (command_of c) n typed) (Fails (Says NoBuffer))
   rule_unshown none = λ stored.
       unstored (view_at directory ks xs next h) (Run (command_of c) n typed) stored (no_save c n typed)
       ∙ ruling_known directory ks xs next h c n typed unnamed ∙ ap (λ s. ruling_outcome directory ks (state_of h.state) h.user s c n typed) (sym none)

@@ -13,7 +13,8 @@ use Rattle.mgs_model.specs.declared.right.Right.{Right}
 use Rattle.mgs_model.specs.declared.right.Right.TheVariants.{ReadData, WriteData}
 use Rattle.mgs_model.specs.declared.entry.Decision.TheVariants.{Granted}
 use Rattle.mgs_model.specs.declared.echo_text.Message.{Message}
-use Rattle.mgs_model.specs.declared.echo_text.Message.TheVariants.{InMacro, NoBuffer, NoFile, SaveFailed, Wrote}
+use Rattle.mgs_model.specs.declared.echo_text.Message.TheVariants.{Says, Wrote}
+use Rattle.mgs_model.specs.declared.echo_text.Notice.TheVariants.{InMacro, NoBuffer, NoFile, SaveFailed}
 use Rattle.mgs_model.specs.declared.session.Command.TheVariants.{SaveBuffer}
 use Rattle.mgs_buffers.specs.MarkedBuffer.{HasBuffer, MarkedBuffer, marked_at}
 use Rattle.mgs_windows.specs.declared.WindowMarks.{WindowMarks}
@@ -29,17 +30,17 @@ use Rattle.mgs_plan.proofs.Outcomes.{any_read, first_granted, judged_here, permi
 -- what it comes to by what is told and what is read of the buffer
 abbrev saves_of : model.State → Bool → Bool → Buffer → List ℕ → Bool → Outcome
 saves_of state told read b name stored =
-    cond state.playing (fails state InMacro)
-    (cond (not (has_file (told_if told b))) (fails state NoFile)
-    (cond (not stored) (fails state SaveFailed)
+    cond state.playing (fails state (Says InMacro))
+    (cond (not (has_file (told_if told b))) (fails state (Says NoFile))
+    (cond (not stored) (fails state (Says SaveFailed))
     (record { state = record (acted_state state) { echo = Wrote name }; kill = Keep_kill; arrange = Stay; effect = Save name (text_in (full_if read b)) })))
 
-saves_told : (state : model.State) (b : Buffer) (name : List ℕ) (stored : Bool) → saves_of state true true b name stored ≡ cond state.playing (fails state InMacro) (cond (not b.file) (fails state NoFile) (save_answered state name b.text stored))
+saves_told : (state : model.State) (b : Buffer) (name : List ℕ) (stored : Bool) → saves_of state true true b name stored ≡ cond state.playing (fails state (Says InMacro)) (cond (not b.file) (fails state (Says NoFile)) (save_answered state name b.text stored))
 saves_told state b name true = refl
 saves_told state b name false = refl
 
 -- where reading and writing are granted, all is told
-saves_granted : (state : model.State) (d : Right → Decider) (b : Buffer) (name : List ℕ) (stored : Bool) → decision_by d (rights_in 3) ≡ Granted → saves_of state (any_right d) (allows (d ReadData)) b name stored ≡ cond state.playing (fails state InMacro) (cond (not b.file) (fails state NoFile) (save_answered state name b.text stored))
+saves_granted : (state : model.State) (d : Right → Decider) (b : Buffer) (name : List ℕ) (stored : Bool) → decision_by d (rights_in 3) ≡ Granted → saves_of state (any_right d) (allows (d ReadData)) b name stored ≡ cond state.playing (fails state (Says InMacro)) (cond (not b.file) (fails state (Says NoFile)) (save_answered state name b.text stored))
 saves_granted state d b name stored e =
     let read = first_granted d (WriteData ∷ []) e in
     ap (λ (r : Bool). saves_of state (any_right d) r b name stored) read
@@ -58,12 +59,12 @@ save_known directory ks xs next h x n stored sel kept =
     ap (λ o. permitted v.session.state (judged v (here o (λ t. 3))) (saves v.session.state o stored)) seen.1
     ∙ ap (λ k. permitted v.session.state k (saves v.session.state (Some t) stored)) (judged_here v t (λ t. 3) found)
     ∙ permitted_same (state_of h.state) (decision_by d (rights_in 3)) _ _ (λ e. saves_granted (state_of h.state) d b b.name stored e)
-    ∙ ap (λ (m : List ℕ). permitted (state_of h.state) (decision_by d (rights_in 3)) (cond h.state.player.playing (fails (state_of h.state) InMacro) (cond (not b.file) (fails (state_of h.state) NoFile) (save_answered (state_of h.state) m b.text stored)))) (name_kept x.name ks kept)
+    ∙ ap (λ (m : List ℕ). permitted (state_of h.state) (decision_by d (rights_in 3)) (cond h.state.player.playing (fails (state_of h.state) (Says InMacro)) (cond (not b.file) (fails (state_of h.state) (Says NoFile)) (save_answered (state_of h.state) m b.text stored)))) (name_kept x.name ks kept)
 
 -- FOR A SESSION
 
 module _ (directory : Directory) (ks : List MarkedBuffer) (xs : List Session) (next n : Option ℕ) (h : Session) where
-  pub save_unshown : window_marks_of h ≡ None → IsOutcome directory ks xs next h (Run SaveBuffer n []) (coded.Fails NoBuffer)
+  pub save_unshown : window_marks_of h ≡ None → IsOutcome directory ks xs next h (Run SaveBuffer n []) (coded.Fails (Says NoBuffer))
   unfolding outcome
   save_unshown none = λ stored. let v = view_at directory ks xs next h in ap (λ o. permitted v.session.state (judged v (here o (λ t. 3))) (saves v.session.state o stored)) (selected_none directory ks xs next h none)
 

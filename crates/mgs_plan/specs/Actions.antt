@@ -18,7 +18,8 @@ use Rattle.mgs_model.specs.Acts.{effects, fails, finished, edit_of, is_full, is_
 use Rattle.mgs_model.specs.declared.right.Right.{Right}
 use Rattle.mgs_model.specs.declared.right.Right.TheVariants.{ReadData}
 use Rattle.mgs_model.specs.declared.echo_text.Message.{Message}
-use Rattle.mgs_model.specs.declared.echo_text.Message.TheVariants.{KeyNotBound, BufferFull, Silent}
+use Rattle.mgs_model.specs.declared.echo_text.Message.TheVariants.{Says}
+use Rattle.mgs_model.specs.declared.echo_text.Notice.TheVariants.{KeyNotBound, BufferFull, Silent}
 use Rattle.mgs_model.specs.declared.session.Command.{Command}
 use Rattle.mgs_model.specs.declared.session.Command.TheVariants.{Insert, InsertReading, Move, Alter, Seek, Scroll, Set, Rearrange, Ask, Entries, ListEntries, SetOwner, SetGroup, UndoEdit, NotModified, SaveBuffer}
 use Rattle.mgs_model.specs.declared.session.Command.TheVariants as commands
@@ -297,7 +298,7 @@ session_acted text (Fails message) h = failed message h
 session_acted text (Edits mask c) h = session_finished (change_read text h.kill c).finish h
 session_acted text (Undoes u) h = session_finished (finish_read text h.kill 0 u.finish) h
 session_acted text (Moves f) h = session_finished (finish_read text h.kill 0 f) h
-session_acted text Clears h = told Silent (acted Other h)
+session_acted text Clears h = told (Says Silent) (acted Other h)
 
 -- and once the window's mark is where it is to be: a mark was reserved for the window if it had none
 pub record IsMarked (x : WindowMarks) (position : ℕ) (action : Action) (ks ls : List MarkedBuffer) (h y : Session) : Type 0 where
@@ -312,13 +313,13 @@ pub record IsMarked (x : WindowMarks) (position : ℕ) (action : Action) (ks ls 
 abbrev pub edit_outcome : model.State → List ℕ → ℕ → ℕ → Result plans.Change Message → Outcome
 edit_outcome state name size serial (Err message) = fails state message
 edit_outcome state name size serial (Ok c) =
-    if is_full size serial c.a c.b c.put then fails state BufferFull else finished state c.finish (edit_of name c.a c.b c.put)
+    if is_full size serial c.a c.b c.put then fails state (Says BufferFull) else finished state c.finish (edit_of name c.a c.b c.put)
 
 -- the same where a match is replaced
 abbrev pub replaced_outcome : model.State → List ℕ → ℕ → ℕ → Result SearchChange Message → Outcome
 replaced_outcome state name size serial (Err message) = fails state message
 replaced_outcome state name size serial (Ok c) =
-    if is_full size serial c.a c.b c.put then fails state BufferFull else search_finished state c.finish (edit_of name c.a c.b c.put)
+    if is_full size serial c.a c.b c.put then fails state (Says BufferFull) else search_finished state c.finish (edit_of name c.a c.b c.put)
 
 -- an insertion at the text's end appends, one elsewhere writes
 abbrev pub insertion_mask : ℕ → ℕ → ℕ
@@ -355,7 +356,7 @@ granted_outcome state (Alter c) text items a = edit_outcome state a.name a.size 
 granted_outcome state (Scroll c) text items a = moved_by state (scrolling c text a)
 granted_outcome state UndoEdit text items a = edit_outcome state a.name a.size a.serial (undo items a)
 granted_outcome state NotModified text items a = effects state (Ok (Unmodified a.name))
-granted_outcome state _ text items a = fails state KeyNotBound
+granted_outcome state _ text items a = fails state (Says KeyNotBound)
 
 abbrev pub outcome_at : model.State → Command → (Right → Decider) → List ℕ → List Item → plans.Around → Outcome
 outcome_at state c deciders text items a = permitted state (decision_by deciders (rights_in (mask_at c a.place a.size))) (granted_outcome state c text items a)

@@ -7,7 +7,8 @@ use Rattle.mgs_model.specs.Plans as plans
 use Rattle.mgs_model.specs.Acts.{edit_of, fails, finished, is_full, or_else, permitted}
 use Rattle.mgs_model.specs.Apply.{change_first}
 use Rattle.mgs_model.specs.declared.entry.Decision.{Decision}
-use Rattle.mgs_model.specs.declared.echo_text.Message.TheVariants.{NoBuffer, NoSuchBuffer, Silent}
+use Rattle.mgs_model.specs.declared.echo_text.Message.TheVariants.{Says}
+use Rattle.mgs_model.specs.declared.echo_text.Notice.TheVariants.{NoBuffer, NoSuchBuffer, Silent}
 use Rattle.mgs_model.specs.declared.right.Right.TheVariants.{ReadData}
 use Rattle.mgs_model.specs.declared.session.Kind.TheVariants.{Other}
 use Rattle.mgs_buffers.specs.MarkedBuffer.{HasBuffer, MarkedBuffer, has_buffer, mark_at, marked_at, marked_named, marked_placed}
@@ -21,7 +22,7 @@ use Rattle.mgs_plan.specs.Actions.{edit_outcome, edited_by, insertion_mask, mark
 
 -- the mark goes to the place, and the point behind what comes in
 abbrev pub leaving : ℕ → Finish
-leaving place = record { point = Behind; mark = Some place; top = None; kill = None; kind = Other; told = Silent }
+leaving place = record { point = Behind; mark = Some place; top = None; kill = None; kind = Other; told = Says Silent }
 
 abbrev pub insertion_of : ℕ → List ℕ → plans.Change
 insertion_of place put = record { a = place; b = place; put = put; finish = finish_read [] [] (place + length put) (leaving place) }
@@ -59,11 +60,11 @@ copy_outcome directory ks state user source x =
 
 abbrev pub outcome_from : Directory → List MarkedBuffer → State → List ℕ → List ℕ → WindowMarks → Bool → Outcome
 outcome_from directory ks state user source x true = copy_outcome directory ks state user source x
-outcome_from directory ks state user source x false = fails state NoSuchBuffer
+outcome_from directory ks state user source x false = fails state (Says NoSuchBuffer)
 
 -- by the name that was typed, for a user whose selected window shows this
 abbrev pub insertion_outcome : Directory → List MarkedBuffer → State → List ℕ → List ℕ → Option WindowMarks → Outcome
-insertion_outcome directory ks state user typed None = fails state NoBuffer
+insertion_outcome directory ks state user typed None = fails state (Says NoBuffer)
 insertion_outcome directory ks state user typed (Some x) = outcome_from directory ks state user typed x (has_buffer typed ks)
 
 -- there is no room for it

@@ -6,7 +6,8 @@ use Rattle.mgs_model.specs.View.{View}
 use Rattle.mgs_model.specs.Outcome.{Outcome, No_effect}
 use Rattle.mgs_model.specs.Plans.{comes}
 use Rattle.mgs_model.specs.Acts.{arranges, fails, permitted}
-use Rattle.mgs_model.specs.declared.echo_text.Message.TheVariants.{NoBuffer}
+use Rattle.mgs_model.specs.declared.echo_text.Message.TheVariants.{Says}
+use Rattle.mgs_model.specs.declared.echo_text.Notice.TheVariants.{NoBuffer}
 use Rattle.mgs_buffers.specs.MarkedBuffer.{MarkedBuffer}
 use Rattle.mgs_plan.specs.Inserting.{rights_decision}
 
@@ -16,5 +17,5 @@ lists_named v name = arranges v.session.state No_effect (Ok (comes v.session.win
 
 -- what it comes to for a user, where it is about the buffer of this name, or about none
 abbrev pub list_outcome : Directory → List MarkedBuffer → List ℕ → Option (List ℕ) → View → Outcome
-list_outcome directory ks user None v = fails v.session.state NoBuffer
+list_outcome directory ks user None v = fails v.session.state (Says NoBuffer)
 list_outcome directory ks user (Some name) v = permitted v.session.state (rights_decision directory ks user name 131072) (lists_named v name)

@@ -5,7 +5,8 @@ use Rattle.mgs_model.specs.Outcome.{Outcome}
 use Rattle.mgs_model.specs.Plans.{row_scrolled}
 use Rattle.mgs_model.specs.Acts.{fails, scrolls_rows}
 use Rattle.mgs_model.specs.Apply.{change_at}
-use Rattle.mgs_model.specs.declared.echo_text.Message.TheVariants.{NoBuffer}
+use Rattle.mgs_model.specs.declared.echo_text.Message.TheVariants.{Says}
+use Rattle.mgs_model.specs.declared.echo_text.Notice.TheVariants.{NoBuffer}
 use Rattle.mgs_model.specs.declared.session.Command.{Command}
 use Rattle.mgs_model.specs.declared.session.Command.TheVariants.{Scroll}
 use Rattle.mgs_model.specs.declared.session.Kind.TheVariants.{Other}
@@ -39,7 +40,7 @@ abbrev pub session_rows : RowPane → Session → Session
 session_rows rows h = record h { windows = record h.windows { windows = change_at h.windows.selected (rows_set rows) h.windows.windows } }
 
 abbrev pub scrolled_to : Option RowPane → Session → Session
-scrolled_to None h = failed NoBuffer h
+scrolled_to None h = failed (Says NoBuffer) h
 scrolled_to (Some rows) h = acted Other (session_rows rows h)
 
 -- that the selected window shows no text, and comes to these rows by some scrolling
@@ -52,11 +53,11 @@ pub record CanScroll (h : Session) (rows : RowPane) : Type 0 where
 
 -- what it comes to that a window comes to rows
 abbrev pub rows_outcome : State → RowPane → Outcome
-rows_outcome state NoRows = fails state NoBuffer
+rows_outcome state NoRows = fails state (Says NoBuffer)
 rows_outcome state (Buffers row) = scrolls_rows state (Some row)
 rows_outcome state (Entries name row) = scrolls_rows state (Some row)
 
 -- or to none
 abbrev pub outcome_without : State → Option RowPane → Outcome
-outcome_without state None = fails state NoBuffer
+outcome_without state None = fails state (Says NoBuffer)
 outcome_without state (Some rows) = rows_outcome state rows

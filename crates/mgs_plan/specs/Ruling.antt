@@ -8,7 +8,8 @@ use Rattle.mgs_model.specs.Plans.{entries_changed}
 use Rattle.mgs_model.specs.Acts.{effects, fails, permitted, list_set}
 use Rattle.mgs_model.specs.declared.entry.Entry.{Entry}
 use Rattle.mgs_model.specs.declared.echo_text.Message.{Message}
-use Rattle.mgs_model.specs.declared.echo_text.Message.TheVariants.{NoBuffer, NoSuchUser, NoSuchGroup}
+use Rattle.mgs_model.specs.declared.echo_text.Message.TheVariants.{Says}
+use Rattle.mgs_model.specs.declared.echo_text.Notice.TheVariants.{NoBuffer, NoSuchUser, NoSuchGroup}
 use Rattle.mgs_model.specs.declared.session.Command.{Command}
 use Rattle.mgs_model.specs.declared.session.Command.TheVariants as commands
 use Rattle.mgs_buffers.specs.MarkedBuffer.{MarkedBuffer, marked_at}
@@ -29,11 +30,11 @@ ruling_mask (Entries c) = 262144
 
 -- another user is to own the buffer of this name, and another group, or none
 abbrev pub owner_plan : Directory → List ℕ → List ℕ → Result Effect Message
-owner_plan directory name typed = if is_among typed directory.users then Ok (SetOwners name (ToUser typed)) else Err NoSuchUser
+owner_plan directory name typed = if is_among typed directory.users then Ok (SetOwners name (ToUser typed)) else Err (Says NoSuchUser)
 
 abbrev pub group_plan : Directory → List ℕ → List ℕ → Result Effect Message
 group_plan directory name typed =
-    if is_group_answer directory.groups typed then Ok (SetOwners name (ToGroup (group_answered typed))) else Err NoSuchGroup
+    if is_group_answer directory.groups typed then Ok (SetOwners name (ToGroup (group_answered typed))) else Err (Says NoSuchGroup)
 
 -- what is planned in a buffer of this name and list
 abbrev pub ruling_plan : Directory → List ℕ → List Entry → Ruling → Option ℕ → List ℕ → Result Effect Message
@@ -48,5 +49,5 @@ ruling_in directory ks state user name c n typed =
 
 -- and where it is about the buffer of this name, or about none
 abbrev pub ruling_outcome : Directory → List MarkedBuffer → State → List ℕ → Option (List ℕ) → Ruling → Option ℕ → List ℕ → Outcome
-ruling_outcome directory ks state user None c n typed = fails state NoBuffer
+ruling_outcome directory ks state user None c n typed = fails state (Says NoBuffer)
 ruling_outcome directory ks state user (Some name) c n typed = ruling_in directory ks state user name c n typed

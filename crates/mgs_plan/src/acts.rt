@@ -13,7 +13,7 @@ use crate::rule_change::{Ruling, plan_rule};
 use crate::save::plan_save;
 use mgs_buffers::Buffers;
 use mgs_marks::Marked;
-use mgs_model::{Command, Message};
+use mgs_model::{Command, Message, Notice};
 use mgs_policy::Directory;
 use mgs_session::Session;
 
@@ -33,7 +33,7 @@ pub fn plan_act<T: Marked + Drop>(
     ensures can { CanPerform directory.now buffers.now session.now result }
 {
     let KeyAct::Run(command, argument) = done else {
-        return Outcome::Fails(Message::KeyNotBound);
+        return Outcome::Fails(Message::Says(Notice::KeyNotBound));
     };
     let count = counted(argument);
     match command {

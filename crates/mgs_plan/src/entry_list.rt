@@ -9,7 +9,7 @@ use crate::outcome::Outcome;
 use crate::subject::subject_in;
 use mgs_buffers::Buffers;
 use mgs_marks::Marked;
-use mgs_model::{Message, Right};
+use mgs_model::{Message, Notice, Right};
 use mgs_policy::Directory;
 use mgs_session::Session;
 
@@ -24,7 +24,7 @@ pub(crate) fn plan_list<T: Marked + Drop>(
 {
     prove!(buffers.name_typed(&[]).is_none());
     let Some(name) = subject_in(buffers, session) else {
-        return Outcome::Fails(Message::NoBuffer);
+        return Outcome::Fails(Message::Says(Notice::NoBuffer));
     };
     let lists = Outcome::Lists(name);
     judged(buffers, directory, session, &name, Right::ReadAcl, lists)

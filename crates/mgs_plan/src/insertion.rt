@@ -16,7 +16,7 @@ use crate::outcome::Outcome;
 use crate::text_command::insertion_mask;
 use mgs_buffers::Buffers;
 use mgs_marks::Marked;
-use mgs_model::{Mask, Message, Name, Right, TEXT_LIMIT};
+use mgs_model::{Mask, Message, Name, Notice, Right, TEXT_LIMIT};
 use mgs_policy::Directory;
 use mgs_session::{Session, selected_window_marks};
 use mgs_text::Text;
@@ -101,7 +101,7 @@ fn copied_at<T: Marked + Drop>(
     ensures can { CanWhereInserted buffers.now window_marks.now place result }
 {
     if is_full(buffers, &source, &window_marks.name) {
-        return Outcome::Fails(Message::BufferFull);
+        return Outcome::Fails(Message::Says(Notice::BufferFull));
     }
     Outcome::Copies(*window_marks, source, place)
 }
@@ -145,10 +145,10 @@ pub(crate) fn plan_insertion<T: Marked + Drop>(
     ensures can { CanPerform directory.now buffers.now session.now result }
 {
     let Some(window_marks) = selected_window_marks(session) else {
-        return Outcome::Fails(Message::NoBuffer);
+        return Outcome::Fails(Message::Says(Notice::NoBuffer));
     };
     match buffers.name_typed(typed) {
-        None => Outcome::Fails(Message::NoSuchBuffer),
+        None => Outcome::Fails(Message::Says(Notice::NoSuchBuffer)),
         Some(source) => copied(buffers, directory, session, source, &window_marks),
     }
 }

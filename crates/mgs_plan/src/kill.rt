@@ -13,7 +13,7 @@ use crate::judgement::judged;
 use crate::outcome::Outcome;
 use mgs_buffers::Buffers;
 use mgs_marks::Marked;
-use mgs_model::{Message, Name, Right};
+use mgs_model::{Message, Name, Notice, Right};
 use mgs_policy::Directory;
 use mgs_session::{Session, subject};
 
@@ -32,12 +32,12 @@ fn meant<T: Marked + Drop>(
         return Ok(name);
     }
     if !typed.is_empty() {
-        return Err(Message::NoSuchBuffer);
+        return Err(Message::Says(Notice::NoSuchBuffer));
     }
     match subject {
         Some(name) if buffers.has(&name) => Ok(name),
-        Some(_) => Err(Message::NoSuchBuffer),
-        None => Err(Message::NoBuffer),
+        Some(_) => Err(Message::Says(Notice::NoSuchBuffer)),
+        None => Err(Message::Says(Notice::NoBuffer)),
     }
 }
 

@@ -8,7 +8,7 @@ ghost use Rattle.mgs_plan.specs.Rows.{pane_scrolled, rows_scrolled, scroll_in};
 
 use crate::outcome::Outcome;
 use mgs_edit::scrolled_row;
-use mgs_model::{Command, Message, Scrolling};
+use mgs_model::{Command, Message, Notice, Scrolling};
 use mgs_session::Session;
 use mgs_windows::RowPane;
 
@@ -56,6 +56,6 @@ pub(crate) fn plan_rows(session: &Session, command: Command) -> Outcome
 {
     match rows_scrolled(session, scroll_in(command)) {
         Some(rows) => Outcome::Scrolls(rows),
-        None => Outcome::Fails(Message::NoBuffer),
+        None => Outcome::Fails(Message::Says(Notice::NoBuffer)),
     }
 }

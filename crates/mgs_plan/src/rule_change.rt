@@ -18,7 +18,7 @@ use crate::subject::subject_in;
 use mgs_acl::{List, ListFault, entry_typed};
 use mgs_buffers::Buffers;
 use mgs_marks::Marked;
-use mgs_model::{Entry, EntryChange, Message, Name, NewOwner, Right};
+use mgs_model::{Entry, EntryChange, Message, Name, NewOwner, Notice, Right};
 use mgs_policy::Directory;
 use mgs_session::Session;
 
@@ -50,7 +50,7 @@ fn owner_ruled(directory: &Directory, name: Name, typed: &[char]) -> Outcome
 {
     match directory.user_typed(typed) {
         Some(owner) => Outcome::SetsOwners(name, NewOwner::ToUser(owner)),
-        None => Outcome::Fails(Message::NoSuchUser),
+        None => Outcome::Fails(Message::Says(Notice::NoSuchUser)),
     }
 }
 
@@ -64,7 +64,7 @@ fn group_ruled(directory: &Directory, name: Name, typed: &[char]) -> Outcome
     }
     match directory.group_typed(typed) {
         Some(group) => Outcome::SetsOwners(name, NewOwner::ToGroup(Some(group))),
-        None => Outcome::Fails(Message::NoSuchGroup),
+        None => Outcome::Fails(Message::Says(Notice::NoSuchGroup)),
     }
 }
 
@@ -74,12 +74,12 @@ fn inserted(list: List, number: usize, entry: Entry) -> Result<List, Message>
 {
     let mut list = list;
     if number == 0 {
-        return Err(Message::NoSuchEntry);
+        return Err(Message::Says(Notice::NoSuchEntry));
     }
     match list.insert(number - 1, entry) {
         Ok(()) => Ok(list),
-        Err(ListFault::NoSuchEntry) => Err(Message::NoSuchEntry),
-        Err(ListFault::Full) => Err(Message::ListFull),
+        Err(ListFault::NoSuchEntry) => Err(Message::Says(Notice::NoSuchEntry)),
+        Err(ListFault::Full) => Err(Message::Says(Notice::ListFull)),
     }
 }
 
@@ -106,11 +106,11 @@ fn deleted(list: List, argument: Option<usize>) -> Result<List, Message>
 {
     let mut list = list;
     let Some(index) = entry_index(&list, argument) else {
-        return Err(Message::NoSuchEntry);
+        return Err(Message::Says(Notice::NoSuchEntry));
     };
     match list.delete(index) {
         Ok(()) => Ok(list),
-        Err(_) => Err(Message::NoSuchEntry),
+        Err(_) => Err(Message::Says(Notice::NoSuchEntry)),
     }
 }
 
@@ -120,11 +120,11 @@ fn replaced(list: List, argument: Option<usize>, entry: Entry) -> Result<List, M
 {
     let mut list = list;
     let Some(index) = entry_index(&list, argument) else {
-        return Err(Message::NoSuchEntry);
+        return Err(Message::Says(Notice::NoSuchEntry));
     };
     match list.replace(index, entry) {
         Ok(()) => Ok(list),
-        Err(_) => Err(Message::NoSuchEntry),
+        Err(_) => Err(Message::Says(Notice::NoSuchEntry)),
     }
 }
 
@@ -224,7 +224,7 @@ pub(crate) fn plan_rule<T: Marked + Drop>(
 {
     prove!(buffers.name_typed(&[]).is_none());
     let Some(name) = subject_in(buffers, session) else {
-        return Outcome::Fails(Message::NoBuffer);
+        return Outcome::Fails(Message::Says(Notice::NoBuffer));
     };
     let right = right_for(ruling);
     let ruled = granted(buffers, directory, name, ruling, argument, typed);

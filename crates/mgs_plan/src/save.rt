@@ -11,7 +11,7 @@ ghost use Rattle.mgs_plan.specs.Saving.{IsSaveLeft, IsSaveRefused};
 use crate::outcome::Outcome;
 use mgs_buffers::Buffers;
 use mgs_marks::Marked;
-use mgs_model::{Decision, Mask, Message, Name, Right};
+use mgs_model::{Decision, Mask, Message, Name, Notice, Right};
 use mgs_policy::Directory;
 use mgs_session::{Session, selected_window_marks};
 
@@ -35,11 +35,11 @@ fn refusal<T: Marked + Drop>(
         Decision::DeniedBy { .. } | Decision::NotGranted { .. } => Some(Message::Denied(decision)),
         Decision::Granted => {
             if is_playing {
-                Some(Message::InMacro)
+                Some(Message::Says(Notice::InMacro))
             } else if buffers.has_file(name) {
                 None
             } else {
-                Some(Message::NoFile)
+                Some(Message::Says(Notice::NoFile))
             }
         }
     }
@@ -56,7 +56,7 @@ pub(crate) fn plan_save<T: Marked + Drop>(
     ensures can { CanPerform directory.now buffers.now session.now result }
 {
     let Some(window_marks) = selected_window_marks(session) else {
-        return Outcome::Fails(Message::NoBuffer);
+        return Outcome::Fails(Message::Says(Notice::NoBuffer));
     };
     let name = window_marks.name;
     let is_playing = session.state.player.is_playing();

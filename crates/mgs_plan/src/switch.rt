@@ -13,7 +13,7 @@ use crate::new_name::name_typed;
 use crate::outcome::Outcome;
 use mgs_buffers::Buffers;
 use mgs_marks::Marked;
-use mgs_model::{BUFFER_LIMIT, Message, Right};
+use mgs_model::{BUFFER_LIMIT, Message, Notice, Right};
 use mgs_policy::Directory;
 use mgs_session::Session;
 
@@ -24,10 +24,10 @@ fn switch_new<T: Marked + Drop>(buffers: &Buffers<T>, typed: &[char]) -> Outcome
     ensures can { (directory : Directory) (h : code.Session) → CanPerform directory buffers.now h result }
 {
     let Some(name) = name_typed(typed) else {
-        return Outcome::Fails(Message::BadName);
+        return Outcome::Fails(Message::Says(Notice::BadName));
     };
     if buffers.len() >= BUFFER_LIMIT {
-        return Outcome::Fails(Message::TooManyBuffers);
+        return Outcome::Fails(Message::Says(Notice::TooManyBuffers));
     }
     Outcome::Creates(name)
 }

@@ -19,7 +19,7 @@ use mgs_edit::{
     is_undo_an_edit, is_undo_too_long, motion, reading_insertion, scroll, undo, undo_target,
 };
 use mgs_marks::Marked;
-use mgs_model::{Command, Decision, Kind, Mask, Message, Name, Right};
+use mgs_model::{Command, Decision, Kind, Mask, Message, Name, Notice, Right};
 use mgs_text::Text;
 use mgs_undo::Edit;
 use mgs_windows::WindowMarks;
@@ -159,10 +159,10 @@ fn edits_so<T: Text>(text: &T, serial: u64, kill: &[char], mask: Mask, change: C
     if is_edit(&change, killed)
         && (is_too_long(text.len(), &change, killed) || serial == u64::MAX)
     {
-        return Action::Fails(Message::BufferFull);
+        return Action::Fails(Message::Says(Notice::BufferFull));
     }
     if is_kill_too_large(&change.finish, killed) {
-        return Action::Fails(Message::KillTooLarge);
+        return Action::Fails(Message::Says(Notice::KillTooLarge));
     }
     Action::Edits(mask, change)
 }
@@ -178,7 +178,7 @@ fn moves<T: Text>(text: &T, kill: &[char], planned: Result<Finish, Message>) -> 
         Err(message) => Action::Fails(message),
         Ok(finish) => {
             if is_kill_too_large(&finish, kill.len()) {
-                return Action::Fails(Message::KillTooLarge);
+                return Action::Fails(Message::Says(Notice::KillTooLarge));
             }
             Action::Moves(finish)
         }
@@ -193,7 +193,7 @@ fn undoes_so<T: Text>(text: &T, serial: u64, undone: Undone) -> Action
     ensures by { IsDoneBy 3 result }
 {
     if is_undo_an_edit(&undone) && (is_undo_too_long(text.len(), &undone) || serial == u64::MAX) {
-        return Action::Fails(Message::BufferFull);
+        return Action::Fails(Message::Says(Notice::BufferFull));
     }
     Action::Undoes(undone)
 }
@@ -205,7 +205,7 @@ fn takes_back<T: Text>(text: &T, serial: u64, name: &Name, target: u64, edit: &E
     ensures by { IsDoneBy 3 result }
 {
     if serial == u64::MAX {
-        return Action::Fails(Message::BufferFull);
+        return Action::Fails(Message::Says(Notice::BufferFull));
     }
     undoes_so(text, serial, undo(edit, name, target, serial, text.len()))
 }
@@ -220,7 +220,7 @@ fn undoes<T: Marked + Drop>(found: &Found<T>, kind: Kind) -> Action
     let serial = found.serial();
     let target = undo_target(kind, name, serial);
     match found.item(target) {
-        None => Action::Fails(Message::NoFurtherUndo),
+        None => Action::Fails(Message::Says(Notice::NoFurtherUndo)),
         Some(edit) => takes_back(found.text(), serial, name, target, edit),
     }
 }
@@ -262,7 +262,7 @@ fn plan_granted<T: Marked + Drop>(
         Command::UndoEdit => undoes(found, around.kind),
         Command::NotModified => Action::Clears,
         // No other command acts on the text yet.
-        _ => Action::Fails(Message::KeyNotBound),
+        _ => Action::Fails(Message::Says(Notice::KeyNotBound)),
     }
 }
 

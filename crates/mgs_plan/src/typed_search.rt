@@ -14,7 +14,7 @@ use crate::text_command::denial;
 use mgs_buffers::{Buffers, Found};
 use mgs_edit::{Finish, Goes};
 use mgs_marks::Marked;
-use mgs_model::{Direction, Kind, Mask, Message, Right};
+use mgs_model::{Direction, Kind, Mask, Message, Notice, Right};
 use mgs_policy::Directory;
 use mgs_search::search_for;
 use mgs_session::{Session, selected_window_marks};
@@ -39,7 +39,7 @@ fn plan_granted<T: Marked + Drop>(
             top: None,
             kill: None,
             kind: Kind::Other,
-            told: Message::Silent,
+            told: Message::Says(Notice::Silent),
         }),
         Err(message) => Action::Fails(message),
     }
@@ -107,7 +107,7 @@ pub(crate) fn plan_search<T: Marked + Drop>(
     ensures can { CanPerform directory.now buffers.now session.now result }
 {
     let Some(window_marks) = selected_window_marks(session) else {
-        return Outcome::Fails(Message::NoBuffer);
+        return Outcome::Fails(Message::Says(Notice::NoBuffer));
     };
     let action = plan_meant(buffers, directory, session, &window_marks, direction, typed);
     let place = buffers.place_of(&window_marks.name);

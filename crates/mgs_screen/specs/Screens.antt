@@ -6,7 +6,8 @@ use Rattle.mgs_model.specs.Lines.{column, line_of, line_start}
 use Rattle.mgs_model.specs.Picture.{Picture}
 use Rattle.mgs_model.specs.Prompts.{line_in_mode, prompt_line, search_text}
 use Rattle.mgs_model.specs.declared.echo_text.Message.{Message}
-use Rattle.mgs_model.specs.declared.echo_text.Message.TheVariants.{Silent}
+use Rattle.mgs_model.specs.declared.echo_text.Message.TheVariants.{Says}
+use Rattle.mgs_model.specs.declared.echo_text.Notice.TheVariants.{Silent}
 use Rattle.mgs_model.specs.declared.session.Mode.{Mode}
 use Rattle.mgs_model.specs.declared.session.Mode.TheVariants.{Plain}
 use Rattle.mgs_model.specs.Rows.{Row, mode_row, echo_row, line_row, line_end_column, shift_for, buffer_mode, unless_told}
@@ -133,7 +134,7 @@ last_row_drawn state row point p = row_in_mode state.mode state.input state.echo
 
 -- nothing is told, no search goes on and no prompt waits
 abbrev pub IsAtRest : State → Type 0
-IsAtRest state = (row : ℕ) (point : ℕ × ℕ) (p : Picture) → last_row_drawn state row point p ≡ row_in_mode Plain [] Silent row point p
+IsAtRest state = (row : ℕ) (point : ℕ × ℕ) (p : Picture) → last_row_drawn state row point p ≡ row_in_mode Plain [] (Says Silent) row point p
 
 -- the line of a search in a row, and the cursor at the point
 abbrev pub search_line : Aim → List ℕ

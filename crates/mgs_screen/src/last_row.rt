@@ -3,7 +3,8 @@ ghost use Rattle.std.specs.Prelude.{◌≡◌, ◌<◌, [], ◌∷◌, None, tru
 ghost use Rattle.mgs_model.specs.Rows.{is_silent, plain_row};
 ghost use Rattle.mgs_grid.specs.Cells.{rows_put};
 ghost use Rattle.mgs_grid.specs.Panes.{with_rows};
-ghost use Rattle.mgs_model.specs.declared.echo_text.Message.TheVariants.{Silent};
+ghost use Rattle.mgs_model.specs.declared.echo_text.Message.TheVariants.{Says};
+ghost use Rattle.mgs_model.specs.declared.echo_text.Notice.TheVariants.{Silent};
 ghost use Rattle.mgs_model.specs.declared.session.Mode.TheVariants.{Plain};
 ghost use Rattle.mgs_world.specs.Worlds.{input_in, mode_in, state_of};
 ghost use Rattle.mgs_screen.specs.Canvas.{IsDrawnOn, IsLastRow};
@@ -11,13 +12,13 @@ ghost use Rattle.mgs_screen.specs.Screens.{IsAtRest, prompt_drawn, last_row_draw
 
 use mgs_grid::{Grid, Line, RowSet};
 use mgs_mini::Prompt;
-use mgs_model::{Message, ROWS_MAX};
+use mgs_model::{Message, Notice, ROWS_MAX};
 use mgs_session::{Aim, State};
 
 fn is_silent(message: &Message) -> bool
     ensures { result ≡ is_silent message.now }
 {
-    matches!(message, Message::Silent)
+    matches!(message, Message::Says(Notice::Silent))
 }
 
 /// Draws the line of a prompt, and puts the cursor behind it.
@@ -93,7 +94,7 @@ fn draw_last_row(state: &State, row: usize, point: (usize, usize), grid: &mut Gr
 
 /// Whether no prompt waits, and nothing is told.
 fn is_unprompted(prompt: &Option<Prompt>, echo: &Message) -> bool
-    ensures { result ≡ true → (mode_in None prompt.now ≡ Plain) × (input_in None prompt.now ≡ []) × (echo.now ≡ Silent) }
+    ensures { result ≡ true → (mode_in None prompt.now ≡ Plain) × (input_in None prompt.now ≡ []) × (echo.now ≡ (Says Silent)) }
 {
     match prompt {
         Some(_) => false,

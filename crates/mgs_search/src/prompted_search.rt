@@ -5,7 +5,7 @@ ghost use Rattle.mgs_search.specs.Planned.{IsSearchPlan};
 
 use crate::incremental::match_point;
 use crate::{find_forward, find_past};
-use mgs_model::{Direction, Message};
+use mgs_model::{Direction, Message, Notice};
 use mgs_text::Text;
 
 // Forward the position itself counts, and backward it does not.
@@ -34,10 +34,10 @@ pub fn search_for<T: Text>(
     ensures within { IfOk result (λ q. q ≤ length (T.text text.now)) }
 {
     if pattern.is_empty() {
-        return Err(Message::NoPattern);
+        return Err(Message::Says(Notice::NoPattern));
     }
     match find_once(text, direction, p, pattern) {
         Some(m) => Ok(match_point(direction, m, pattern)),
-        None => Err(Message::NotFound),
+        None => Err(Message::Says(Notice::NotFound)),
     }
 }

@@ -5,7 +5,7 @@ ghost use Rattle.mgs_model.specs.declared.session.Replacement.TheVariants.{Repla
 ghost use Rattle.mgs_search.specs.Planned.{IsBegun, IsReplacement, IsSkipped};
 
 use crate::{find_forward, matches_at};
-use mgs_model::Message;
+use mgs_model::{Message, Notice};
 use mgs_text::Text;
 
 /// The plan of a replacement at an anchor.
@@ -26,7 +26,7 @@ pub fn begin_replacing<T: Text>(text: &T, p: usize, old: &[char]) -> Result<Opti
     ensures some { OnOk result (0 < length old.now) }
 {
     if old.is_empty() {
-        return Err(Message::NoPattern);
+        return Err(Message::Says(Notice::NoPattern));
     }
     Ok(find_forward(text, p, old))
 }

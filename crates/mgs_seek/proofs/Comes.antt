@@ -14,7 +14,8 @@ use Rattle.mgs_model.specs.declared.right.Right.TheVariants.{ReadData, WriteData
 use Rattle.mgs_model.specs.declared.entry.Decision.{Decision}
 use Rattle.mgs_model.specs.declared.entry.Decision.TheVariants.{Granted}
 use Rattle.mgs_model.specs.declared.echo_text.Message.{Message}
-use Rattle.mgs_model.specs.declared.echo_text.Message.TheVariants.{NoBuffer}
+use Rattle.mgs_model.specs.declared.echo_text.Message.TheVariants.{Says}
+use Rattle.mgs_model.specs.declared.echo_text.Notice.TheVariants.{NoBuffer}
 use Rattle.mgs_model.specs.declared.session.Replacement.{Replacement}
 use Rattle.mgs_model.specs.declared.session.Seeking.{Seeking}
 use Rattle.mgs_buffers.specs.MarkedBuffer.{HasBuffer, MarkedBuffer, mark_at, marked_at}
@@ -43,7 +44,7 @@ on_there : (v : View) (t : Target) (writes : Bool) (c : Seeking) (k : Replacemen
 on_there v t false c k n typed is found = sought_on_target v t c n typed is found
 on_there v t true c k n typed is found = replaced_on_target v t k n typed is found
 
-off_there : (v : View) (writes : Bool) (c : Seeking) (k : Replacement) (n : Option ℕ) (typed : List ℕ) → target v ≡ None → outcome v (Run (command_of writes c k) n typed) true ≡ fails v.session.state NoBuffer
+off_there : (v : View) (writes : Bool) (c : Seeking) (k : Replacement) (n : Option ℕ) (typed : List ℕ) → target v ≡ None → outcome v (Run (command_of writes c k) n typed) true ≡ fails v.session.state (Says NoBuffer)
 off_there v false c k n typed none = sought_off_target v c n typed none
 off_there v true c k n typed none = replaced_off_target v k n typed none
 
@@ -55,7 +56,7 @@ module _ (directory : Directory) (ks : List MarkedBuffer) (xs : List Session) (n
   abbrev comes : Option model.Search → Outcome
   comes search = let y : model.Session = record (session_of ks h) { search = search; state = state } in outcome (view (world_of directory ks xs next) y) (Run (command_of writes c k) n typed) true
 
-  pub come_off : (search : Option model.Search) → window_marks_of h ≡ None → comes search ≡ fails state NoBuffer
+  pub come_off : (search : Option model.Search) → window_marks_of h ≡ None → comes search ≡ fails state (Says NoBuffer)
   come_off search none =
       let y : model.Session = record (session_of ks h) { search = search; state = state } in
       off_there (view (world_of directory ks xs next) y) writes c k n typed (selected_none directory ks xs next h none)
@@ -120,7 +121,7 @@ module _ (directory : Directory) (ks : List MarkedBuffer) (xs : List Session) (n
       come_read search = come_on search ∙ (λ i. comes_so (seen search) (granted i) (any_read d reads_it i) (reads_it i) (reads_here i) (name_kept x.name ks kept i))
 
       -- the search is in another buffer, or there is none
-      pub come_elsewhere : (search : Option model.Search) → is_sought_in x.name (seen search) ≡ false → ((text : List ℕ) (a : AroundSearch) → comes_of writes c k state x.name (length b.text) b.serial text (record a { sought_here = false }) ≡ fails state NoBuffer) → comes search ≡ fails state NoBuffer
+      pub come_elsewhere : (search : Option model.Search) → is_sought_in x.name (seen search) ≡ false → ((text : List ℕ) (a : AroundSearch) → comes_of writes c k state x.name (length b.text) b.serial text (record a { sought_here = false }) ≡ fails state (Says NoBuffer)) → comes search ≡ fails state (Says NoBuffer)
       come_elsewhere search away none = come_read search ∙ ap (does (origin_in (seen search)) (anchor_in (seen search))) away ∙ none b.text (given (origin_in (seen search)) (anchor_in (seen search)) true)
 
       -- it is in this one

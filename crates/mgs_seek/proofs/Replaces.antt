@@ -7,7 +7,8 @@ use Rattle.mgs_model.specs.Outcome.{Act, Outcome, Run}
 use Rattle.mgs_model.specs.SearchCommands.{AroundSearch, SearchChange, SearchFinish, met, replace}
 use Rattle.mgs_model.specs.View.{view}
 use Rattle.mgs_model.specs.declared.echo_text.Message.{Message}
-use Rattle.mgs_model.specs.declared.echo_text.Message.TheVariants.{BufferFull}
+use Rattle.mgs_model.specs.declared.echo_text.Message.TheVariants.{Says}
+use Rattle.mgs_model.specs.declared.echo_text.Notice.TheVariants.{BufferFull}
 use Rattle.mgs_model.specs.declared.session.Command.TheVariants as commands
 use Rattle.mgs_model.specs.declared.session.Seeking.TheVariants.{SkipMatch}
 use Rattle.mgs_buffers.specs.MarkedBuffer.{MarkedBuffer, marked_at}
@@ -55,7 +56,7 @@ module _ (d : Directory) (ks : List MarkedBuffer) (h : Session) (x : WindowMarks
       search_finished (state_of h.state) (met (length r.pattern) (one_met plan.replaces) (top_read (cond plan.replaces (Some (a + length put)) None)) plan.next) (edit_of x.name a to put)
 
   abbrev comes_to : MatchPlan → ℕ → List ℕ → Outcome
-  comes_to plan to put = cond (is_full (length text) serial a to put) (fails (state_of h.state) BufferFull) (ends_by plan to put)
+  comes_to plan to put = cond (is_full (length text) serial a to put) (fails (state_of h.state) (Says BufferFull)) (ends_by plan to put)
 
   comes_so : (plan : MatchPlan) → IsPlan text a r last plan → (xs : List Session) (next : Option ℕ) → outcome (view (world_of d ks xs next) (session_of ks h)) replaces_it true ≡ comes_to plan (to_by plan.replaces a r.pattern) (put_by plan.replaces r.put)
   comes_so plan planned xs next =
@@ -73,7 +74,7 @@ module _ (d : Directory) (ks : List MarkedBuffer) (h : Session) (x : WindowMarks
       let same : r ≡ t.0 = same_replacing s r (replaces s r) t.0 refl t.1 in
       ap (λ (q : List ℕ). outcome (view (world_of d ks xs next) (session_of ks h)) (Run (commands.Replace (replacement last)) None q) true) (t.2 ∙ ap (λ (v : Replacing). v.put) (sym same))
       ∙ comes_so full.done full.plan xs next
-      ∙ ap (λ (q : Bool). cond q (fails (state_of h.state) BufferFull) (ends_by full.done (to_by full.done.replaces a r.pattern) (put_by full.done.replaces r.put))) full.full
+      ∙ ap (λ (q : Bool). cond q (fails (state_of h.state) (Says BufferFull)) (ends_by full.done (to_by full.done.replaces a r.pattern) (put_by full.done.replaces r.put))) full.full
       ∙ ap (fails (state_of h.state)) (sym full.told)
 
   -- it is planned
@@ -111,8 +112,8 @@ module _ (d : Directory) (ks : List MarkedBuffer) (h : Session) (x : WindowMarks
         let state = state_of h.state in
         let does : Edited → Outcome = λ z. search_finished state (left z) (edit_of x.name z.from z.to (put_by b r.put)) in
         comes_so p.plan planned.plan xs next
-        ∙ ap (λ (z : Edited). cond (is_full (length text) serial z.from z.to (put_by b r.put)) (fails state BufferFull) (does z)) (sym same)
-        ∙ ap (λ (full : Bool). cond full (fails state BufferFull) (does q)) room
+        ∙ ap (λ (z : Edited). cond (is_full (length text) serial z.from z.to (put_by b r.put)) (fails state (Says BufferFull)) (does z)) (sym same)
+        ∙ ap (λ (full : Bool). cond full (fails state (Says BufferFull)) (does q)) room
         ∙ ap (λ (put : List ℕ). search_finished state (left q) (edit_of x.name q.from q.to put)) (sym (put_is b))
 
 pub plans_it : (d : Directory) (ks : List MarkedBuffer) (h : Session) (s : Search) (r : Replacing) (last : Bool) (p : Planned) → IsSought d ks h true p.window_marks → h.state.search ≡ Some (replaces s r) → PlannedAt ks p.window_marks s.anchor r last p → IsPlanned d ks h last p

@@ -15,7 +15,8 @@ use Rattle.mgs_model.specs.Searching.{Sought, is_looking, looked_for, places_aft
 use Rattle.mgs_model.specs.Acts.{mode_left, outcome, search_finished, search_finished_state, sought_by}
 use Rattle.mgs_model.specs.Apply.{change_at, change_first, is_search_mode, session_arranged, window_adjusted}
 use Rattle.mgs_model.specs.declared.echo_text.Message.{Message}
-use Rattle.mgs_model.specs.declared.echo_text.Message.TheVariants.{Quitting, Silent}
+use Rattle.mgs_model.specs.declared.echo_text.Message.TheVariants.{Says}
+use Rattle.mgs_model.specs.declared.echo_text.Notice.TheVariants.{Quitting, Silent}
 use Rattle.mgs_model.specs.declared.search.SearchPlaces.{SearchPlaces}
 use Rattle.mgs_model.specs.declared.search.SearchStep.{SearchStep}
 use Rattle.mgs_model.specs.declared.session.Command.TheVariants.{LeaveSearch, Seek}
@@ -51,7 +52,7 @@ use Rattle.mgs_seek.proofs.Comes.{come_sought, size_sought, sought_place}
 -- what the step tells of the search's mode is what the session holds then
 state_left : (b l : Bool) (s : Seeker) (a : ℕ) (h : Session)
     → (let failing : Bool = cond b l s.sought.failing in
-    mode_left (cond b (Failing failing) Keep_mode) (record (acted_state (state_of (searching (as_search s) h).state)) { echo = Silent }) ≡ state_of (session_sought (record s { anchor = a; sought = record s.sought { failing = failing } }) h).state)
+    mode_left (cond b (Failing failing) Keep_mode) (record (acted_state (state_of (searching (as_search s) h).state)) { echo = Says Silent }) ≡ state_of (session_sought (record s { anchor = a; sought = record s.sought { failing = failing } }) h).state)
 state_left true l s a h = refl
 state_left false l s a h = refl
 
@@ -183,7 +184,7 @@ module _ (ks : List MarkedBuffer) (x : WindowMarks) (kept : HasBuffer x.name ks)
       by false e = refl
 
 abbrev quit_outcome : State → Outcome
-quit_outcome state = record { state = failed_state Quitting state; kill = Keep_kill; arrange = Adjust At_origin Keep_mark Keep_position None No_search; effect = No_effect }
+quit_outcome state = record { state = failed_state (Says Quitting) state; kill = Keep_kill; arrange = Adjust At_origin Keep_mark Keep_position None No_search; effect = No_effect }
 
 module _ (ks : List MarkedBuffer) (h : Session) (sound : IsSessionSound ks h) where
   abbrev o : Outcome
@@ -193,13 +194,13 @@ module _ (ks : List MarkedBuffer) (h : Session) (sound : IsSessionSound ks h) wh
   shows_is : (v : Option WindowMarks) → window_marks_of h ≡ v → (w : Window) → slice_get h.windows.windows h.windows.selected ≡ Some w → w.shows ≡ v
   shows_is v sel w is = sym (ap (option_and_then (λ (u : Window). u.shows)) is) ∙ sel
 
-  quit_so : (v : Option WindowMarks) → window_marks_of h ≡ v → session_of (gone_back v h.state.search ks) (failed Quitting h) ≡ session_arranged o (session_of ks h)
+  quit_so : (v : Option WindowMarks) → window_marks_of h ≡ v → session_of (gone_back v h.state.search ks) (failed (Says Quitting) h) ≡ session_arranged o (session_of ks h)
   quit_so None sel =
       let search = search_of (buffers_of ks) h.state.search in
       let windows = sym (unchanged h.windows.selected (map (window_of ks) h.windows.windows))
       ∙ same_there (window_of ks) (λ w. w) (quits search) h.windows.selected h.windows.windows
       (λ w is. ap (λ (s : Option WindowMarks). window_shown ks w.height s w.rows) (shows_is None sel w is) ∙ stays_there search ks w.height w.rows ∙ sym (ap (λ (s : Option WindowMarks). quits search (window_shown ks w.height s w.rows)) (shows_is None sel w is))) in
-      λ i. record (session_of ks (failed Quitting h)) { windows = windows i }
+      λ i. record (session_of ks (failed (Says Quitting) h)) { windows = windows i }
   quit_so (Some x) sel =
       let kept = mark_is_kept x.name x.point ks (marks_held ks h x sound sel).point in
       let plan = origin_plan x.name (length (marked_at x.name ks).buffer.text) h.state.search in
@@ -208,16 +209,16 @@ module _ (ks : List MarkedBuffer) (h : Session) (sound : IsSessionSound ks h) wh
       (λ w is. ap (λ (s : Option WindowMarks). point_by plan (window_shown ks w.height s w.rows)) (shows_is (Some x) sel w is)
       ∙ goes_there ks x kept h.state.search w.height w.rows
       ∙ sym (ap (λ (s : Option WindowMarks). quits search (window_shown ks w.height s w.rows)) (shows_is (Some x) sel w is))) in
-      gone_here ks h x plan (failed Quitting h).state sound sel ∙ (λ i. record (session_of ks (failed Quitting h)) { windows = windows i })
+      gone_here ks h x plan (failed (Says Quitting) h).state sound sel ∙ (λ i. record (session_of ks (failed (Says Quitting) h)) { windows = windows i })
 
-  pub quit_does : (d : Directory) → Does d ks (gone_back (window_marks_of h) h.state.search ks) h (failed Quitting h) as_is (Run LeaveSearch None [])
+  pub quit_does : (d : Directory) → Does d ks (gone_back (window_marks_of h) h.state.search ks) h (failed (Says Quitting) h) as_is (Run LeaveSearch None [])
   unfolding outcome
   quit_does d = record { left = o; quiet = refl; known = λ xs next. refl; does = quit_so (window_marks_of h) refl }
 
-  only_quit : (v : Option WindowMarks) → window_marks_of h ≡ v → OnlyThis nothing_held ks (gone_back v h.state.search ks) h (failed Quitting h)
-  only_quit None sel = only_state ks h (failed Quitting h).state
+  only_quit : (v : Option WindowMarks) → window_marks_of h ≡ v → OnlyThis nothing_held ks (gone_back v h.state.search ks) h (failed (Says Quitting) h)
+  only_quit None sel = only_state ks h (failed (Says Quitting) h).state
   only_quit (Some x) sel =
-      only_gone ks h x (origin_plan x.name (length (marked_at x.name ks).buffer.text) h.state.search) (failed Quitting h).state sel (marks_held ks h x sound sel).point
+      only_gone ks h x (origin_plan x.name (length (marked_at x.name ks).buffer.text) h.state.search) (failed (Says Quitting) h).state sel (marks_held ks h x sound sel).point
 
-  pub quit_only : OnlyThis nothing_held ks (gone_back (window_marks_of h) h.state.search ks) h (failed Quitting h)
+  pub quit_only : OnlyThis nothing_held ks (gone_back (window_marks_of h) h.state.search ks) h (failed (Says Quitting) h)
   quit_only = only_quit (window_marks_of h) refl

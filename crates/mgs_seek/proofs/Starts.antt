@@ -12,7 +12,8 @@ use Rattle.mgs_model.specs.Acts.{fails, outcome, search_finished, search_finishe
 use Rattle.mgs_model.specs.Apply.{session_arranged, is_search_mode}
 use Rattle.mgs_model.specs.Events.{state_set}
 use Rattle.mgs_model.specs.declared.echo_text.Message.{Message}
-use Rattle.mgs_model.specs.declared.echo_text.Message.TheVariants.{Silent}
+use Rattle.mgs_model.specs.declared.echo_text.Message.TheVariants.{Says}
+use Rattle.mgs_model.specs.declared.echo_text.Notice.TheVariants.{Silent}
 use Rattle.mgs_model.specs.declared.search.Direction.{Direction}
 use Rattle.mgs_model.specs.declared.session.Command.TheVariants.{Seek}
 use Rattle.mgs_model.specs.declared.session.Kind.TheVariants.{Other}
@@ -103,7 +104,7 @@ begin_does directory ks h d sound fresh x target small n =
     let state = searching_state d (state_of h.state) in
     let origin : min p (size_named x.name (buffers_of ks)) ≡ p = ap (min p) (size_kept x.name ks (mark_is_kept x.name x.point ks target.marks.point)) ∙ min-eq_left small in
     let left : state_of begun.state ≡ search_finished_state begins state =
-    at_rest (λ (o : State). record o { echo = Silent; argument = None; keys = []; mode = Searching d false; input = []; old = []; count = 0; kind = Other })
+    at_rest (λ (o : State). record o { echo = Says Silent; argument = None; keys = []; mode = Searching d false; input = []; old = []; count = 0; kind = Other })
     (λ (o : State). search_finished_state begins (searching_state d o)) (λ o. refl) (state_of h.state) fresh in
     start_does directory ks h (searching_state d) (StartSearch d) n [] fresh x target (Ok begins) refl ks begun refl
     (gone_does ks h x Keep_position begun.state sound target.sel state None state begins (λ search w. refl) left (λ i. Some (record { name = x.name; origin = origin i; anchor = origin i })))

@@ -8,7 +8,8 @@ use Rattle.mgs_model.specs.SearchCommands.{AroundSearch, SearchFinish, replace, 
 use Rattle.mgs_model.specs.View.{search_seen}
 use Rattle.mgs_model.specs.World.{State}
 use Rattle.mgs_model.specs.declared.echo_text.Message.{Message}
-use Rattle.mgs_model.specs.declared.echo_text.Message.TheVariants.{NoBuffer}
+use Rattle.mgs_model.specs.declared.echo_text.Message.TheVariants.{Says}
+use Rattle.mgs_model.specs.declared.echo_text.Notice.TheVariants.{NoBuffer}
 use Rattle.mgs_model.specs.declared.session.Seeking.{Seeking}
 use Rattle.mgs_buffers.specs.MarkedBuffer.{HasBuffer, MarkedBuffer}
 use Rattle.mgs_windows.specs.declared.WindowMarks.{WindowMarks}
@@ -24,7 +25,7 @@ use Rattle.mgs_seek.specs.Acting.{Fails, IsTarget, SearchFails, text_mask}
 use Rattle.mgs_seek.specs.Replacing.{replacement}
 use Rattle.mgs_seek.proofs.Comes.{come_denied, come_elsewhere, come_off, comes_of}
 
-pub off_fails : (d : Directory) (ks : List MarkedBuffer) (h : Session) (writes : Bool) → window_marks_of h ≡ None → Fails d ks h writes NoBuffer
+pub off_fails : (d : Directory) (ks : List MarkedBuffer) (h : Session) (writes : Bool) → window_marks_of h ≡ None → Fails d ks h writes (Says NoBuffer)
 off_fails d ks h writes none = λ c k xs next state search n typed. come_off d ks xs next h state n typed writes c k search none
 
 pub denied_fails : (d : Directory) (ks : List MarkedBuffer) (h : Session) (writes : Bool) (x : WindowMarks) (message : Message) → window_marks_of h ≡ Some x → HasBuffer x.name ks → ((state : State) (o : Outcome) → permitted state (rights_decision d ks h.user x.name (text_mask writes)) o ≡ fails state message) → Fails d ks h writes message
@@ -34,12 +35,12 @@ pub each_fails : (d : Directory) (ks : List MarkedBuffer) (h : Session) (writes 
 each_fails d ks h writes message all = λ c last xs next typed none. all c (replacement last) xs next (state_of h.state) (session_of ks h).search None typed
 
 -- nothing is replaced where the search is elsewhere
-none_replaced : (last : Bool) (text : List ℕ) (a : AroundSearch) → replace (replacement last) text (record a { sought_here = false }) ≡ Err NoBuffer
+none_replaced : (last : Bool) (text : List ℕ) (a : AroundSearch) → replace (replacement last) text (record a { sought_here = false }) ≡ Err (Says NoBuffer)
 none_replaced true text a = refl
 none_replaced false text a = refl
 
-none_found : (writes : Bool) (c : Seeking) (last : Bool) (state : State) (name : List ℕ) (size serial : ℕ) → ((text : List ℕ) (a : AroundSearch) → Path (Result SearchFinish Message) (seek c text (record a { sought_here = false })) (Err NoBuffer))
-    → (text : List ℕ) (a : AroundSearch) → comes_of writes c (replacement last) state name size serial text (record a { sought_here = false }) ≡ fails state NoBuffer
+none_found : (writes : Bool) (c : Seeking) (last : Bool) (state : State) (name : List ℕ) (size serial : ℕ) → ((text : List ℕ) (a : AroundSearch) → Path (Result SearchFinish Message) (seek c text (record a { sought_here = false })) (Err (Says NoBuffer)))
+    → (text : List ℕ) (a : AroundSearch) → comes_of writes c (replacement last) state name size serial text (record a { sought_here = false }) ≡ fails state (Says NoBuffer)
 none_found false c last state name size serial none text a = ap (sought_by state) (none text a)
 none_found true c last state name size serial none text a = ap (replaced_outcome state name size serial) (none_replaced last text a)
 
@@ -48,7 +49,7 @@ seen_there : (ks : List MarkedBuffer) (can : List ℕ → Bool) (name : List ℕ
 seen_there ks can name None = refl
 seen_there ks can name (Some s) = refl
 
-pub away_fails : (d : Directory) (ks : List MarkedBuffer) (h : Session) (writes : Bool) (x : WindowMarks) → IsTarget d ks h writes x → is_search_in x.name h.state.search ≡ false → SearchFails d ks h writes NoBuffer
+pub away_fails : (d : Directory) (ks : List MarkedBuffer) (h : Session) (writes : Bool) (x : WindowMarks) → IsTarget d ks h writes x → is_search_in x.name h.state.search ≡ false → SearchFails d ks h writes (Says NoBuffer)
 away_fails d ks h writes x t away = λ c last xs next typed none.
     come_elsewhere d ks xs next h (state_of h.state) None typed writes c (replacement last) x t.sel (mark_is_kept x.name x.point ks t.marks.point) t.granted (session_of ks h).search
     (seen_there ks _ x.name h.state.search ∙ away) (none_found writes c last (state_of h.state) x.name _ _ none)

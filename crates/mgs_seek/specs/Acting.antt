@@ -10,7 +10,8 @@ use Rattle.mgs_model.specs.View.{view}
 use Rattle.mgs_model.specs.World.{State}
 use Rattle.mgs_model.specs.World as model
 use Rattle.mgs_model.specs.declared.echo_text.Message.{Message}
-use Rattle.mgs_model.specs.declared.echo_text.Message.TheVariants.{NoBuffer}
+use Rattle.mgs_model.specs.declared.echo_text.Message.TheVariants.{Says}
+use Rattle.mgs_model.specs.declared.echo_text.Notice.TheVariants.{NoBuffer}
 use Rattle.mgs_model.specs.declared.session.Command.{Command}
 use Rattle.mgs_model.specs.declared.session.Command.TheVariants.{Replace, Seek}
 use Rattle.mgs_model.specs.declared.session.Replacement.{Replacement}
@@ -67,5 +68,5 @@ Fails d ks h writes message = (c : Seeking) (k : Replacement) (xs : List Session
 -- every act by which its search goes on, or replaces
 abbrev pub SearchFails : Directory → List MarkedBuffer → Session → Bool → Message → Type 0
 SearchFails d ks h writes message = (c : Seeking) (last : Bool) (xs : List Session) (next : Option ℕ) (typed : List ℕ)
-    → ((text : List ℕ) (a : AroundSearch) → Path (Result SearchFinish Message) (seek c text (record a { sought_here = false })) (Err NoBuffer))
+    → ((text : List ℕ) (a : AroundSearch) → Path (Result SearchFinish Message) (seek c text (record a { sought_here = false })) (Err (Says NoBuffer)))
     → outcome (view (world_of d ks xs next) (session_of ks h)) (Run (command_of writes c (replacement last)) None typed) true ≡ fails (state_of h.state) message

@@ -13,7 +13,8 @@ use Rattle.mgs_model.specs.Plans.{stays}
 use Rattle.mgs_model.specs.SearchCommands.{met}
 use Rattle.mgs_model.specs.View.{view}
 use Rattle.mgs_model.specs.declared.echo_text.Message.{Message}
-use Rattle.mgs_model.specs.declared.echo_text.Message.TheVariants.{BufferFull}
+use Rattle.mgs_model.specs.declared.echo_text.Message.TheVariants.{Says}
+use Rattle.mgs_model.specs.declared.echo_text.Notice.TheVariants.{BufferFull}
 use Rattle.mgs_model.specs.declared.session.Command.TheVariants as commands
 use Rattle.mgs_model.specs.declared.session.Seeking.TheVariants.{SkipMatch, StartReplace}
 use Rattle.mgs_model.specs.declared.touched.Touched.{Touched}
@@ -98,7 +99,7 @@ pub record PlannedAt (ks : List MarkedBuffer) (x : WindowMarks) (anchor : ℕ) (
 
 -- the buffer is full
 pub record FullAt (ks : List MarkedBuffer) (x : WindowMarks) (anchor : ℕ) (r : Replacing) (last : Bool) (message : Message) : Type 0 where
-  pub told : message ≡ BufferFull
+  pub told : message ≡ (Says BufferFull)
   pub done : MatchPlan
   pub plan : IsPlan (marked_at x.name ks).buffer.text (anchor_at x ks anchor) r last done
   pub full : (let a = anchor_at x ks anchor in is_full_in ks x.name a (to_by done.replaces a r.pattern) (put_by done.replaces r.put) ≡ true)

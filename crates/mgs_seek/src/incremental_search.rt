@@ -20,7 +20,7 @@ ghost use Rattle.mgs_world.specs.Worlds.{idle, state_at, state_of};
 use crate::target::{go_on, sought, target};
 use mgs_buffers::Buffers;
 use mgs_marks::Marked;
-use mgs_model::{Direction, Message, Name, SearchPlaces, SearchStep};
+use mgs_model::{Direction, Message, Name, Notice, SearchPlaces, SearchStep};
 use mgs_policy::Directory;
 use mgs_search::IncrementalSearch;
 use mgs_session::{Aim, Search, Session, fail, selected_window_marks, take_search};
@@ -176,7 +176,7 @@ fn step_on<T: Marked + Drop>(
         Err(message) => fail(session, message),
         Ok(window_marks) => match take_seeker(session) {
             Some(search) => seek(buffers, session, &window_marks, search, step),
-            None => fail(session, Message::NoBuffer),
+            None => fail(session, Message::Says(Notice::NoBuffer)),
         },
     }
 }
@@ -249,7 +249,7 @@ fn quit_in<T: Marked + Drop>(buffers: &mut Buffers<T>, session: &mut Session)
     ensures does { (directory : Directory) → Does directory buffers.old buffers.new session.old session.new as_is (Run LeaveSearch None []) }
 {
     go_back(buffers, session);
-    fail(session, Message::Quitting);
+    fail(session, Message::Says(Notice::Quitting));
 }
 
 /// The search of the session at `at` is quit: the point of the selected window goes back to its origin, where the window shows its buffer.

@@ -21,7 +21,7 @@ ghost use Rattle.mgs_world.specs.Worlds.{aim_count, aim_input, aim_old, idle, st
 use crate::target::{go_on, mask, sought, target};
 use mgs_buffers::{Buffers, Writer};
 use mgs_marks::Marked;
-use mgs_model::{Kind, Message, Name, Short, TEXT_LIMIT, Touched};
+use mgs_model::{Kind, Message, Name, Notice, Short, TEXT_LIMIT, Touched};
 use mgs_plan::{follow, if_edit};
 use mgs_policy::Directory;
 use mgs_search::{MatchPlan, begin_replacing, replace_last, replace_match, skip_match};
@@ -235,7 +235,7 @@ fn plan_at<T: Marked + Drop>(
     let plan = plan(buffers.text_at(name, place), anchor, replacing, last);
     let edit = edit_planned(size, anchor, replacing, plan.replaces);
     if is_full(buffers, name, place, &edit) {
-        return Err(Message::BufferFull);
+        return Err(Message::Says(Notice::BufferFull));
     }
     Ok(Planned {
         window_marks: *window_marks,
@@ -259,9 +259,9 @@ fn plan_in<T: Marked + Drop>(
     match sought(buffers, directory, session, true) {
         Err(message) => Err(message),
         Ok(window_marks) => match &session.state.search {
-            None => Err(Message::NoBuffer),
+            None => Err(Message::Says(Notice::NoBuffer)),
             Some(search) => match &search.aim {
-                Aim::Find(_) => Err(Message::NoBuffer),
+                Aim::Find(_) => Err(Message::Says(Notice::NoBuffer)),
                 Aim::Replace(replacing) => {
                     plan_at(buffers, &window_marks, search.anchor, replacing, last)
                 }
@@ -454,7 +454,7 @@ fn skip_in<T: Marked + Drop>(buffers: &mut Buffers<T>, directory: &Directory, se
                 let to = Destination { next, left: None };
                 meet(buffers, session, &window_marks, at, search, to);
             }
-            None => fail(session, Message::NoBuffer),
+            None => fail(session, Message::Says(Notice::NoBuffer)),
         },
     }
 }

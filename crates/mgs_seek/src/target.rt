@@ -8,7 +8,7 @@ ghost use Rattle.mgs_world.specs.Sound.{IsSessionSound};
 
 use mgs_buffers::Buffers;
 use mgs_marks::Marked;
-use mgs_model::{Kind, Mask, Message, Name, Right};
+use mgs_model::{Kind, Mask, Message, Name, Notice, Right};
 use mgs_plan::denial;
 use mgs_policy::Directory;
 use mgs_session::{Search, Session, hold_search, rest, selected_window_marks, set_kind};
@@ -37,7 +37,7 @@ pub(crate) fn target<T: Marked + Drop>(
     ensures err { IfErr result (Fails directory.now buffers.now session.now writes) }
 {
     let Some(window_marks) = selected_window_marks(session) else {
-        return Err(Message::NoBuffer);
+        return Err(Message::Says(Notice::NoBuffer));
     };
     let name = &window_marks.name;
     match denial(buffers.decide_all(directory, name, &session.user, mask(writes))) {
@@ -73,7 +73,7 @@ pub(crate) fn sought<T: Marked + Drop>(
             if is_sought(session, &window_marks.name) {
                 Ok(window_marks)
             } else {
-                Err(Message::NoBuffer)
+                Err(Message::Says(Notice::NoBuffer))
             }
         }
     }

@@ -3,7 +3,8 @@ use Rattle.std.specs.Prelude.{ℕ, ◌==◌, Bool, false, min, List, [], Option,
 use Rattle.std.specs.Option.{option_map}
 use Rattle.mgs_model.specs.Names.{same_name}
 use Rattle.mgs_model.specs.Text.{shift}
-use Rattle.mgs_model.specs.declared.echo_text.Message.TheVariants.{Silent}
+use Rattle.mgs_model.specs.declared.echo_text.Message.TheVariants.{Says}
+use Rattle.mgs_model.specs.declared.echo_text.Notice.TheVariants.{Silent}
 use Rattle.mgs_model.specs.declared.search.Direction.{Direction}
 use Rattle.mgs_session.specs.declared.State.{State}
 use Rattle.mgs_session.specs.declared.Session.{Session}
@@ -41,7 +42,7 @@ unsearched x = record x { state = record x.state { search = None } }
 -- one that looked for this is over: it is the search string then, unless it is nothing. No prompt is behind it
 abbrev pub search_left : List ℕ → Session → Session
 search_left sought x =
-    record x { state = record x.state { echo = Silent; pattern = cond (length sought == 0) x.state.pattern sought; prompt = None; search = None } }
+    record x { state = record x.state { echo = Says Silent; pattern = cond (length sought == 0) x.state.pattern sought; prompt = None; search = None } }
 
 -- one that goes on is in the buffer of this name
 abbrev pub is_search_in : List ℕ → Option Search → Bool

@@ -2,7 +2,8 @@
 use Rattle.std.specs.Prelude.{ℕ, ◌-◌, List, [], ◌∷◌, Option, None, Some, slice_get, cond}
 use Rattle.std.specs.Option.{option_and_then}
 use Rattle.mgs_model.specs.declared.echo_text.Message.{Message}
-use Rattle.mgs_model.specs.declared.echo_text.Message.TheVariants.{Silent, KeyNotBound, MacroTooLong}
+use Rattle.mgs_model.specs.declared.echo_text.Message.TheVariants.{Says}
+use Rattle.mgs_model.specs.declared.echo_text.Notice.TheVariants.{Silent, KeyNotBound, MacroTooLong}
 use Rattle.mgs_model.specs.Plans.{kind_failed}
 use Rattle.mgs_model.specs.World.{first_state}
 use Rattle.mgs_model.specs.declared.session.Kind.{Kind}
@@ -26,7 +27,7 @@ session_opened id user rows cols shows capacity = record {
   cols = cols;
   windows = record { rows = rows; windows = record { height = rows - 2; shows = shows; rows = NoRows } ∷ []; selected = 0; places = []; capacity = capacity };
   kill = [];
-  state = record { echo = Silent; keyboard = nothing_held; kind = Other; fill = first_state.fill; prompt = None; pattern = []; recorder = nothing_recorded; player = nothing_played; search = None };
+  state = record { echo = Says Silent; keyboard = nothing_held; kind = Other; fill = first_state.fill; prompt = None; pattern = []; recorder = nothing_recorded; player = nothing_played; search = None };
 }
 
 abbrev pub told : Message → Session → Session
@@ -42,7 +43,7 @@ filling column x = record x { state = record x.state { fill = column } }
 
 -- it holds what was read, and no prompt and no search, and its echo line is empty; what it keeps from command to command is the same
 abbrev pub holding : Held → Session → Session
-holding k x = record x { state = record x.state { echo = Silent; keyboard = k; prompt = None; search = None } }
+holding k x = record x { state = record x.state { echo = Says Silent; keyboard = k; prompt = None; search = None } }
 
 -- nothing is half read, and nothing is told
 abbrev pub resting : Session → Session
@@ -58,7 +59,7 @@ broken_off message x = playing_as (stopped x.state.player) (told message x)
 
 -- typed bytes are no character and no key: this is told, and breaks a run of commands. A prompt and a search go on
 abbrev pub unbound : Session → Session
-unbound x = broken_off KeyNotBound (acted Other x)
+unbound x = broken_off (Says KeyNotBound) (acted Other x)
 
 -- what is half read changes alone
 abbrev pub reading : Held → Session → Session
@@ -76,7 +77,7 @@ recording_as r x = record x { state = record x.state { recorder = r } }
 -- a byte comes: it is kept and is to be handled, or it is one too many for the macro, which is told and breaks a run of commands
 abbrev pub begun : ℕ → Session → Session
 begun byte x =
-    cond (is_full x.state.recorder) (playing_as (stopped x.state.player) (told MacroTooLong (acted Other (recording_as nothing_recorded x))))
+    cond (is_full x.state.recorder) (playing_as (stopped x.state.player) (told (Says MacroTooLong) (acted Other (recording_as nothing_recorded x))))
     (playing_as (byte_typed byte x.state.player) (recording_as (appended byte x.state.recorder) x))
 
 abbrev pub macro_started : Session → Session
@@ -107,7 +108,7 @@ unprompted x = record x { state = record x.state { prompt = None } }
 
 -- it is at a prompt, and its echo line is empty
 abbrev pub prompting : PromptInput → Session → Session
-prompting p x = told Silent (record x { state = record x.state { prompt = Some p } })
+prompting p x = told (Says Silent) (record x { state = record x.state { prompt = Some p } })
 
 -- the buffer of the selected window
 abbrev pub window_marks_of : Session → Option WindowMarks

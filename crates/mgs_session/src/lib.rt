@@ -16,7 +16,7 @@ pub use kill_buffer::KillBuffer;
 use mgs_maps::Keyboard;
 use mgs_mini::Prompt;
 pub use mgs_mini::Recorder;
-use mgs_model::{Kind, Message, Name, Question, SessionId};
+use mgs_model::{Kind, Message, Name, Notice, Question, SessionId};
 use mgs_search::IncrementalSearch;
 use mgs_windows::{RowPane, Window, WindowMarks, Windows};
 pub use player::{Pending, Player};
@@ -91,7 +91,7 @@ pub fn opened(
         windows: Windows::one(rows, shows, places),
         kill: KillBuffer::new(alloc),
         state: State {
-            echo: Message::Silent,
+            echo: Message::Says(Notice::Silent),
             keyboard: Keyboard::new(),
             kind: Kind::Other,
             fill: FILL_COLUMN,
@@ -117,7 +117,7 @@ fn kind_failed(message: &Message, kind: Kind) -> Kind
     ensures { result ≡ kind_failed message.now kind }
 {
     match message {
-        Message::NoFurtherUndo => match kind {
+        Message::Says(Notice::NoFurtherUndo) => match kind {
             Kind::Undo { .. } => kind,
             Kind::Other | Kind::Kill | Kind::Line { .. } => Kind::Other,
         },
@@ -149,7 +149,7 @@ pub fn tell_unbound(session: &mut Session)
     ensures { session.new ≡ unbound session.old }
 {
     set_kind(session, Kind::Other);
-    break_off(session, Message::KeyNotBound);
+    break_off(session, Message::Says(Notice::KeyNotBound));
 }
 
 /// A command of this kind was done.
@@ -184,7 +184,7 @@ pub fn begin(session: &mut Session, byte: u8)
         return;
     }
     set_kind(session, Kind::Other);
-    break_off(session, Message::MacroTooLong);
+    break_off(session, Message::Says(Notice::MacroTooLong));
 }
 
 /// Takes what is to be done next, which is handled now.
@@ -257,7 +257,7 @@ fn drop_search(session: &mut Session)
 pub fn hold(session: &mut Session, keyboard: Keyboard)
     ensures { session.new ≡ holding keyboard session.old }
 {
-    session.state.echo = Message::Silent;
+    session.state.echo = Message::Says(Notice::Silent);
     session.state.keyboard = keyboard;
     drop_prompt(session);
     drop_search(session);
@@ -299,7 +299,7 @@ pub fn hold_prompt(session: &mut Session, prompt: Prompt)
     ensures { session.new ≡ prompting prompt session.old }
 {
     session.state.prompt = Some(prompt);
-    set_echo(session, Message::Silent);
+    set_echo(session, Message::Says(Notice::Silent));
 }
 
 /// The search that goes on, which is taken out. All else stays, and `hold_search` puts it back.
@@ -328,7 +328,7 @@ pub fn leave_search(session: &mut Session, sought: &IncrementalSearch)
     }
     session.state.prompt = None;
     session.state.search = None;
-    set_echo(session, Message::Silent);
+    set_echo(session, Message::Says(Notice::Silent));
 }
 
 /// The positions of a search that goes on go by an edit of the buffer of this name.

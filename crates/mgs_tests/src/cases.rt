@@ -1,7 +1,7 @@
 // Commands on the case of letters, as plans over small texts and as what they put in.
 use crate::plans::{altered, at};
 use mgs_edit::{Around, Case, Goes, Put, alteration, put_chars};
-use mgs_model::{Alteration, Message, Short};
+use mgs_model::{Alteration, Message, Notice, Short};
 use mgs_text::{PlainText, Text};
 use std::alloc::Global;
 use std::process::Abort;
@@ -41,7 +41,8 @@ fn goes_over_words(rt: HostRuntime) -> Result<(), Fail> {
         cased(&rt, &text, 3, Some(9999), Alteration::DowncaseWord) == Ok((words, Goes::Behind))
     );
     assert!(rt;
-        cased(&rt, &text, 7, None, Alteration::CapitalizeWord) == Err(Message::EndOfBuffer)
+        cased(&rt, &text, 7, None, Alteration::CapitalizeWord)
+            == Err(Message::Says(Notice::EndOfBuffer))
     );
     let none = Put::Cased {
         from: 7,
@@ -77,7 +78,9 @@ fn goes_over_a_region(rt: HostRuntime) -> Result<(), Fail> {
         case: Case::Upper,
     };
     assert!(rt; region_cased(&rt, &text) == Some((region, Goes::To(2))));
-    assert!(rt; cased(&rt, &text, 2, None, Alteration::DowncaseRegion) == Err(Message::NoMark));
+    assert!(rt;
+        cased(&rt, &text, 2, None, Alteration::DowncaseRegion) == Err(Message::Says(Notice::NoMark))
+    );
     Ok(())
 }
 

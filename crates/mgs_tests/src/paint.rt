@@ -2,7 +2,7 @@
 ghost use Rattle.std.specs.Prelude.{◌≡◌, ◌<◌, ◌^◌, length, IfOk};
 
 use mgs_grid::{Grid, ShiftedRow};
-use mgs_model::{Message, Name};
+use mgs_model::{Message, Name, Notice};
 use mgs_paint::{bound, first, paint};
 use mgs_term::{Cell, Term};
 use mgs_text::{PlainText, Text};
@@ -120,7 +120,7 @@ fn changes_of_a_line_are_painted(rt: HostRuntime) -> Result<(), Fail> {
 fn the_echo_row_and_the_cursor_are_painted(rt: HostRuntime) -> Result<(), Fail> {
     let plain = screen_of(rt.alloc(), &['h', 'i'], 2)?;
     let mut told = screen_of(rt.alloc(), &['h', 'i'], 2)?;
-    told.draw_echo(5, &Message::KeyNotBound);
+    told.draw_echo(5, &Message::Says(Notice::KeyNotBound));
     paints(&rt, rt.alloc(), &told, &plain, b"\x1b[6;1H\x1b[K\x1b[1;3H")?;
     let mut moved = screen_of(rt.alloc(), &['h', 'i'], 2)?;
     moved.set_cursor(5, 19);

@@ -6,8 +6,8 @@ use mgs_edit::{
     scrolled_row,
 };
 use mgs_model::{
-    Alteration, CursorPosition, Insertion, Kind, Message, Motion, ReadingInsertion, Scrolling,
-    Short,
+    Alteration, CursorPosition, Insertion, Kind, Message, Motion, Notice, ReadingInsertion,
+    Scrolling, Short,
 };
 use mgs_text::{PlainText, Text};
 use std::alloc::Global;
@@ -59,7 +59,7 @@ const KILLS: [(usize, Option<usize>, Result<(usize, usize), Message>); 6] = [
     (0, Some(1), Ok((0, 3))),
     (0, Some(9999), Ok((0, 5))),
     (5, Some(0), Ok((3, 5))),
-    (5, None, Err(Message::EndOfBuffer)),
+    (5, None, Err(Message::Says(Notice::EndOfBuffer))),
 ];
 
 // What a line's kill takes out, or what is told.
@@ -126,7 +126,12 @@ const DOWN: [(Kind, usize, Option<usize>, Result<Goes, Message>); 5] = [
     (Kind::Other, 3, None, Ok(Goes::To(4))),
     (GOAL_3, 4, None, Ok(Goes::To(8))),
     (Kind::Other, 4, None, Ok(Goes::To(5))),
-    (Kind::Other, 9, None, Err(Message::EndOfBuffer)),
+    (
+        Kind::Other,
+        9,
+        None,
+        Err(Message::Says(Notice::EndOfBuffer)),
+    ),
     (Kind::Other, 9, Some(0), Ok(Goes::To(9))),
 ];
 
@@ -194,7 +199,12 @@ fn scrolled(
 const SCROLLED: [(usize, Option<usize>, Scrolling, Result<Goes, Message>); 3] = [
     (0, None, Scrolling::ScrollUp, Ok(Goes::To(2))),
     (4, Some(1), Scrolling::ScrollDown, Ok(Goes::To(3))),
-    (4, None, Scrolling::ScrollUp, Err(Message::EndOfBuffer)),
+    (
+        4,
+        None,
+        Scrolling::ScrollUp,
+        Err(Message::Says(Notice::EndOfBuffer)),
+    ),
 ];
 
 #[test]
@@ -229,7 +239,7 @@ fn indented(rt: &impl Abort, alloc: Global) -> Result<Put, Short> {
 
 #[test]
 fn insertions_and_exchanges_are_planned(rt: HostRuntime) -> Result<(), Short> {
-    assert!(rt; inserted(Insertion::Yank) == Err(Message::NothingToYank));
+    assert!(rt; inserted(Insertion::Yank) == Err(Message::Says(Notice::NothingToYank)));
     assert!(rt; inserted(Insertion::OpenLine) == Ok(Goes::To(1)));
     let put = Put::Indented {
         feeds: 1,
@@ -241,7 +251,7 @@ fn insertions_and_exchanges_are_planned(rt: HostRuntime) -> Result<(), Short> {
     assert!(rt; text.len() == 4);
     let exchanged = Ok((1, 3, Put::Exchanged { at: 2 }, Goes::To(3)));
     assert!(rt; altered(&rt, &text, 3, None, Alteration::TransposeChars) == exchanged);
-    let refused = Err(Message::BeginningOfBuffer);
+    let refused = Err(Message::Says(Notice::BeginningOfBuffer));
     assert!(rt; altered(&rt, &text, 0, None, Alteration::TransposeChars) == refused);
     Ok(())
 }

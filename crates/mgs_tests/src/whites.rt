@@ -1,7 +1,7 @@
 // Commands on white space and blank lines, as plans over small texts.
 use crate::plans::altered;
 use mgs_edit::{Goes, Put};
-use mgs_model::{Alteration, Message};
+use mgs_model::{Alteration, Message, Notice};
 use mgs_text::{PlainText, Text};
 use std::process::Abort;
 use std::test::Fail;
@@ -53,7 +53,8 @@ fn joins_lines(rt: HostRuntime) -> Result<(), Fail> {
         altered(&rt, &text, 6, None, Alteration::JoinLine) == Ok((1, 5, SPACE, Goes::To(1)))
     );
     assert!(rt;
-        altered(&rt, &text, 2, None, Alteration::JoinLine) == Err(Message::BeginningOfBuffer)
+        altered(&rt, &text, 2, None, Alteration::JoinLine)
+            == Err(Message::Says(Notice::BeginningOfBuffer))
     );
     Ok(())
 }

@@ -2,7 +2,7 @@
 ghost use Rattle.std.specs.Prelude.{◌≤◌, length};
 
 use mgs_gap::GapText;
-use mgs_model::{Direction, Message, SearchPlaces, SearchStep, Short};
+use mgs_model::{Direction, Message, Notice, SearchPlaces, SearchStep, Short};
 use mgs_search::{
     IncrementalSearch, MatchPlan, begin_replacing, find_backward, find_forward, find_past,
     matches_at, replace_last, replace_match, search_for, skip_match,
@@ -217,8 +217,8 @@ fn finds_past(
 // Whether a search finds nothing at the end, and one for nothing is refused.
 fn is_refused(text: &impl Text) -> bool {
     text.len() == 8
-        && search_for(text, 8, F, &['a', 'b']) == Err(Message::NotFound)
-        && search_for(text, 0, B, &[]) == Err(Message::NoPattern)
+        && search_for(text, 8, F, &['a', 'b']) == Err(Message::Says(Notice::NotFound))
+        && search_for(text, 0, B, &[]) == Err(Message::Says(Notice::NoPattern))
 }
 
 #[test]
@@ -238,7 +238,7 @@ fn begins(text: &impl Text) -> bool {
     text.len() == 8
         && begin_replacing(text, 1, &ab) == Ok(Some(3))
         && begin_replacing(text, 7, &ab) == Ok(None)
-        && begin_replacing(text, 1, &[]) == Err(Message::NoPattern)
+        && begin_replacing(text, 1, &[]) == Err(Message::Says(Notice::NoPattern))
 }
 
 // Whether a match at an anchor is replaced or not, and passed over.

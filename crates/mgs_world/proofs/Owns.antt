@@ -5,7 +5,8 @@ use Rattle.mgs_model.specs.Apply.{is_search_mode}
 use Rattle.mgs_model.specs.View.{View}
 use Rattle.mgs_model.specs.Acts.{asks}
 use Rattle.mgs_model.specs.Turns.{prompt_turn}
-use Rattle.mgs_model.specs.declared.echo_text.Message.TheVariants.{Silent}
+use Rattle.mgs_model.specs.declared.echo_text.Message.TheVariants.{Says}
+use Rattle.mgs_model.specs.declared.echo_text.Notice.TheVariants.{Silent}
 use Rattle.mgs_model.specs.declared.session.Mode.TheVariants.{Plain, Prompt}
 use Rattle.mgs_model.specs.declared.session.Question.{Question}
 use Rattle.mgs_mini.specs.Typing.{PromptInput, stepped, typed_state}
@@ -64,12 +65,12 @@ state_asking c n x none fresh =
 -- what comes next, as the model says it of the session's own record: each byte empties the echo line first
 pub prompt_fed : (v : View) (x : Session) (p q : PromptInput) (step : Step) (byte : ℕ) → x.state.search ≡ None → x.state.prompt ≡ Some p → q.question ≡ p.question → q.first ≡ p.first
     → ((v : View) (state : State) → prompt_turn v p.question (typed_state state p.input p.waiting) byte ≡ stepped v p.question (typed_state state q.input q.waiting) step)
-    → prompt_turn v p.question (record (state_of x.state) { echo = Silent }) byte ≡ stepped v p.question (state_of (prompting q x).state) step
+    → prompt_turn v p.question (record (state_of x.state) { echo = Says Silent }) byte ≡ stepped v p.question (state_of (prompting q x).state) step
 prompt_fed v x p q step byte none is question first turn =
     let y : Session = with_search x None in
     let state : State = state_of (prompting p y).state in
-    ap (λ (s : Option held_search.Search). prompt_turn v p.question (record (state_of (with_search x s).state) { echo = Silent }) byte) none
-    ∙ ap (λ r. prompt_turn v p.question (state_of (record y.state { echo = Silent; prompt = r })) byte) is
+    ap (λ (s : Option held_search.Search). prompt_turn v p.question (record (state_of (with_search x s).state) { echo = Says Silent }) byte) none
+    ∙ ap (λ r. prompt_turn v p.question (state_of (record y.state { echo = Says Silent; prompt = r })) byte) is
     ∙ turn v state
     ∙ sym (ap (λ c. stepped v p.question (record (typed_state state q.input q.waiting) { mode = Prompt c }) step) question)
     ∙ sym (ap (λ (old : List ℕ). stepped v p.question (record (typed_state state q.input q.waiting) { mode = Prompt q.question; old = old }) step) first)

@@ -4,7 +4,8 @@ use Rattle.std.specs.Option.{option_map}
 use Rattle.mgs_model.specs.Access.{Directory}
 use Rattle.mgs_model.specs.World.{World, Buffer, Shows, find_buffer, first_state, Nothing, Buffer_of, Listing, List_of}
 use Rattle.mgs_model.specs.World as model
-use Rattle.mgs_model.specs.declared.echo_text.Message.TheVariants.{Silent}
+use Rattle.mgs_model.specs.declared.echo_text.Message.TheVariants.{Says}
+use Rattle.mgs_model.specs.declared.echo_text.Notice.TheVariants.{Silent}
 use Rattle.mgs_model.specs.declared.session.Mode.{Mode}
 use Rattle.mgs_model.specs.declared.session.Mode.TheVariants.{Plain, Prompt, Searching, Replacing}
 use Rattle.mgs_mini.specs.Typing.{PromptInput, keys_of}
@@ -133,7 +134,7 @@ state_of x =
 
 -- nothing is half read, and nothing is told
 abbrev pub idle : model.State → model.State
-idle state = record state { echo = Silent; argument = None; keys = []; mode = Plain; input = []; old = []; count = 0 }
+idle state = record state { echo = Says Silent; argument = None; keys = []; mode = Plain; input = []; old = []; count = 0 }
 
 -- what the session at an index holds
 abbrev pub state_or_first : Option Session → model.State

@@ -1,7 +1,8 @@
 use Rattle.std.proofs.Common.{get_or, refl, ap, true, false, ◌∙◌}
 use Rattle.std.specs.Prelude.{Err}
 use Rattle.mgs_model.specs.declared.session.Kind.TheVariants.{Other}
-use Rattle.mgs_model.specs.declared.echo_text.Message.TheVariants.{SaveFailed, Wrote}
+use Rattle.mgs_model.specs.declared.echo_text.Message.TheVariants.{Says, Wrote}
+use Rattle.mgs_model.specs.declared.echo_text.Notice.TheVariants.{SaveFailed}
 use Rattle.mgs_buffers.specs.MarkedBuffer.{marked_at}
 use Rattle.mgs_session.specs.Sessions.{acted, failed, told}
 use Rattle.mgs_world.proofs.Soundness.{sound_set}
@@ -55,9 +56,9 @@ returns-in-Store-clause-done g c =
       stored = false;
       fault = λ e. c.save_as.ensures.fault (c.in-Err.is ∙ ap Err c.in-Store.is);
       does = λ id next h place found.
-          let same = c.fail.ensures ∙ ap (failed SaveFailed) (here_is xs c.args.at c.index-sessions-at-in-Store.result h c.requires.within found) in
+          let same = c.fail.ensures ∙ ap (failed (Says SaveFailed)) (here_is xs c.args.at c.index-sessions-at-in-Store.result h c.requires.within found) in
           record {
-            world = rw (c.in-Err.ensures.err, same) (failed_so d ks xs next id c.args.at h SaveFailed place c.requires.within found (fresh_state xs c.args.at h found c.requires.fresh));
+            world = rw (c.in-Err.ensures.err, same) (failed_so d ks xs next id c.args.at h (Says SaveFailed) place c.requires.within found (fresh_state xs c.args.at h found c.requires.fresh));
             touches = refl;
             saves = stored_as _ _ name text _ _ c.save_as.ensures.saved c.in-Err.is;
           };

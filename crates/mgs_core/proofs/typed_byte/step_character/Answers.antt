@@ -1,5 +1,6 @@
 use Rattle.std.proofs.Common.{◌∙◌, ap, sym}
-use Rattle.mgs_model.specs.declared.echo_text.Message.TheVariants.{Silent}
+use Rattle.mgs_model.specs.declared.echo_text.Message.TheVariants.{Says}
+use Rattle.mgs_model.specs.declared.echo_text.Notice.TheVariants.{Silent}
 use Rattle.mgs_model.specs.declared.sequence.Sequence.TheVariants.{Whole, Begun, Broken}
 use Rattle.mgs_session.specs.declared.search.Aim.TheVariants.{Find}
 use Rattle.mgs_session.specs.Seeking.{searching}
@@ -16,7 +17,7 @@ returns-in-Begun c before directory ks =
     let f = c.args.sought in
     search_reads directory ks y c.hold_on.new.session c.args.place f f c.args.byte before c.requires.alone c.requires.past (sym c.feed_character-sequence.ensures.read ∙ c.in-Begun.is)
     (c.hold_on.ensures
-    ∙ ap (λ (z : Session). searching (search_for c.args.place (Find f)) (told Silent z))
+    ∙ ap (λ (z : Session). searching (search_for c.args.place (Find f)) (told (Says Silent) z))
     (character_held y c.hold_keyboard.new.session c.feed_character-sequence.new.self c.feed_character-sequence.result Begun c.args.byte c.hold_keyboard.ensures c.feed_character-sequence.ensures.held c.in-Begun.is))
 
 pub returns-in-Whole : goal.returns-in-Whole
@@ -26,7 +27,7 @@ returns-in-Whole c before directory ks =
     search_puts directory ks y c.hold_on-in-Whole.new.session c.args.place c.args.sought g c.args.byte before c.requires.alone c.in-Whole.c c.put-step.result c.requires.past
     (sym c.feed_character-sequence.ensures.read ∙ c.in-Whole.is) c.put-step.ensures.step c.put-step.ensures.sought
     (c.hold_on-in-Whole.ensures
-    ∙ ap (λ (z : Session). searching (search_for c.args.place (Find g)) (told Silent z))
+    ∙ ap (λ (z : Session). searching (search_for c.args.place (Find g)) (told (Says Silent) z))
     (character_held y c.hold_keyboard.new.session c.feed_character-sequence.new.self c.feed_character-sequence.result (Whole c.in-Whole.c) c.args.byte c.hold_keyboard.ensures c.feed_character-sequence.ensures.held c.in-Whole.is))
 
 pub returns-in-Broken : goal.returns-in-Broken

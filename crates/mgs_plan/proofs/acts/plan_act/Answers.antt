@@ -4,14 +4,15 @@ use Rattle.mgs_plan.specs.Actions.{act_of}
 use Rattle.mgs_plan.specs.Deciding.{IsPlanned}
 use Rattle.mgs_plan.specs.declared.outcome.Outcome.TheVariants.{Fails}
 use Rattle.mgs_model.specs.declared.session.Command.TheVariants.{Entries}
-use Rattle.mgs_model.specs.declared.echo_text.Message.TheVariants.{KeyNotBound}
+use Rattle.mgs_model.specs.declared.echo_text.Message.TheVariants.{Says}
+use Rattle.mgs_model.specs.declared.echo_text.Notice.TheVariants.{KeyNotBound}
 use Rattle.mgs_plan.proofs.Unbound.{unbound_planned}
 use Rattle.mgs_plan.proofs.acts.plan_act.Goals as goal
 
 pub returns-in_default-clause-value : goal.returns-in_default-clause-value
 returns-in_default-clause-value g c =
     let h = c.args.session.now in
-    subst (λ a. IsPlanned c.args.directory.now c.args.buffers.now h a (Fails KeyNotBound)) (sym (ap act_of c.in_default.is)) (λ xs next. unbound_planned c.args.directory.now c.args.buffers.now xs next h)
+    subst (λ a. IsPlanned c.args.directory.now c.args.buffers.now h a (Fails (Says KeyNotBound))) (sym (ap act_of c.in_default.is)) (λ xs next. unbound_planned c.args.directory.now c.args.buffers.now xs next h)
 
 pub returns-in-Entries-clause-value : goal.returns-in-Entries-clause-value
 returns-in-Entries-clause-value g c =

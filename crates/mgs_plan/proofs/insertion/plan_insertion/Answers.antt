@@ -1,6 +1,7 @@
 use Rattle.std.proofs.Common.{◌≡◌, ℕ, List, ap, subst, sym, ◌∙◌}
 use Rattle.std.specs.Prelude.{IfSome}
-use Rattle.mgs_model.specs.declared.echo_text.Message.TheVariants.{NoSuchBuffer}
+use Rattle.mgs_model.specs.declared.echo_text.Message.TheVariants.{Says}
+use Rattle.mgs_model.specs.declared.echo_text.Notice.TheVariants.{NoSuchBuffer}
 use Rattle.mgs_plan.specs.Actions.{AreMarks}
 use Rattle.mgs_plan.specs.Deciding.{outcome_read}
 use Rattle.mgs_plan.specs.Inserting.{copy_outcome, outcome_from}
@@ -28,7 +29,7 @@ returns-in-None-clause-value g c = λ n xs next.
     let ks = c.args.buffers.now in
     let h = c.args.session.now in
     let sel = sym c.selected_window_marks.ensures ∙ c.in-Some.is in
-    insert_planned d ks xs next n h c.args.typed.now x (Fails NoSuchBuffer) sel (subst (λ s. IfSome s (AreMarks ks)) sel c.requires.marks)
+    insert_planned d ks xs next n h c.args.typed.now x (Fails (Says NoSuchBuffer)) sel (subst (λ s. IfSome s (AreMarks ks)) sel c.requires.marks)
     (λ v stored. ap (outcome_from d ks v.session.state h.user c.args.typed.now x) (sym c.in-None.ensures.there))
 
 pub returns-in-Some-name_typed-clause-value : goal.returns-in-Some-name_typed-clause-value

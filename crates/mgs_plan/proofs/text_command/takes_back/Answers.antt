@@ -4,7 +4,8 @@ use Rattle.std.specs.Prelude.{Bool, Ok, Err, if◌then◌else◌}
 use Rattle.mgs_model.specs.Plans as plans
 use Rattle.mgs_model.specs.Plans.{taken_back}
 use Rattle.mgs_model.specs.World.{Item}
-use Rattle.mgs_model.specs.declared.echo_text.Message.TheVariants.{BufferFull}
+use Rattle.mgs_model.specs.declared.echo_text.Message.TheVariants.{Says}
+use Rattle.mgs_model.specs.declared.echo_text.Notice.TheVariants.{BufferFull}
 use Rattle.mgs_undo.specs.History.{has_serial}
 use Rattle.mgs_undo.specs.Numbered.{item_of}
 use Rattle.mgs_edit.specs.Reading.{undoing, undone_read}
@@ -28,7 +29,7 @@ returns-clause-value g c = λ state items kill kind rest found.
     ∙ ap (λ (t : List ℕ). said (undone_read text kill t u)) back
     ∙ ap said (c.undo.ensures.plan text kill kind rest)
     ∙ ap (λ (n : ℕ). said (taken_back (undoing kind name c.args.serial (record rest { size = n })) item)) c.len.ensures.value
-    ∙ sym (ap (λ (full : Bool). edit_outcome state name (length text) c.args.serial (if full then Err BufferFull else Ok (taken_back (undoing kind name c.args.serial (record rest { size = length text })) item))) (ne_eqb c.args.serial 18446744073709551615 c.if-serial-eq18446744073709551615.false))
+    ∙ sym (ap (λ (full : Bool). edit_outcome state name (length text) c.args.serial (if full then Err (Says BufferFull) else Ok (taken_back (undoing kind name c.args.serial (record rest { size = length text })) item))) (ne_eqb c.args.serial 18446744073709551615 c.if-serial-eq18446744073709551615.false))
 
 pub returns-clause-can : goal.returns-clause-can
 returns-clause-can g c = λ items kill found.

@@ -8,7 +8,8 @@ use Rattle.mgs_undo.specs.Numbered.{item_of}
 use Rattle.mgs_buffers.specs.MarkedBuffer.{marked_at}
 use Rattle.mgs_edit.specs.Reading.{undoing}
 use Rattle.mgs_plan.specs.Actions.{CanDo, action_outcome, edit_outcome}
-use Rattle.mgs_model.specs.declared.echo_text.Message.TheVariants.{NoFurtherUndo}
+use Rattle.mgs_model.specs.declared.echo_text.Message.TheVariants.{Says}
+use Rattle.mgs_model.specs.declared.echo_text.Notice.TheVariants.{NoFurtherUndo}
 use Rattle.mgs_plan.specs.declared.action.Action.TheVariants.{Fails}
 use Rattle.mgs_plan.proofs.Plans.{at_buffer}
 use Rattle.mgs_plan.proofs.text_command.undoes.Goals as goal
@@ -19,7 +20,7 @@ returns-in-None-clause-value g c = λ state kill rest.
     let name = c.name-name.result.now in
     let known : plans.Around = record rest { size = length b.text } in
     let target = c.undo_target-target.ensures known ∙ ap (λ n. undo_target (undoing c.args.kind name n known)) c.serial-serial.ensures in
-    subst (λ (m : List ℕ). action_outcome state m b.text b.items kill (Fails NoFurtherUndo) ≡ edit_outcome state m (length b.text) b.serial (model_undo b.items (undoing c.args.kind m b.serial known))) c.name-name.ensures.value
+    subst (λ (m : List ℕ). action_outcome state m b.text b.items kill (Fails (Says NoFurtherUndo)) ≡ edit_outcome state m (length b.text) b.serial (model_undo b.items (undoing c.args.kind m b.serial known))) c.name-name.ensures.value
     (ap (λ (o : Option Item). edit_outcome state name (length b.text) b.serial (undone (undoing c.args.kind name b.serial known) o))
     (c.in-None.ensures ∙ ap (λ n. find (has_serial n) b.items) target))
 

@@ -1,5 +1,5 @@
 use Rattle.mgs_grid.proofs.CellLemmas.{wrote_more}
-use Rattle.mgs_grid.proofs.echo_row.put_told.Goals as goal
+use Rattle.mgs_grid.proofs.echo_row.put_message.Goals as goal
 
 pub returns-in-CharacterAt-clause-wrote : goal.returns-in-CharacterAt-clause-wrote
 returns-in-CharacterAt-clause-wrote c =
