@@ -1,23 +1,24 @@
 // What is told of changes, and which lines an audit prints.
 use crate::calls::{add, remove, set};
-use crate::desk::{Dial, all_lines, begin, lines};
+use crate::desk::{Dial, begin, last_lines, lines};
+use mgs_journal::Journal;
 use mgs_ledger::Filter;
 use std::test::Fail;
+
+// Ann makes a buffer, and changes each of its rights, and nobody kills it. Says whether the change was taken.
+fn change<J: Journal>(desk: &mut J) -> Result<bool, Fail> {
+    add(desk, "notes", "ann", "staff", "ALLOW OWNER@ rw;DENY bob w")?;
+    let is_set = set(desk, "notes", "bob", "-", "ALLOW OWNER@ r")?;
+    remove(desk, "-")?;
+    Ok(is_set)
+}
 
 #[test]
 fn a_change_is_told_with_what_was_before(rt: HostRuntime) -> Result<(), Fail> {
     let dial = Dial::new();
     let mut desk = begin(rt.alloc(), &dial)?;
-    add(
-        &mut desk,
-        "notes",
-        "ann",
-        "staff",
-        "ALLOW OWNER@ rw;DENY bob w",
-    )?;
-    assert!(rt; set(&mut desk, "notes", "bob", "-", "ALLOW OWNER@ r")?);
-    remove(&mut desk, "-")?;
-    let text = all_lines(rt.alloc(), &mut desk.close()?)?;
+    assert!(rt; change(&mut desk)?);
+    let text = last_lines(rt.alloc(), desk)?;
     assert_eq!(rt;
         text.as_str(),
         "2026-11-29T01:22:33Z\t1\tann\tcreate\tnotes\t-\n\
@@ -29,13 +30,18 @@ fn a_change_is_told_with_what_was_before(rt: HostRuntime) -> Result<(), Fail> {
     Ok(())
 }
 
+// Ann makes a buffer, and gives it the rights that it has. Says whether that was taken.
+fn change_nothing<J: Journal>(desk: &mut J) -> Result<bool, Fail> {
+    add(desk, "notes", "ann", "-", "ALLOW OWNER@ rw")?;
+    set(desk, "notes", "ann", "-", "ALLOW OWNER@ rw")
+}
+
 #[test]
 fn what_is_as_it_was_is_not_told(rt: HostRuntime) -> Result<(), Fail> {
     let dial = Dial::new();
     let mut desk = begin(rt.alloc(), &dial)?;
-    add(&mut desk, "notes", "ann", "-", "ALLOW OWNER@ rw")?;
-    assert!(rt; set(&mut desk, "notes", "ann", "-", "ALLOW OWNER@ rw")?);
-    let text = all_lines(rt.alloc(), &mut desk.close()?)?;
+    assert!(rt; change_nothing(&mut desk)?);
+    let text = last_lines(rt.alloc(), desk)?;
     assert_eq!(rt;
         text.as_str(),
         "2026-11-29T01:22:33Z\t1\tann\tcreate\tnotes\t-\n"
@@ -43,14 +49,19 @@ fn what_is_as_it_was_is_not_told(rt: HostRuntime) -> Result<(), Fail> {
     Ok(())
 }
 
+// Ann makes a buffer, nobody kills it, and a second later she makes another.
+fn make_two<J: Journal>(desk: &mut J, dial: &Dial) -> Result<(), Fail> {
+    add(desk, "notes", "ann", "-", "ALLOW OWNER@ rw")?;
+    remove(desk, "-")?;
+    dial.pass_second();
+    add(desk, "todo", "ann", "-", "ALLOW OWNER@ rw")
+}
+
 #[test]
 fn an_audit_prints_what_is_asked_for(rt: HostRuntime) -> Result<(), Fail> {
     let dial = Dial::new();
     let mut desk = begin(rt.alloc(), &dial)?;
-    add(&mut desk, "notes", "ann", "-", "ALLOW OWNER@ rw")?;
-    remove(&mut desk, "-")?;
-    dial.pass_second();
-    add(&mut desk, "todo", "ann", "-", "ALLOW OWNER@ rw")?;
+    make_two(&mut desk, &dial)?;
     let mut conn = desk.close()?;
     let nobodys = Filter {
         user: Some("-"),

@@ -103,6 +103,11 @@ pub(crate) fn resume(
     resume_over(alloc, conn, dial, Pen { lines: &dial.lines })
 }
 
+/// The ledger again, by its tables.
+pub(crate) fn again<'a>(alloc: Global, dial: &'a Dial, desk: Desk<'a>) -> Result<Desk<'a>, Fail> {
+    Ok(resume(alloc, desk.close()?, dial)?)
+}
+
 /// A ledger that begins.
 pub(crate) fn begin(alloc: Global, dial: &Dial) -> Result<Desk<'_>, Fail> {
     Ok(resume(alloc, tables(alloc)?, dial)?)
@@ -127,4 +132,9 @@ pub(crate) fn all_lines(alloc: Global, conn: &mut Connection<MemStore>) -> Resul
         since: None,
     };
     lines(alloc, conn, &all)
+}
+
+/// All lines of a ledger that ends.
+pub(crate) fn last_lines(alloc: Global, desk: Desk<'_>) -> Result<String, Fail> {
+    all_lines(alloc, &mut desk.close()?)
 }

@@ -1,28 +1,33 @@
 // When what is gathered is committed.
 use crate::calls::{add, come, name, tell, tick};
-use crate::desk::{Dial, all_lines, begin};
-use mgs_journal::Told;
+use crate::desk::{Dial, begin, last_lines};
+use mgs_journal::{Journal, Told};
 use mgs_model::{Decision, Right};
 use std::test::Fail;
+
+// Tells that bob came, that he was denied two rights, and three ends.
+fn tell_all<J: Journal>(desk: &mut J) -> Result<(), Fail> {
+    let bob = name("bob")?;
+    let denied = Decision::DeniedBy {
+        entry: 2,
+        bit: Right::ReadData,
+    };
+    let missing = Decision::NotGranted {
+        bit: Right::WriteData,
+    };
+    tell(desk, Told::Came(bob))?;
+    tell(desk, Told::Denied(bob, denied))?;
+    tell(desk, Told::Denied(bob, missing))?;
+    tell(desk, Told::Quit(bob))?;
+    tell(desk, Told::Closed(bob))?;
+    tell(desk, Told::FellBehind(bob))
+}
 
 #[test]
 fn what_is_told_comes_before_the_next_change(rt: HostRuntime) -> Result<(), Fail> {
     let dial = Dial::new();
     let mut desk = begin(rt.alloc(), &dial)?;
-    let bob = name("bob")?;
-    tell(&mut desk, Told::Came(bob))?;
-    let denied = Decision::DeniedBy {
-        entry: 2,
-        bit: Right::ReadData,
-    };
-    tell(&mut desk, Told::Denied(bob, denied))?;
-    let missing = Decision::NotGranted {
-        bit: Right::WriteData,
-    };
-    tell(&mut desk, Told::Denied(bob, missing))?;
-    tell(&mut desk, Told::Quit(bob))?;
-    tell(&mut desk, Told::Closed(bob))?;
-    tell(&mut desk, Told::FellBehind(bob))?;
+    tell_all(&mut desk)?;
     assert_eq!(rt; dial.line_count(), 0);
     add(&mut desk, "notes", "ann", "-", "ALLOW OWNER@ rw")?;
     let text = "2026-11-29T01:22:33Z\t1\tbob\tlogin\t-\t-\n\
@@ -32,30 +37,40 @@ fn what_is_told_comes_before_the_next_change(rt: HostRuntime) -> Result<(), Fail
          2026-11-29T01:22:33Z\t5\tbob\tend\t-\tclosed\n\
          2026-11-29T01:22:33Z\t6\tbob\tend\t-\tslow\n\
          2026-11-29T01:22:33Z\t7\tann\tcreate\tnotes\t-\n";
-    assert_eq!(rt; all_lines(rt.alloc(), &mut desk.close()?)?.as_str(), text);
+    assert_eq!(rt; last_lines(rt.alloc(), desk)?.as_str(), text);
     Ok(())
+}
+
+// How many lines are written once 256 are gathered, and once there is one more.
+fn gather_past_the_limit<J: Journal>(desk: &mut J, dial: &Dial) -> Result<(u64, u64), Fail> {
+    come(desk, 256)?;
+    let before = dial.line_count();
+    come(desk, 1)?;
+    Ok((before, dial.line_count()))
 }
 
 #[test]
 fn what_is_gathered_is_committed_where_no_more_fits(rt: HostRuntime) -> Result<(), Fail> {
     let dial = Dial::new();
     let mut desk = begin(rt.alloc(), &dial)?;
-    come(&mut desk, 256)?;
-    assert_eq!(rt; dial.line_count(), 0);
-    come(&mut desk, 1)?;
-    assert_eq!(rt; dial.line_count(), 256);
+    assert!(rt; gather_past_the_limit(&mut desk, &dial)? == (0, 256));
     Ok(())
+}
+
+// How many lines are written at a tick at once, and at one a second later.
+fn tick_twice<J: Journal>(desk: &mut J, dial: &Dial) -> Result<(u64, u64), Fail> {
+    come(desk, 1)?;
+    tick(desk)?;
+    let before = dial.line_count();
+    dial.pass_second();
+    tick(desk)?;
+    Ok((before, dial.line_count()))
 }
 
 #[test]
 fn what_is_gathered_is_committed_a_second_later(rt: HostRuntime) -> Result<(), Fail> {
     let dial = Dial::new();
     let mut desk = begin(rt.alloc(), &dial)?;
-    come(&mut desk, 1)?;
-    tick(&mut desk)?;
-    assert_eq!(rt; dial.line_count(), 0);
-    dial.pass_second();
-    tick(&mut desk)?;
-    assert_eq!(rt; dial.line_count(), 1);
+    assert!(rt; tick_twice(&mut desk, &dial)? == (0, 1));
     Ok(())
 }

@@ -1,6 +1,7 @@
 // What comes back of rights.
 use crate::calls::{add, kept, remove, set};
-use crate::desk::{Desk, Dial, begin, resume, tables};
+use crate::desk::{Desk, Dial, again, begin, resume, tables};
+use mgs_journal::Journal;
 use mgs_tables::{EventRow, RightsRow};
 use sqlite::{Connection, MemStore};
 use std::alloc::Global;
@@ -8,7 +9,7 @@ use std::test::Fail;
 
 // What a ledger keeps that goes on with the tables of this one.
 fn kept_again(alloc: Global, dial: &Dial, desk: Desk<'_>) -> Result<String, Fail> {
-    kept(alloc, &resume(alloc, desk.close()?, dial)?)
+    kept(alloc, &again(alloc, dial, desk)?)
 }
 
 // Puts a row into the tables as it is.
@@ -46,19 +47,24 @@ fn fault_of(alloc: Global, owner: &str, owning_group: &str, entries: &str) -> Re
     }
 }
 
-#[test]
-fn rights_of_all_kinds_come_back(rt: HostRuntime) -> Result<(), Fail> {
-    let dial = Dial::new();
-    let mut desk = begin(rt.alloc(), &dial)?;
+// Adds buffers with entries of all kinds, and says what is kept.
+fn add_all_kinds<J: Journal>(alloc: Global, desk: &mut J) -> Result<String, Fail> {
     add(
-        &mut desk,
+        desk,
         "notes",
         "ann",
         "staff",
         "ALLOW OWNER@ rwatdcCo;DENY GROUP@ w;ALLOW EVERYONE@ r;DENY bob C;ALLOW group:staff rw",
     )?;
-    add(&mut desk, "*scratch*", "bob", "-", "ALLOW OWNER@ rw")?;
-    let before = kept(rt.alloc(), &desk)?;
+    add(desk, "*scratch*", "bob", "-", "ALLOW OWNER@ rw")?;
+    kept(alloc, desk)
+}
+
+#[test]
+fn rights_of_all_kinds_come_back(rt: HostRuntime) -> Result<(), Fail> {
+    let dial = Dial::new();
+    let mut desk = begin(rt.alloc(), &dial)?;
+    let before = add_all_kinds(rt.alloc(), &mut desk)?;
     let after = kept_again(rt.alloc(), &dial, desk)?;
     assert_eq!(rt;
         after.as_str(),
@@ -69,30 +75,43 @@ fn rights_of_all_kinds_come_back(rt: HostRuntime) -> Result<(), Fail> {
     Ok(())
 }
 
+// Sets the rights of one of two buffers, and says what is kept. Then nobody kills it.
+fn set_and_kill<J: Journal>(alloc: Global, desk: &mut J) -> Result<String, Fail> {
+    add(desk, "notes", "ann", "staff", "ALLOW EVERYONE@ r")?;
+    add(desk, "todo", "ann", "-", "ALLOW OWNER@ rw")?;
+    if !set(desk, "notes", "bob", "-", "DENY ann r")? {
+        return Err(Fail::new("not set"));
+    }
+    let after = kept(alloc, desk)?;
+    remove(desk, "-")?;
+    Ok(after)
+}
+
 #[test]
 fn what_was_set_and_killed_stays_so(rt: HostRuntime) -> Result<(), Fail> {
     let dial = Dial::new();
     let mut desk = begin(rt.alloc(), &dial)?;
-    add(&mut desk, "notes", "ann", "staff", "ALLOW EVERYONE@ r")?;
-    add(&mut desk, "todo", "ann", "-", "ALLOW OWNER@ rw")?;
-    assert!(rt; set(&mut desk, "notes", "bob", "-", "DENY ann r")?);
-    let after = kept(rt.alloc(), &desk)?;
+    let before = set_and_kill(rt.alloc(), &mut desk)?;
+    let after = kept_again(rt.alloc(), &dial, desk)?;
     assert_eq!(rt;
-        after.as_str(),
+        before.as_str(),
         "notes bob - DENY ann r;/todo ann - ALLOW OWNER@ rw;/"
     );
-    remove(&mut desk, "-")?;
-    let after = kept_again(rt.alloc(), &dial, desk)?;
     assert_eq!(rt; after.as_str(), "todo ann - ALLOW OWNER@ rw;/");
     Ok(())
+}
+
+// Whether rights that are set under another name are refused.
+fn refuses_another_name<J: Journal>(desk: &mut J) -> Result<bool, Fail> {
+    add(desk, "notes", "ann", "-", "ALLOW OWNER@ rw")?;
+    Ok(!set(desk, "todo", "bob", "-", "ALLOW OWNER@ r")?)
 }
 
 #[test]
 fn rights_of_another_name_change_nothing(rt: HostRuntime) -> Result<(), Fail> {
     let dial = Dial::new();
     let mut desk = begin(rt.alloc(), &dial)?;
-    add(&mut desk, "notes", "ann", "-", "ALLOW OWNER@ rw")?;
-    assert!(rt; !set(&mut desk, "todo", "bob", "-", "ALLOW OWNER@ r")?);
+    assert!(rt; refuses_another_name(&mut desk)?);
     let after = kept_again(rt.alloc(), &dial, desk)?;
     assert_eq!(rt; after.as_str(), "notes ann - ALLOW OWNER@ rw;/");
     Ok(())

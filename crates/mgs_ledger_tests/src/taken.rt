@@ -1,12 +1,22 @@
 // Which names users took.
 use crate::calls::{add, forget, is_taken, remove};
-use crate::desk::{Desk, Dial, begin, resume};
-use std::alloc::Global;
+use crate::desk::{Dial, again, begin};
+use mgs_journal::Journal;
 use std::test::Fail;
 
-// The ledger again, by its tables.
-fn again<'a>(alloc: Global, dial: &'a Dial, desk: Desk<'a>) -> Result<Desk<'a>, Fail> {
-    Ok(resume(alloc, desk.close()?, dial)?)
+// Whether it is taken, and no other is, and free once it is forgotten.
+fn is_taken_until_forgotten<J: Journal>(desk: &mut J) -> Result<bool, Fail> {
+    let is_taken_alone = is_taken(desk, "notes")? && !is_taken(desk, "plan")?;
+    forget(desk, "notes")?;
+    Ok(is_taken_alone && !is_taken(desk, "notes")?)
+}
+
+// Whether it is free. Then ann makes it, and whoever made the server kills it.
+fn is_free_and_made<J: Journal>(desk: &mut J) -> Result<bool, Fail> {
+    let is_free = !is_taken(desk, "notes")?;
+    add(desk, "notes", "ann", "-", "ALLOW ann rw")?;
+    remove(desk, "-")?;
+    Ok(is_free)
 }
 
 // A name that a user took by making a buffer is taken for whoever goes on with the tables, until it is forgotten. One that whoever made the
@@ -17,16 +27,18 @@ fn a_name_is_taken_until_it_is_forgotten(rt: HostRuntime) -> Result<(), Fail> {
     let mut desk = begin(rt.alloc(), &dial)?;
     add(&mut desk, "notes", "ann", "-", "ALLOW ann rw")?;
     let mut desk = again(rt.alloc(), &dial, desk)?;
-    assert!(rt; is_taken(&desk, "notes")? && !is_taken(&desk, "plan")?);
-    forget(&mut desk, "notes")?;
-    assert!(rt; !is_taken(&desk, "notes")?);
+    assert!(rt; is_taken_until_forgotten(&mut desk)?);
     let mut desk = again(rt.alloc(), &dial, desk)?;
-    assert!(rt; !is_taken(&desk, "notes")?);
-    add(&mut desk, "notes", "ann", "-", "ALLOW ann rw")?;
-    remove(&mut desk, "-")?;
+    assert!(rt; is_free_and_made(&mut desk)?);
     let desk = again(rt.alloc(), &dial, desk)?;
     assert!(rt; !is_taken(&desk, "notes")?);
     Ok(())
+}
+
+// Ann makes it and kills it.
+fn make_and_kill<J: Journal>(desk: &mut J) -> Result<(), Fail> {
+    add(desk, "notes", "ann", "-", "ALLOW ann rw")?;
+    remove(desk, "ann")
 }
 
 // So is one whose buffer a user killed, of which no rights are kept.
@@ -34,11 +46,9 @@ fn a_name_is_taken_until_it_is_forgotten(rt: HostRuntime) -> Result<(), Fail> {
 fn a_killed_name_is_taken_until_it_is_forgotten(rt: HostRuntime) -> Result<(), Fail> {
     let dial = Dial::new();
     let mut desk = begin(rt.alloc(), &dial)?;
-    add(&mut desk, "notes", "ann", "-", "ALLOW ann rw")?;
-    remove(&mut desk, "ann")?;
+    make_and_kill(&mut desk)?;
     let mut desk = again(rt.alloc(), &dial, desk)?;
-    assert!(rt; is_taken(&desk, "notes")?);
-    forget(&mut desk, "notes")?;
+    assert!(rt; is_taken_until_forgotten(&mut desk)?);
     let desk = again(rt.alloc(), &dial, desk)?;
     assert!(rt; !is_taken(&desk, "notes")?);
     Ok(())

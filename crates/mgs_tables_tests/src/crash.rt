@@ -3,7 +3,7 @@ ghost use Rattle.std.specs.Prelude.{IfOk, IsTrue};
 ghost use Rattle.sqlite_disk.specs.Memory.{memory_is_usable};
 
 use crate::calls::{add, all_texts, make, put_text};
-use sqlite::{Connection, FileStore, Files, Options};
+use sqlite::{Alter, Connection, FileStore, Files, Options};
 use sqlite_disk::{Disk, Memory};
 use std::alloc::Global;
 use std::test::Fail;
@@ -27,15 +27,22 @@ fn open(alloc: Global, log: Memory, db: Memory) -> Result<Connection<FileStore<M
     }
 }
 
-// The files of tables with a buffer whose text was kept, and once more where that is asked.
+// Makes tables with a buffer whose text is kept, and once more where that is asked. It is made of any store, since a call over files is
+// dear to prove.
+fn fill<S: Alter>(conn: &mut Connection<S>, is_twice: bool) -> Result<(), Fail> {
+    make(conn)?;
+    add(conn, "notes", "a")?;
+    put_text(conn, "notes", 1, 7, "first")?;
+    if is_twice {
+        put_text(conn, "notes", 0, 8, "second")?;
+    }
+    Ok(())
+}
+
+// The files of these tables.
 fn written(alloc: Global, is_twice: bool) -> Result<Files<Memory>, Fail> {
     let mut conn = open(alloc, Memory::new(alloc), Memory::new(alloc))?;
-    make(&mut conn)?;
-    add(&mut conn, "notes", "a")?;
-    put_text(&mut conn, "notes", 1, 7, "first")?;
-    if is_twice {
-        put_text(&mut conn, "notes", 0, 8, "second")?;
-    }
+    fill(&mut conn, is_twice)?;
     Ok(conn.into_store().close())
 }
 
