@@ -3,3 +3,4 @@ pub mod Reading
 pub mod Snapshots
 pub mod Spelling
 pub mod Telling
+pub mod Taken

@@ -1,7 +1,8 @@
 // The names that users took.
-ghost use Rattle.std.specs.Prelude.{◌≡◌, filter, not};
+ghost use Rattle.std.specs.Prelude.{◌≡◌, OnOk, filter, not};
 ghost use Rattle.mgs_model.specs.Access.{is_among};
 ghost use Rattle.mgs_model.specs.Names.{same_name};
+ghost use Rattle.mgs_ledger.specs.Taken.{event_noted, noted, page_noted};
 
 use crate::ledger_fault::LedgerFault;
 use mgs_model::Name;
@@ -27,7 +28,9 @@ pub(crate) fn free(names: &mut Vec<Name>, name: &Name)
 }
 
 // A name is taken by a user, or free again.
-fn note(names: &mut Vec<Name>, name: Name, is_by_user: bool) -> Result<(), LedgerFault> {
+fn note(names: &mut Vec<Name>, name: Name, is_by_user: bool) -> Result<(), LedgerFault>
+    ensures { OnOk result (names.new.items ≡ noted name is_by_user names.old.items) }
+{
     free(names, &name);
     if is_by_user {
         names.push(name)?;
@@ -36,7 +39,9 @@ fn note(names: &mut Vec<Name>, name: Name, is_by_user: bool) -> Result<(), Ledge
 }
 
 // What an event does to the names that are taken: a user takes one by making or killing a buffer, and who makes the server frees it so.
-fn note_event(names: &mut Vec<Name>, event: &Event) -> Result<(), LedgerFault> {
+fn note_event(names: &mut Vec<Name>, event: &Event) -> Result<(), LedgerFault>
+    ensures { OnOk result (names.new.items ≡ event_noted names.old.items event.now) }
+{
     if event.what.as_str() != "create" && event.what.as_str() != "kill" {
         return Ok(());
     }
@@ -47,7 +52,9 @@ fn note_event(names: &mut Vec<Name>, event: &Event) -> Result<(), LedgerFault> {
 }
 
 // Notes all events of a page, and says the number of the last of all.
-fn note_page(names: &mut Vec<Name>, events: &[Event], mut last: i64) -> Result<i64, LedgerFault> {
+fn note_page(names: &mut Vec<Name>, events: &[Event], mut last: i64) -> Result<i64, LedgerFault>
+    ensures { OnOk result (names.new.items ≡ page_noted names.old.items events.now) }
+{
     for event in events {
         note_event(names, event)?;
         last = event.number;

@@ -1,0 +1,23 @@
+-- Which names users took, by what the events tell.
+use Rattle.std.specs.Prelude.{ℕ, Bool, not, ◌&&◌, ◌||◌, List, [], ◌∷◌, ◌++◌, filter, fold, codes, string_bytes, if◌then◌else◌}
+use Rattle.std.specs.Str.{bytes_eq}
+use Rattle.mgs_model.specs.Names.{is_name, same_name}
+use Rattle.mgs_tables.specs.declared.rows.Event.{Event}
+
+-- a name is taken by a user, or free again
+abbrev pub noted : List ℕ → Bool → List (List ℕ) → List (List ℕ)
+noted name by_user names = if by_user then filter (λ other. not (same_name name other)) names ++ name ∷ [] else filter (λ other. not (same_name name other)) names
+
+abbrev pub is_word : List ℕ → List ℕ → Bool
+is_word a b = bytes_eq a b
+
+-- a user takes a name by making or killing a buffer, and who makes the server frees it so
+abbrev pub event_noted : List (List ℕ) → Event → List (List ℕ)
+event_noted names event =
+    let what = string_bytes event.what in
+    let name = string_bytes event.buffer in
+    if (is_word what (codes "create") || is_word what (codes "kill")) && is_name name then noted name (not (is_word (string_bytes event.user) (codes "-"))) names else names
+
+-- the events of a page, in their order
+abbrev pub page_noted : List (List ℕ) → List Event → List (List ℕ)
+page_noted names events = fold event_noted names events
