@@ -10,6 +10,7 @@ use jiff::tz::TimeZone;
 use mgs_command::tell;
 use mgs_ledger::{Filter, audit};
 use mgs_tables::{OpenFault, open};
+use sqlite::{Alter, Connection};
 use std::{fs, io};
 
 /// What a time is that is none.
@@ -42,12 +43,12 @@ pub(crate) fn end_open<R: Eprint>(rt: &R, fault: OpenFault) -> u8
     }
 }
 
-// Prints the events of an open journal.
-fn print_from(rt: &HostRuntime, path: &str, filter: &Filter<'_>) -> u8 {
-    let mut conn = match open(rt, path) {
-        Ok(conn) => conn,
-        Err(fault) => return end_open(rt, fault),
-    };
+// Prints the events of open tables. They are any tables, since what is done with those of a file is dear to prove.
+fn print_tables<S: Alter + Drop>(
+    rt: &HostRuntime,
+    mut conn: Connection<S>,
+    filter: &Filter<'_>,
+) -> u8 {
     let mut out = io::writer(rt);
     match audit(&mut conn, rt.alloc(), filter, &mut out) {
         Ok(()) => PRINTED,
@@ -55,6 +56,14 @@ fn print_from(rt: &HostRuntime, path: &str, filter: &Filter<'_>) -> u8 {
             tell(rt, fault);
             FAILED
         }
+    }
+}
+
+// Prints the events of the journal in this file.
+fn print_from(rt: &HostRuntime, path: &str, filter: &Filter<'_>) -> u8 {
+    match open(rt, path) {
+        Ok(conn) => print_tables(rt, conn, filter),
+        Err(fault) => end_open(rt, fault),
     }
 }
 
