@@ -21,7 +21,7 @@ use mgs_ledger::Ledger;
 use mgs_model::{BUFFER_LIMIT, Name};
 use mgs_store::Store;
 use mgs_tables::open;
-use sqlite::{Alter, FileFrom, FileStore as TableStore, Wary};
+use sqlite::{Alter, Connection, FileFrom, FileStore as TableStore, Wary};
 use std::fmt::Display;
 use std::io::{self, Printer, Write};
 use std::mem;
@@ -108,6 +108,22 @@ fn tell_unsaved<R: Eprint, J: Journal>(rt: &R, config: &Buffers<GapText>, journa
     }
 }
 
+// The ledger that goes on with open tables. They are any tables, since what is done with those of a file is dear to prove.
+fn resume_ledger<'a, S: Alter + Drop>(
+    rt: &'a HostRuntime,
+    conn: Connection<S>,
+) -> Result<Ledger<S, &'a HostRuntime, Printer<'a, HostRuntime>>, u8>
+    ensures { IfErr result (λ status. status ≢ 0) }
+{
+    match Ledger::resume(conn, rt.alloc(), rt, io::writer(rt)) {
+        Ok(ledger) => Ok(ledger),
+        Err(fault) => {
+            let _ = eprintln!(rt; "journal: {fault}");
+            Err(FAILED)
+        }
+    }
+}
+
 // The ledger of the journal in a folder.
 fn open_ledger<'a>(rt: &'a HostRuntime, folder: &str) -> Result<FileLedger<'a>, u8>
     ensures { IfErr result (λ status. status ≢ 0) }
@@ -120,16 +136,9 @@ fn open_ledger<'a>(rt: &'a HostRuntime, folder: &str) -> Result<FileLedger<'a>, 
         return Err(refuse(rt, NO_MEMORY));
     };
     make_private(rt, path.as_str());
-    let conn = match open(rt, path.as_str()) {
-        Ok(conn) => conn,
-        Err(fault) => return Err(end_open(rt, fault)),
-    };
-    match Ledger::resume(conn, rt.alloc(), rt, io::writer(rt)) {
-        Ok(ledger) => Ok(ledger),
-        Err(fault) => {
-            let _ = eprintln!(rt; "journal: {fault}");
-            Err(FAILED)
-        }
+    match open(rt, path.as_str()) {
+        Ok(conn) => resume_ledger(rt, conn),
+        Err(fault) => Err(end_open(rt, fault)),
     }
 }
 
