@@ -1,0 +1,3 @@
+pub mod Tells
+mod Numbers
+mod Removal

@@ -1,0 +1,4 @@
+pub mod Births
+pub mod Numbers
+pub mod Telling
+pub mod StoreBirths
