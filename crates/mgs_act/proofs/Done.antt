@@ -1,16 +1,16 @@
 -- What is done for the session at an index, by what was decided for it.
-use Rattle.std.proofs.Common.{◌≡◌, ℕ, zero, suc, ◌<◌, Bool, true, List, [], ◌∷◌, length, Option, Some, None, get_or, refl, sym, ap, subst, ◌∙◌, append-nil, arith}
+use Rattle.std.proofs.Common.{◌≡◌, ℕ, zero, suc, ◌<◌, Bool, true, List, [], ◌∷◌, length, Option, Some, None, get_or, refl, sym, ap, subst, ◌∙◌, arith}
 use Rattle.std.specs.Prelude.{slice_get, slice_set, IfSome, OnOk, Result, Ok, Err}
-use Rattle.std.specs.List.{flat_map, position_or_len}
+use Rattle.std.specs.List.{position_or_len}
 use Rattle.std.specs.Option.{option_and_then}
 use Rattle.std.proofs.lemmas.List.{get_or_default}
 use Rattle.std.proofs.lemmas.Option.{get_or_from_slice_get, slice_get-get_or}
 use Rattle.mgs_model.specs.Access.{Directory}
 use Rattle.mgs_laws.specs.Apart.{touched_by}
 use Rattle.mgs_model.specs.Apply.{applied, apply, outcome_in}
-use Rattle.mgs_model.specs.Events.{Saved, effect_in, saved_by}
+use Rattle.mgs_model.specs.Events.{effect_in}
 use Rattle.mgs_laws.specs.Refusals.{may_be_refused, takes_memory}
-use Rattle.mgs_model.specs.Outcome.{Act, Effect, Save}
+use Rattle.mgs_model.specs.Outcome.{Act, Effect, Save, Create, Kill}
 use Rattle.mgs_model.specs.Outcome as outcomes
 use Rattle.mgs_model.specs.Plans.{acted_state}
 use Rattle.mgs_model.specs.World.{State}
@@ -20,8 +20,8 @@ use Rattle.mgs_model.specs.declared.entry.Decision.{Decision}
 use Rattle.mgs_model.specs.declared.entry.Decision.TheVariants.{Granted}
 use Rattle.mgs_model.specs.declared.touched.Touched.{Touched}
 use Rattle.mgs_model.specs.declared.touched.Touched.TheVariants.{Nowhere}
-use Rattle.mgs_store.specs.Stores.{StoreTold, told_more}
-use Rattle.mgs_store.proofs.Told.{told_none}
+use Rattle.mgs_births.specs.Telling.{IsSilent, StoreTold, Tells}
+use Rattle.mgs_births.proofs.Tells.{tells_quiet}
 use Rattle.mgs_buffers.specs.MarkedBuffer.{MarkedBuffer}
 use Rattle.mgs_buffers.specs.Permitting.{PermitAnswers}
 use Rattle.mgs_session.specs.Sessions.{window_marks_of}
@@ -81,22 +81,30 @@ granted_done (Err d) due answer granted ok = absurd (answer.1 (sym answer.0 ∙ 
 
 -- WHAT ASKS NO STORE
 
-pub quietly : (directory : Directory) (at : ℕ) (o : Outcome) (ks ls : List MarkedBuffer) (xs ys : List Session) (touched : Touched)
+-- what is told of what was done
+pub tellingly : (directory : Directory) (at : ℕ) (o : Outcome) (ks ls : List MarkedBuffer) (xs ys : List Session) (touched : Touched) (s t : StoreTold)
     → ((id : ℕ) (next : Option ℕ) (h : Session) → at ≡ position_or_len (session_id id) xs → slice_get xs at ≡ Some h
-    → (let p = outcome_read ks (view_at directory ks xs next h) o true in (world_of directory ls ys next ≡ apply (world_of directory ks xs next) id p) × (touched ≡ touched_by p.effect) × (saved_by p.effect ≡ [])))
-    → IsQuietlyDone directory at o ks xs ls ys touched
-quietly directory at o ks ls xs ys touched does = λ t. record {
+    → (let p = outcome_read ks (view_at directory ks xs next h) o true in (world_of directory ls ys next ≡ apply (world_of directory ks xs next) id p) × (touched ≡ touched_by p.effect) × Tells (p.effect ∷ []) s t))
+    → IsDone directory at o ks xs s ls ys t touched
+tellingly directory at o ks ls xs ys touched s t does = record {
   stored = true;
   fault = λ e. cc;
-  does = λ id next h place found.
-      let it = does id next h place found in
-      record { world = it.0; touches = it.1; saves = told_none t.accepted (saved_by (outcome_read ks (view_at directory ks xs next h) o true).effect) it.2 };
+  does = λ id next h place found. let it = does id next h place found in record { world = it.0; touches = it.1; tells = it.2 };
 }
 
--- what touches nothing saves nothing
-pub nowhere_saves_none : (e : Effect) → touched_by e ≡ Nowhere → saved_by e ≡ []
-nowhere_saves_none (Save name text) is = cc
-nowhere_saves_none _ is = refl
+pub quietly : (directory : Directory) (at : ℕ) (o : Outcome) (ks ls : List MarkedBuffer) (xs ys : List Session) (touched : Touched)
+    → ((id : ℕ) (next : Option ℕ) (h : Session) → at ≡ position_or_len (session_id id) xs → slice_get xs at ≡ Some h
+    → (let p = outcome_read ks (view_at directory ks xs next h) o true in (world_of directory ls ys next ≡ apply (world_of directory ks xs next) id p) × (touched ≡ touched_by p.effect) × IsSilent p.effect))
+    → IsQuietlyDone directory at o ks xs ls ys touched
+quietly directory at o ks ls xs ys touched does = λ t. tellingly directory at o ks ls xs ys touched t t
+    (λ id next h place found. let it = does id next h place found in (it.0, it.1, tells_quiet t (outcome_read ks (view_at directory ks xs next h) o true).effect it.2.0 it.2.1))
+
+-- what touches nothing is silent
+pub nowhere_silent : (e : Effect) → touched_by e ≡ Nowhere → IsSilent e
+nowhere_silent (Save name text) is = cc
+nowhere_silent (Create name owner) is = cc
+nowhere_silent (Kill name) is = cc
+nowhere_silent _ is = (refl, λ b. refl)
 
 pub quiet_done : (directory : Directory) (at : ℕ) (o p : Outcome) (ks ls : List MarkedBuffer) (xs ys : List Session) (t : StoreTold) → o ≡ p
     → ((id : ℕ) (next : Option ℕ) (h : Session) → at ≡ position_or_len (session_id id) xs → slice_get xs at ≡ Some h
@@ -104,7 +112,7 @@ pub quiet_done : (directory : Directory) (at : ℕ) (o p : Outcome) (ks ls : Lis
     → IsDone directory at o ks xs t ls ys t Nowhere
 quiet_done directory at o p ks ls xs ys t is does =
     subst (λ q. IsDone directory at q ks xs t ls ys t Nowhere) (sym is)
-    (quietly directory at p ks ls xs ys Nowhere (λ id next h place found. let it = does id next h place found in (it.0, sym it.1, nowhere_saves_none _ it.1)) t)
+    (quietly directory at p ks ls xs ys Nowhere (λ id next h place found. let it = does id next h place found in (it.0, sym it.1, nowhere_silent _ it.1)) t)
 
 -- and is done to the session alone, which uses the marks that it used
 pub written_done : {directory : Directory} {at : ℕ} {ks : List MarkedBuffer} {xs : List Session} {o : Outcome} (p : Outcome) (f : Session → Session) (r y : Session) → IsReady directory at ks xs o → o ≡ p → y ≡ f (get_or xs at r) → ((h : Session) (n : List ℕ) (i : ℕ) → session_uses n i (f h) ≡ session_uses n i h)
@@ -143,10 +151,7 @@ module _ (directory : Directory) (at : ℕ) (c : Act) (ks : List MarkedBuffer) (
             stored = done.stored;
             world = does.world ∙ sym (ap (applied w id) known);
             fault = done.fault;
-            saves =
-                does.saves
-                ∙ ap (λ (more : List Saved). told_more more before.accepted) (sym (append-nil (saved_by p.effect)))
-                ∙ sym (ap (λ q. told_more (flat_map saved_by (effect_in q)) before.accepted) known);
+            tells = subst (λ q. Tells (effect_in q) before after) (sym known) does.tells;
           };
           tells = tells_known _ p touched known does.touches;
         }

@@ -8,4 +8,4 @@ mod Through
 mod Insertions
 mod Rulings
 pub mod Scrolls
-mod Done
+pub mod Done

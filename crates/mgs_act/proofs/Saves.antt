@@ -38,5 +38,5 @@ wrote_so directory ks xs next id at h name text place within is fresh =
     ∙ ap (change_first (has_id id) f) (sessions_unmodified name ks xs ∙ sym (map-id (map (session_of ks) xs))))
 
 -- what a store accepted, by what it answered
-pub stored_as : {T E : Type 0} (r s : Result T E) (name text : List ℕ) (before after : Option (List Saved)) → after ≡ told_more (saves_if (is_ok r) name text) before → r ≡ s → after ≡ told_more (saves_if (is_ok s) name text) before
-stored_as r s name text before after told is = told ∙ ap (λ q. told_more (saves_if (is_ok q) name text) before) is
+pub saved_as : {T E : Type 0} (r s : Result T E) (name text : List ℕ) (before after : Option (List Saved)) → after ≡ told_more (saves_if (is_ok r) name text) before → r ≡ s → after ≡ told_more (saves_if (is_ok s) name text) before
+saved_as r s name text before after told is = told ∙ ap (λ q. told_more (saves_if (is_ok q) name text) before) is

@@ -1,12 +1,11 @@
 -- What is done through a window's marks, and by an insertion through them.
-use Rattle.std.proofs.Common.{◌≡◌, ℕ, ◌<◌, true, false, cond, List, [], length, Option, Some, None, get_or, refl, ap, subst, ◌∙◌}
+use Rattle.std.proofs.Common.{◌≡◌, ℕ, ◌<◌, true, false, cond, List, length, Option, Some, None, get_or, refl, ap, subst, ◌∙◌}
 use Rattle.std.specs.Prelude.{slice_get}
 use Rattle.std.specs.List.{position_or_len}
 use Rattle.mgs_model.specs.Access.{Directory}
 use Rattle.mgs_model.specs.Acts.{edit_of, fails, finished, finished_state, is_too_large}
 use Rattle.mgs_laws.specs.Apart.{touched_by}
 use Rattle.mgs_model.specs.Apply.{apply}
-use Rattle.mgs_model.specs.Events.{saved_by}
 use Rattle.mgs_model.specs.Outcome.{Effect, No_effect, Edit, Adjust, Keep_search}
 use Rattle.mgs_model.specs.Plans as plans
 use Rattle.mgs_model.specs.Text.{is_edit}
@@ -23,29 +22,30 @@ use Rattle.mgs_plan.specs.Inserting.{insertion_of, put_outcome}
 use Rattle.mgs_plan.specs.declared.action.Action.{Action}
 use Rattle.mgs_plan.specs.declared.action.Action.TheVariants.{Edits, Undoes, Moves}
 use Rattle.mgs_plan.specs.declared.outcome.Outcome.TheVariants.{Acts, Copies}
+use Rattle.mgs_births.specs.Telling.{IsSilent}
 use Rattle.mgs_act.proofs.Done.{here_is, quietly}
 use Rattle.mgs_act.specs.Doing.{IsQuietlyDone, TakesMemory}
 use Rattle.mgs_act.specs.Performing.{MayBeShort}
 use Rattle.mgs_world.specs.Worlds.{state_at, state_of, state_or_first, session_id, world_of}
 
--- IT SAVES NOTHING
+-- IT IS SILENT
 
-finished_saves_none : (state : State) (f : plans.Finish) (e : Effect) → saved_by e ≡ [] → saved_by (finished state f e).effect ≡ []
-finished_saves_none state f e none =
-    elim (is_too_large f.kill) as (λ b. saved_by (cond b (fails state (Says KillTooLarge)) (record { state = finished_state f state; kill = f.kill; arrange = Adjust f.point f.mark f.top None Keep_search; effect = e })).effect ≡ []) [ true ↦ refl | false ↦ none ]
+finished_silent : (state : State) (f : plans.Finish) (e : Effect) → IsSilent e → IsSilent (finished state f e).effect
+finished_silent state f e none =
+    elim (is_too_large f.kill) as (λ b. IsSilent (cond b (fails state (Says KillTooLarge)) (record { state = finished_state f state; kill = f.kill; arrange = Adjust f.point f.mark f.top None Keep_search; effect = e })).effect) [ true ↦ (refl, λ b. refl) | false ↦ none ]
 
-edit_saves_none : (name : List ℕ) (c : plans.Change) → saved_by (edit_of name c.a c.b c.put) ≡ []
-edit_saves_none name c = elim (is_edit c.a c.b c.put) as (λ b. saved_by (cond b (Edit name c.a c.b c.put) No_effect) ≡ []) [ true ↦ refl | false ↦ refl ]
+edit_silent : (name : List ℕ) (c : plans.Change) → IsSilent (edit_of name c.a c.b c.put)
+edit_silent name c = elim (is_edit c.a c.b c.put) as (λ b. IsSilent (cond b (Edit name c.a c.b c.put) No_effect)) [ true ↦ (refl, λ b. refl) | false ↦ (refl, λ b. refl) ]
 
-change_saves_none : (state : State) (name : List ℕ) (c : plans.Change) → saved_by (finished state c.finish (edit_of name c.a c.b c.put)).effect ≡ []
-change_saves_none state name c = finished_saves_none state c.finish (edit_of name c.a c.b c.put) (edit_saves_none name c)
+change_silent : (state : State) (name : List ℕ) (c : plans.Change) → IsSilent (finished state c.finish (edit_of name c.a c.b c.put)).effect
+change_silent state name c = finished_silent state c.finish (edit_of name c.a c.b c.put) (edit_silent name c)
 
-through_saves_none : (state : State) (x : WindowMarks) (ks : List MarkedBuffer) (kill : List ℕ) (action : Action) → saved_by (outcome_through state x ks kill action).effect ≡ []
-through_saves_none state x ks kill (Edits mask c) = change_saves_none state x.name (change_read (marked_at x.name ks).buffer.text kill c)
-through_saves_none state x ks kill (Undoes u) =
-    let b = (marked_at x.name ks).buffer in change_saves_none state x.name (undone_read b.text kill (removed_by u.serial b.items) u)
-through_saves_none state x ks kill (Moves f) = finished_saves_none state (finish_read (marked_at x.name ks).buffer.text kill 0 f) No_effect refl
-through_saves_none state x ks kill _ = refl
+through_silent : (state : State) (x : WindowMarks) (ks : List MarkedBuffer) (kill : List ℕ) (action : Action) → IsSilent (outcome_through state x ks kill action).effect
+through_silent state x ks kill (Edits mask c) = change_silent state x.name (change_read (marked_at x.name ks).buffer.text kill c)
+through_silent state x ks kill (Undoes u) =
+    let b = (marked_at x.name ks).buffer in change_silent state x.name (undone_read b.text kill (removed_by u.serial b.items) u)
+through_silent state x ks kill (Moves f) = finished_silent state (finish_read (marked_at x.name ks).buffer.text kill 0 f) No_effect (refl, λ b. refl)
+through_silent state x ks kill _ = (refl, λ b. refl)
 
 -- AN ACTION
 
@@ -56,7 +56,7 @@ pub through_done : (directory : Directory) (at : ℕ) (ks ls : List MarkedBuffer
 through_done directory at ks ls xs ys x place action touched done touches = quietly directory at (Acts x place action) ks ls xs ys touched (λ id next h here found. (
   done id next here ∙ ap (λ s. apply (world_of directory ks xs next) id (outcome_through (state_or_first s) x ks (kill_or_none s) action)) found,
   touches h found,
-  through_saves_none (state_of h.state) x ks h.kill action,
+  through_silent (state_of h.state) x ks h.kill action,
 ))
 
 pub through_takes : (at : ℕ) (ks : List MarkedBuffer) (xs : List Session) (r : Session) (x : WindowMarks) (place : ℕ) (action : Action) → at < length xs → MayBeShort x ks (get_or xs at r).kill action → TakesMemory at (Acts x place action) ks xs
@@ -72,5 +72,5 @@ pub copy_done : (directory : Directory) (at : ℕ) (ks ls : List MarkedBuffer) (
 copy_done directory at ks ls xs ys x source place touched done touches = quietly directory at (Copies x source place) ks ls xs ys touched (λ id next h here found. (
   done id next here ∙ ap (λ s. apply (world_of directory ks xs next) id (put_outcome (state_or_first s) x.name place (marked_at source ks).buffer.text)) found,
   touches (state_of h.state),
-  change_saves_none (state_of h.state) x.name (insertion_of place (marked_at source ks).buffer.text),
+  change_silent (state_of h.state) x.name (insertion_of place (marked_at source ks).buffer.text),
 ))

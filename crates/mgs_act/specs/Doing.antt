@@ -1,17 +1,18 @@
 -- What is done for the session at an index, by what was decided for it.
-use Rattle.std.specs.Prelude.{◌≡◌, ◌<◌, ℕ, Bool, true, false, List, length, Option, Some, Ok, slice_get}
-use Rattle.std.specs.List.{flat_map, position_or_len}
+use Rattle.std.specs.Prelude.{◌≡◌, ◌<◌, ℕ, Bool, true, false, List, [], ◌∷◌, length, Option, Some, Ok, slice_get}
+use Rattle.std.specs.List.{position_or_len}
 use Rattle.mgs_model.specs.Access.{Directory}
 use Rattle.mgs_laws.specs.Apart.{touched_by}
 use Rattle.mgs_model.specs.Apply.{act, apply, change_first, outcome_in}
-use Rattle.mgs_model.specs.Events.{act_effects, saved_by}
+use Rattle.mgs_model.specs.Events.{act_effects}
 use Rattle.mgs_model.specs.Outcome.{Act}
 use Rattle.mgs_laws.specs.Refusals.{takes_memory}
 use Rattle.mgs_model.specs.Outcome as outcomes
 use Rattle.mgs_model.specs.World.{State, World}
 use Rattle.mgs_model.specs.declared.entry.Entry.{Entry}
 use Rattle.mgs_model.specs.declared.touched.Touched.{Touched}
-use Rattle.mgs_store.specs.Stores.{IsCounted, StoreTold, told_more}
+use Rattle.mgs_store.specs.Stores.{IsCounted}
+use Rattle.mgs_births.specs.Telling.{StoreTold, Tells}
 use Rattle.mgs_buffers.specs.MarkedBuffer.{MarkedBuffer, marked_at, marked_named, marked_list_set}
 use Rattle.mgs_session.specs.declared.Session.{Session}
 use Rattle.mgs_plan.specs.Deciding.{CanPerform, outcome_read, view_at}
@@ -44,7 +45,7 @@ pub record IsReady (directory : Directory) (at : ℕ) (ks : List MarkedBuffer) (
 pub record Does (old new : World) (before after : StoreTold) (id : ℕ) (o : outcomes.Outcome) (touched : Touched) : Type 0 where
   pub world : new ≡ apply old id o
   pub touches : touched ≡ touched_by o.effect
-  pub saves : after.accepted ≡ told_more (saved_by o.effect) before.accepted
+  pub tells : Tells (o.effect ∷ []) before after
 
 -- WHAT WAS DECIDED IS DONE: the store's answer to a save was a refusal only where a fault was counted
 pub record IsDone (directory : Directory) (at : ℕ) (o : Outcome) (ks : List MarkedBuffer) (xs : List Session) (before : StoreTold) (ls : List MarkedBuffer) (ys : List Session) (after : StoreTold) (touched : Touched) : Type 0 where
@@ -71,7 +72,7 @@ pub record ActedBy (old new : World) (before after : StoreTold) (id : ℕ) (c : 
   pub stored : Bool
   pub world : new ≡ act old id c stored
   pub fault : stored ≡ false → IsCounted before.failed after.failed
-  pub saves : after.accepted ≡ told_more (flat_map saved_by (act_effects old id c stored)) before.accepted
+  pub tells : Tells (act_effects old id c stored) before after
 
 -- and it tells what it touched
 pub record DoneBy (touched : Touched) (old new : World) (before after : StoreTold) (id : ℕ) (c : Act) : Type 0 where

@@ -5,7 +5,7 @@ ghost use Rattle.mgs_buffers.specs.MarkedBuffer.{HasBuffer, marked_named, marked
 ghost use Rattle.mgs_plan.specs.Deciding.{CanList, IsGranted};
 ghost use Rattle.mgs_plan.specs.declared.outcome.Outcome.TheVariants.{Kills, SetsList, SetsOwners, Saves};
 ghost use Rattle.mgs_plan.specs.Rows.{scrolled_to};
-ghost use Rattle.mgs_store.specs.Stores.{store_told};
+ghost use Rattle.mgs_births.specs.StoreBirths.{store_and_births};
 ghost use Rattle.mgs_act.specs.Doing.{IsDone, IsListSet, IsQuietlyDone, IsReady, TakesMemory};
 ghost use Rattle.mgs_world.specs.Acted.{IsUnchanged};
 ghost use Rattle.mgs_world.specs.Sound.{IsSound};
@@ -15,6 +15,7 @@ use crate::creation::show_created;
 use crate::session_settings::set;
 use crate::text_action::{Spot, perform};
 use mgs_arrange::{rearrange, show, show_entries};
+use mgs_births::WithBirths;
 use mgs_buffers::{Buffers, SaveFault};
 use mgs_marks::Marked;
 use mgs_model::{Kind, Message, Name, NewOwner, Notice, Short, Touched};
@@ -26,21 +27,24 @@ use mgs_windows::RowPane;
 use mgs_world::kill_buffer;
 
 /// The buffer of a name goes, by an act of the session at `at`.
-fn kill<T: Marked + Drop>(
+fn kill<T: Marked + Drop, S: Store + Drop>(
     buffers: &mut Buffers<T>,
     directory: &Directory,
     sessions: &mut [Session],
     at: usize,
     name: &Name,
+    store: &mut WithBirths<S>,
 ) -> Touched
     requires { IsReady directory.now at buffers.old sessions.old (Kills name.now) }
     ensures sound { IsSound buffers.new sessions.new }
-    ensures done { IsQuietlyDone directory.now at (Kills name.now) buffers.old sessions.old buffers.new sessions.new result }
+    ensures done { IsDone directory.now at (Kills name.now) buffers.old sessions.old (store_and_births S.failed S.accepted store.old)
+        buffers.new sessions.new (store_and_births S.failed S.accepted store.new) result }
 {
     let user = sessions[at].user;
     set_kind(&mut sessions[at], Kind::Other);
     // It was granted when it was planned.
     let _done = kill_buffer(buffers, directory, &user, sessions, name);
+    store.births.record_kill(name);
     Touched::Anywhere
 }
 
@@ -128,20 +132,20 @@ fn scroll(session: &mut Session, rows: RowPane)
 
 /// The text of the buffer of a name is handed to the store, by an act of the session at `at`, and what the store answers is told, and
 /// what that touched. No memory is taken.
-fn save<T: Marked + Drop, S: Store>(
+fn save<T: Marked + Drop, S: Store + Drop>(
     buffers: &mut Buffers<T>,
     directory: &Directory,
     sessions: &mut [Session],
     at: usize,
     name: &Name,
-    store: &mut S,
+    store: &mut WithBirths<S>,
 ) -> Touched
     requires { IsReady directory.now at buffers.old sessions.old (Saves name.now) }
     ensures sound { IsSound buffers.new sessions.new }
-    ensures done { IsDone directory.now at (Saves name.now) buffers.old sessions.old (store_told S.failed S.accepted store.old)
-        buffers.new sessions.new (store_told S.failed S.accepted store.new) result }
+    ensures done { IsDone directory.now at (Saves name.now) buffers.old sessions.old (store_and_births S.failed S.accepted store.old)
+        buffers.new sessions.new (store_and_births S.failed S.accepted store.new) result }
 {
-    match buffers.save_as(directory, &sessions[at].user, name, store) {
+    match buffers.save_as(directory, &sessions[at].user, name, &mut store.store) {
         Ok(()) => {
             finish(&mut sessions[at], Kind::Other, Message::Wrote(*name));
             Touched::In(*name)
@@ -160,18 +164,18 @@ fn save<T: Marked + Drop, S: Store>(
 
 /// Does what was decided for the session at `at`, which is at rest, and tells what that touched. `Short`: memory was refused, the
 /// world is as it was, the store was not asked, and it takes memory, as no save does.
-pub fn do_decided<T: Marked + Drop, S: Store>(
+pub fn do_decided<T: Marked + Drop, S: Store + Drop>(
     buffers: &mut Buffers<T>,
     directory: &Directory,
     sessions: &mut [Session],
     at: usize,
-    store: &mut S,
+    store: &mut WithBirths<S>,
     outcome: &Outcome,
 ) -> Result<Touched, Short>
     requires { IsReady directory.now at buffers.old sessions.old outcome.now }
     ensures sound { IsSound buffers.new sessions.new }
-    ensures done { IfOk result (IsDone directory.now at outcome.now buffers.old sessions.old (store_told S.failed S.accepted store.old)
-        buffers.new sessions.new (store_told S.failed S.accepted store.new)) }
+    ensures done { IfOk result (IsDone directory.now at outcome.now buffers.old sessions.old (store_and_births S.failed S.accepted store.old)
+        buffers.new sessions.new (store_and_births S.failed S.accepted store.new)) }
     ensures err { OnErr result (IsUnchanged buffers.old sessions.old buffers.new sessions.new) }
     ensures unasked { OnErr result (store.new ≡ store.old) }
     ensures may { OnErr result (TakesMemory at outcome.now buffers.old sessions.old) }
@@ -185,7 +189,7 @@ pub fn do_decided<T: Marked + Drop, S: Store>(
             let spot = Spot { marks, at: *place };
             perform(buffers, directory, sessions, at, spot, action)
         }
-        Outcome::Kills(name) => Ok(kill(buffers, directory, sessions, at, name)),
+        Outcome::Kills(name) => Ok(kill(buffers, directory, sessions, at, name, store)),
         Outcome::SetsOwners(name, new) => Ok(assign(buffers, directory, sessions, at, name, *new)),
         Outcome::SetsList(name, plan) => Ok(set_list(buffers, directory, sessions, at, name, plan)),
         Outcome::Lists(name) => {
@@ -196,7 +200,7 @@ pub fn do_decided<T: Marked + Drop, S: Store>(
             show(buffers, sessions, at, name)?;
             Ok(Touched::Nowhere)
         }
-        Outcome::Creates(name) => show_created(buffers, directory, sessions, at, *name),
+        Outcome::Creates(name) => show_created(buffers, directory, sessions, at, *name, store),
         Outcome::Copies(marks, source, place) => {
             let copying = Copying {
                 marks,

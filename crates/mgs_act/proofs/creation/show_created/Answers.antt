@@ -1,11 +1,15 @@
-use Rattle.std.proofs.Common.{get_or, refl, sym, subst, ap}
+use Rattle.std.proofs.Common.{[], ◌∷◌, get_or, refl, sym, subst, ap}
+use Rattle.mgs_births.specs.StoreBirths.{store_and_births}
+use Rattle.mgs_births.specs.Telling.{StoreTold, Tells}
 use Rattle.mgs_model.specs.declared.touched.Touched.TheVariants.{Anywhere}
 use Rattle.mgs_buffers.specs.MarkedBuffer.{HasBuffer}
 use Rattle.mgs_session.specs.declared.Session.{Session}
 use Rattle.mgs_plan.specs.declared.outcome.Outcome.TheVariants.{Creates}
 use Rattle.mgs_world.specs.Sound.{IsSound}
 use Rattle.mgs_act.proofs.Created.{created_kept, created_sound, made_granted, made_kept, made_world, unmade_sound, unmade_world}
-use Rattle.mgs_act.proofs.Done.{can_at, granted_done, quietly}
+use Rattle.mgs_model.specs.Outcome.{Create}
+use Rattle.mgs_births.proofs.Tells.{tells_born}
+use Rattle.mgs_act.proofs.Done.{can_at, granted_done, here_is, tellingly}
 use Rattle.mgs_act.proofs.Switches.{created_done}
 use Rattle.mgs_act.proofs.creation.show_created.Goals as goal
 
@@ -32,12 +36,14 @@ returns-in_default-clause-done g c =
     let ks = c.args.buffers.now in
     let xs = c.args.sessions.now in
     let r = c.index-sessions-at.result in
-    quietly d c.args.at (Creates c.args.name) ks _ xs _ Anywhere (λ id next h place found. (
+    let s = store_and_births g.S.Store.failed g.S.Store.accepted c.args.store.now in
+    let t : StoreTold = record { failed = s.failed; accepted = s.accepted; births = c.record_creation.new.self } in
+    tellingly d c.args.at (Creates c.args.name) ks _ xs _ Anywhere s t (λ id next h place found. (
       created_done d ks xs next id c.args.at h found place c.requires.within c.requires.fresh _ c.args.name c.show.ensures.selected
           (λ x there known. made_world d ks c.create.new.self c.show.new.buffers xs c.show.new.sessions next id c.args.at c.args.name (get_or xs c.args.at r) x c.in_ok-create.ensures.ok there c.requires.within (ap (get_or xs c.args.at) c.index-sessions-at.is) known
           (λ seen. c.in_default.ensures.ok d id next x there seen)),
       refl,
-      refl,
+      subst (λ (y : Session). Tells (Create c.args.name y.user ∷ []) s t) (here_is xs c.args.at r h c.requires.within found) (tells_born s t (Create c.args.name (get_or xs c.args.at r).user) refl refl (c.record_creation.ensures (get_or xs c.args.at r).user)),
     ))
 
 pub returns : goal.returns
@@ -56,5 +62,6 @@ returns g c =
     record {
       sound = unmade_sound name h.user ks cs ls kill.new.self c.show.new.sessions free c.in_ok-create.ensures.ok c.in-Err.ensures.unmarked without gone c.show.ensures.sound;
       done = tt;
+      untold = refl;
       err = λ directory next. unmade_world name h.user ks cs ls kill.new.self c.show.new.sessions free c.in_ok-create.ensures.ok c.in-Err.ensures.unmarked without gone c.show.ensures.sound xs directory next (c.in-Err.ensures.err directory next);
     }

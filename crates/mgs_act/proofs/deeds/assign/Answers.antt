@@ -29,4 +29,4 @@ returns-clause-done g c =
     quietly d c.args.at (SetsOwners c.args.name.now c.args.new) ks _ xs _ Anywhere
     (λ id next h place found.
     let same = c.set_kind.ensures ∙ ap (acted Other) (here_is xs c.args.at c.index-sessions-at-2.result h c.requires.within found) in
-    (rw (c.set_owner.ensures, same) (owners_set_so d ks xs next id c.args.at h place c.requires.within found (fresh_state xs c.args.at h found c.requires.fresh) c.args.name.now c.args.new), refl, refl))
+    (rw (c.set_owner.ensures, same) (owners_set_so d ks xs next id c.args.at h place c.requires.within found (fresh_state xs c.args.at h found c.requires.fresh) c.args.name.now c.args.new), refl, (refl, λ b. refl)))

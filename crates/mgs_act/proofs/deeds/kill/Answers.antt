@@ -9,7 +9,9 @@ use Rattle.mgs_world.specs.Worlds.{world_of}
 use Rattle.mgs_world.proofs.Soundness.{sound_set}
 use Rattle.mgs_plan.proofs.Deeds.{fresh_state}
 use Rattle.mgs_act.proofs.Kills.{killed_so}
-use Rattle.mgs_act.proofs.Done.{can_at, granted_done, here_is, quietly}
+use Rattle.mgs_model.specs.Outcome.{Kill}
+use Rattle.mgs_births.proofs.Tells.{tells_born}
+use Rattle.mgs_act.proofs.Done.{can_at, granted_done, here_is, tellingly}
 use Rattle.mgs_act.proofs.deeds.kill.Goals as goal
 
 pub kill_buffer-done-requires-clause-sound : goal.kill_buffer-done-requires-clause-sound
@@ -28,11 +30,11 @@ returns-clause-done g c =
     let xs = c.args.sessions.now in
     let name = c.args.name.now in
     let without = granted_done c.kill_buffer-done.result _ c.kill_buffer-done.ensures.answer (can_at c.requires c.index-sessions-at.result).granted c.kill_buffer-done.ensures.world in
-    quietly d c.args.at (Kills name) ks _ xs _ Anywhere
+    tellingly d c.args.at (Kills name) ks _ xs _ Anywhere _ _
     (λ id next h place found. (
       without d next
           ∙ ap (λ y. world_without name (world_of d ks (slice_set xs c.args.at y) next)) (c.set_kind.ensures ∙ ap (acted Other) (here_is xs c.args.at c.index-sessions-at-2.result h c.requires.within found))
           ∙ killed_so d ks xs next id c.args.at h name place c.requires.within found (fresh_state xs c.args.at h found c.requires.fresh),
       refl,
-      refl,
+      tells_born _ _ (Kill name) refl refl c.record_kill.ensures,
     ))

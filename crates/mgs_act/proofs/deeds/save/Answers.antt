@@ -9,7 +9,9 @@ use Rattle.mgs_world.proofs.Soundness.{sound_set}
 use Rattle.mgs_world.proofs.Unmodified.{sound_unmodified}
 use Rattle.mgs_plan.proofs.Deeds.{failed_so, fresh_state}
 use Rattle.mgs_act.proofs.Done.{can_at, here_is}
-use Rattle.mgs_act.proofs.Saves.{stored_as, wrote_so}
+use Rattle.mgs_model.specs.Outcome.{No_effect, Save}
+use Rattle.mgs_births.proofs.Tells.{tells_saved}
+use Rattle.mgs_act.proofs.Saves.{saved_as, wrote_so}
 use Rattle.mgs_act.proofs.deeds.save.Goals as goal
 
 pub save_as-requires : goal.save_as-requires
@@ -36,7 +38,7 @@ returns-in-Ok-clause-done g c =
           record {
             world = rw (c.in-Ok.ensures.ok, same) (wrote_so d ks xs next id c.args.at h name text place c.requires.within found (fresh_state xs c.args.at h found c.requires.fresh));
             touches = refl;
-            saves = stored_as _ _ name text _ _ c.save_as.ensures.saved c.in-Ok.is;
+            tells = tells_saved _ _ (Save name text) (λ b. refl) (saved_as _ _ name text _ _ c.save_as.ensures.saved c.in-Ok.is) refl;
           };
     }
 
@@ -60,6 +62,6 @@ returns-in-Store-clause-done g c =
           record {
             world = rw (c.in-Err.ensures.err, same) (failed_so d ks xs next id c.args.at h (Says SaveFailed) place c.requires.within found (fresh_state xs c.args.at h found c.requires.fresh));
             touches = refl;
-            saves = stored_as _ _ name text _ _ c.save_as.ensures.saved c.in-Err.is;
+            tells = tells_saved _ _ No_effect (λ b. refl) (saved_as _ _ name text _ _ c.save_as.ensures.saved c.in-Err.is) refl;
           };
     }

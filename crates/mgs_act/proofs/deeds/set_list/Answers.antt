@@ -1,8 +1,8 @@
-use Rattle.std.proofs.Common.{get_or, refl, sym, ap, ◌∙◌}
+use Rattle.std.proofs.Common.{get_or, refl, sym, ap, subst, ◌∙◌}
 use Rattle.mgs_model.specs.Acts.{effects, list_set}
 use Rattle.mgs_laws.specs.Apart.{touched_by}
 use Rattle.mgs_model.specs.Apply.{apply}
-use Rattle.mgs_model.specs.Events.{saved_by}
+use Rattle.mgs_births.specs.Telling.{IsSilent}
 use Rattle.mgs_model.specs.declared.session.Kind.TheVariants.{Other}
 use Rattle.mgs_model.specs.declared.touched.Touched.TheVariants.{Anywhere}
 use Rattle.mgs_session.specs.Sessions.{acted}
@@ -39,5 +39,5 @@ returns-clause-done g c =
           (list_set_so d ks xs next id c.args.at h place c.requires.within found (fresh_state xs c.args.at h found c.requires.fresh) c.args.name.now can.entries
           ∙ ap (λ r. apply (world_of d ks xs next) id (effects (state_of h.state) (list_set c.args.name.now r))) (sym can.planned)),
       sym (ap (λ r. touched_by (effects (state_of h.state) (list_set c.args.name.now r)).effect) can.planned),
-      ap (λ r. saved_by (effects (state_of h.state) (list_set c.args.name.now r)).effect) can.planned,
+      subst (λ r. IsSilent (effects (state_of h.state) (list_set c.args.name.now r)).effect) (sym can.planned) (refl, λ b. refl),
     ))
