@@ -11,7 +11,7 @@ use Rattle.mgs_model.specs.Outcome.{Act}
 use Rattle.mgs_model.specs.declared.search.Direction.{Direction}
 use Rattle.mgs_model.specs.declared.touched.Touched.{Touched}
 use Rattle.mgs_laws.proofs.Apart.{apart_state, apart_same, apart_then}
-use Rattle.mgs_store.specs.Stores.{StoreTold}
+use Rattle.mgs_births.specs.Telling.{StoreTold}
 use Rattle.mgs_buffers.specs.MarkedBuffer.{MarkedBuffer}
 use Rattle.mgs_session.specs.declared.Session.{Session}
 use Rattle.mgs_plan.proofs.Tells.{apart_act}

@@ -36,7 +36,7 @@ use Rattle.mgs_session.specs.declared.search.Aim.TheVariants.{Find, Replace}
 use Rattle.mgs_session.specs.declared.search.Search.{Search}
 use Rattle.mgs_session.specs.Sessions.{failed, prompting, resting, unbound, unprompted}
 use Rattle.mgs_session.specs.Seeking.{unsearched}
-use Rattle.mgs_store.specs.Stores.{StoreTold}
+use Rattle.mgs_births.specs.Telling.{StoreTold}
 use Rattle.mgs_act.specs.Doing.{DoneBy}
 use Rattle.mgs_world.specs.Worlds.{aim_mode, buffers_of, idle, mode_in, state_of}
 use Rattle.mgs_world.proofs.Owns.{prompt_fed}

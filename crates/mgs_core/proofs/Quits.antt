@@ -1,22 +1,20 @@
 -- A byte that ends its session leaves the world as a close does.
 use Rattle.std.proofs.Common.{◌≡◌, ℕ, true, false, List, [], Some, None, refl, sym, ap, subst, ◌∙◌, arith}
 use Rattle.std.specs.Prelude.{IsSome, is_some}
-use Rattle.std.specs.List.{flat_map}
 use Rattle.mgs_model.specs.World.{World, Session, find_session}
-use Rattle.mgs_model.specs.Outcome.{Act, Run}
+use Rattle.mgs_model.specs.Outcome.{Act, Effect, Run}
 use Rattle.mgs_model.specs.Apply.{act, without_session}
-use Rattle.mgs_model.specs.Events.{Saved, act_effects, begun_state, rests, saved_by, settled, turn_in, with_state}
+use Rattle.mgs_model.specs.Events.{act_effects, begun_state, rests, settled, turn_in, with_state}
 use Rattle.mgs_model.specs.declared.errors.Keyed.{Keyed}
 use Rattle.mgs_model.specs.declared.errors.Keyed.TheVariants as keyed
 use Rattle.mgs_model.specs.declared.session.Command.TheVariants.{Exit}
 use Rattle.mgs_laws.proofs.After.{find_without}
 use Rattle.mgs_laws.proofs.Ends.{act_ends}
-use Rattle.mgs_laws.proofs.Led.{Leads, leads_acted}
+use Rattle.mgs_core.proofs.Led.{Leads, leads_acted}
 use Rattle.mgs_laws.proofs.LeftToDo.{found_state, rests_found}
-use Rattle.mgs_laws.proofs.Saves.{act_saves_none}
-use Rattle.mgs_laws.proofs.Turned.{saves_done, step_done}
-use Rattle.mgs_store.specs.Stores.{StoreTold, told_more}
-use Rattle.mgs_store.proofs.Told.{told_none}
+use Rattle.mgs_core.proofs.Bytes.{effects_done, step_done}
+use Rattle.mgs_core.proofs.Silent.{act_told, exit_silent}
+use Rattle.mgs_births.specs.Telling.{StoreTold, Tells}
 use Rattle.mgs_world.specs.declared.size.Size.{Size}
 use Rattle.mgs_world.specs.Worlds.{IsUnique, sizes}
 use Rattle.mgs_core.specs.Calls.{KeyedBy, closed, sizes_keyed}
@@ -53,10 +51,10 @@ module _ (w start now : World) (before after : StoreTold) (id byte : ℕ) (begin
   gone : find_session id ended.sessions ≡ None
   gone = ap (λ (v : World). find_session id v.sessions) ended_is ∙ find_without id started.sessions
 
-  abbrev saved : List Saved
-  saved = flat_map saved_by (act_effects (with_state id (λ was. t.state) started) id exits true)
+  abbrev done : List Effect
+  done = act_effects (with_state id (λ was. t.state) started) id exits true
 
-  leads : Leads id true 1 saved started ended
+  leads : Leads id true 1 done started ended
   leads = leads_acted id true started ended t.state exits (ap (λ (u : World). turn_in u id) (sym begins) ∙ t.turn) refl
 
   over : rests (turn_in ended id) ≡ true
@@ -71,16 +69,15 @@ module _ (w start now : World) (before after : StoreTold) (id byte : ℕ) (begin
         step =
             sym (closed_rests w id rest)
             ∙ ap settled (sym ended_closed)
-            ∙ sym (step_done w ended id byte true 1 saved here leads (within_most 1 (omega arith)) over);
+            ∙ sym (step_done w ended id byte true 1 done here leads (within_most 1 (omega arith)) over);
         short = (λ e. cc, λ e. cc);
         no_session = (λ e. cc, λ e. not_found (find_session id w.sessions) here e);
         quit = (λ e. (here, ap (λ (v : World). find_session id v.sessions) (sym ended_closed) ∙ gone), λ e. refl);
         may = λ e. cc;
         fault = λ e. cc;
-        saves =
-            ap (λ (s : StoreTold). s.accepted) t.left
-            ∙ told_none before.accepted saved (act_saves_none (with_state id (λ was. t.state) started) id exits true refl)
-            ∙ sym (ap (λ (xs : List Saved). told_more xs before.accepted) (saves_done w ended id byte true 1 saved here leads (within_most 1 (omega arith)) over));
+        tells =
+            subst (λ (es : List Effect). Tells es before after) (sym (effects_done w ended id byte true 1 done here leads (within_most 1 (omega arith)) over))
+            (subst (λ (u : StoreTold). Tells done before u) (sym t.left) (act_told (with_state id (λ was. t.state) started) id exits true before (exit_silent t.argument true)));
         unasked = λ e. cc;
       }
 

@@ -1,6 +1,5 @@
 -- An act that starts a search: it goes by no search that was there before.
-use Rattle.std.proofs.Common.{◌≡◌, ℕ, Bool, cond, List, [], ◌∷◌, map, map-id, Option, Some, None, refl, sym, ap, ◌∙◌}
-use Rattle.std.specs.List.{flat_map}
+use Rattle.std.proofs.Common.{◌≡◌, ℕ, Bool, cond, List, [], ◌∷◌, map, map-id, Option, Some, None, refl, sym, ap, subst, ◌∙◌}
 use Rattle.std.specs.Option.{option_map}
 use Rattle.mgs_model.specs.World.{World, State, Search, Session, find_session, has_id}
 use Rattle.mgs_model.specs.View.{View, view, text_in, size_told}
@@ -9,7 +8,7 @@ use Rattle.mgs_model.specs.Plans.{failed_state}
 use Rattle.mgs_model.specs.SearchCommands.{Keep_mode, SearchFinish, seek}
 use Rattle.mgs_model.specs.Acts.{Request, Target, acts_at, allowed, around_search, judged, needs, or_else, outcome, permitted, request_judged, search_finished_state, seeks, target}
 use Rattle.mgs_model.specs.Apply.{act, applied, apply, change_first, outcome_in, is_search_mode, session_after, session_arranged}
-use Rattle.mgs_model.specs.Events.{act_effects, effect_in, state_set, saved_by, with_state}
+use Rattle.mgs_model.specs.Events.{act_effects, effect_in, state_set, with_state}
 use Rattle.mgs_model.specs.declared.entry.Decision.{Decision}
 use Rattle.mgs_model.specs.declared.entry.Decision.TheVariants.{Granted}
 use Rattle.mgs_model.specs.declared.echo_text.Message.TheVariants.{Says, Denied}
@@ -18,7 +17,7 @@ use Rattle.mgs_model.specs.declared.search.Direction.{Direction}
 use Rattle.mgs_model.specs.declared.session.Command.TheVariants.{Seek}
 use Rattle.mgs_model.specs.declared.session.Seeking.TheVariants.{StartSearch}
 use Rattle.mgs_model.proofs.Firsts.{change_first_found, change_twice, find-change_first}
-use Rattle.mgs_store.specs.Stores.{StoreTold, told_more}
+use Rattle.mgs_births.specs.Telling.{StoreTold, Tells}
 use Rattle.mgs_plan.specs.declared.key_act.KeyAct.{KeyAct}
 use Rattle.mgs_plan.specs.declared.key_act.KeyAct.TheVariants as acts
 use Rattle.mgs_plan.specs.Actions.{act_of}
@@ -119,6 +118,6 @@ begun_act w id o (acts.Run (Seek (StartSearch d)) n) x new before after found di
   stored = did.stored;
   world = did.world ∙ started_act w id o d n x found did.stored;
   fault = did.fault;
-  saves = did.saves ∙ ap (λ (es : List Effect). told_more (flat_map saved_by es) before.accepted) (started_effects w id o d n x found did.stored);
+  tells = subst (λ (es : List Effect). Tells es before after) (started_effects w id o d n x found did.stored) did.tells;
 }
 begun_act w id o _ x new before after found did = did

@@ -1,7 +1,7 @@
 -- A turn of the session at a place, in the world.
 use Rattle.std.proofs.Common.{◌≡◌, ℕ, ◌<◌, Bool, true, false, List, [], ◌∷◌, get_or, length, map, cond, Option, Some, None, refl, sym, ap, subst, ◌∙◌, arith}
 use Rattle.std.specs.Prelude.{slice_get, slice_set, is_some, not, ◌≤◌}
-use Rattle.std.specs.List.{flat_map, position_or_len}
+use Rattle.std.specs.List.{position_or_len}
 use Rattle.std.specs.Option.{option_map}
 use Rattle.std.proofs.lemmas.List.{map-set}
 use Rattle.std.proofs.lemmas.Option.{slice_get-map}
@@ -15,7 +15,7 @@ use Rattle.mgs_model.specs.Apply.{act, outcome_in, is_search_mode}
 use Rattle.mgs_model.specs.Acts.{without_all}
 use Rattle.mgs_model.specs.View.{View, view}
 use Rattle.mgs_model.specs.Turns.{Turn, Keep, Do, todo_turn}
-use Rattle.mgs_model.specs.Events.{act_effects, state_set, refused_state, saved_by, settled, turn_in, with_state}
+use Rattle.mgs_model.specs.Events.{act_effects, state_set, refused_state, settled, turn_in, with_state}
 use Rattle.mgs_laws.specs.Refusals.{may_be_refused}
 use Rattle.mgs_model.specs.declared.search.SearchStep.{SearchStep}
 use Rattle.mgs_model.specs.declared.session.Command.TheVariants as commands
@@ -49,8 +49,7 @@ use Rattle.mgs_plan.specs.Searching.{meant}
 use Rattle.mgs_buffers.specs.MarkedBuffer.{AreWithinLimit, MarkedBuffer}
 use Rattle.mgs_session.specs.declared.Session.{Session}
 use Rattle.mgs_session.specs.declared.search.Search.{Search}
-use Rattle.mgs_store.specs.Stores.{StoreTold}
-use Rattle.mgs_store.proofs.Told.{told_none}
+use Rattle.mgs_births.specs.Telling.{StoreTold}
 use Rattle.mgs_world.specs.Worlds.{aim_input, aim_mode, aim_old, buffers_of, count_in, input_in, keys_in, mode_in, old_in, state_at, state_of, state_or_first, search_at, search_of, session_id, session_of, size_found, size_in, size_named, sizes_in, world_of}
 use Rattle.mgs_world.proofs.Sessions.{session_some}
 use Rattle.mgs_world.proofs.Soundness.{sizes_set}
@@ -78,7 +77,8 @@ use Rattle.mgs_core.proofs.Steps.{session_there, set_there, world_changed}
 use Rattle.mgs_core.proofs.Turned.{AllLeft, all_less, all_none, all_same, all_without, more_weight, none_weight, some_left, without_same, without_within}
 use Rattle.mgs_core.proofs.Fitting.{replaced_fits}
 use Rattle.mgs_core.proofs.Stepped.{fit_empty, fit_none}
-use Rattle.mgs_core.proofs.Told.{quietly}
+use Rattle.mgs_core.proofs.Told.{nowhere_quietly, quietly}
+use Rattle.mgs_core.proofs.Silent.{act_told, replace_silent}
 use Rattle.mgs_core.proofs.Turns.{mode_replacing}
 
 -- what the session at a place holds
@@ -142,7 +142,7 @@ pub skipped_quietly : (old new : World) (t : StoreTold) (id : ℕ) (xs : List Se
     → ((s : Search) (r : Replacing) → search_held at xs ≡ Some s → s.aim ≡ Replace r → new ≡ act old id (Run (Seek SkipMatch) None r.put) true) → DoneBy Nowhere old new t t id (Run (Seek SkipMatch) None (state_at at xs).input)
 skipped_quietly old new t id xs at ready world =
     let there = replace_there (slice_get xs at) ready in
-    rw there.4 (quietly Nowhere old new t id (Run (Seek SkipMatch) None there.1.put) refl (world there.0 there.1 there.2 there.3) (sym (quiet_seeking old id None there.1.put true SkipMatch)))
+    rw there.4 (nowhere_quietly old new t id (Run (Seek SkipMatch) None there.1.put) (world there.0 there.1 there.2 there.3) (sym (quiet_seeking old id None there.1.put true SkipMatch)))
 
 pub replaced_quietly : (touched : Touched) (old new : World) (t : StoreTold) (id : ℕ) (xs : List Session) (at : ℕ) (last : Bool) → is_replacing (search_held at xs) ≡ true
     → ((s : Search) (r : Replacing) → search_held at xs ≡ Some s → s.aim ≡ Replace r → new ≡ act old id (Run (commands.Replace (replacement last)) None r.put) true)
@@ -150,7 +150,7 @@ pub replaced_quietly : (touched : Touched) (old new : World) (t : StoreTold) (id
     → DoneBy touched old new t t id (Run (commands.Replace (replacement last)) None (state_at at xs).input)
 replaced_quietly touched old new t id xs at last ready world tells =
     let there = replace_there (slice_get xs at) ready in
-    rw there.4 (quietly touched old new t id (Run (commands.Replace (replacement last)) None there.1.put) refl (world there.0 there.1 there.2 there.3) (tells there.0 there.1 there.2 there.3))
+    rw there.4 (quietly touched old new t id (Run (commands.Replace (replacement last)) None there.1.put) (act_told old id (Run (commands.Replace (replacement last)) None there.1.put) true t (replace_silent (replacement last) None there.1.put true)) (world there.0 there.1 there.2 there.3) (tells there.0 there.1 there.2 there.3))
 
 pub replaced_may : (w : World) (id : ℕ) (xs : List Session) (at : ℕ) (last : Bool) → is_replacing (search_held at xs) ≡ true
     → ((s : Search) (r : Replacing) → search_held at xs ≡ Some s → s.aim ≡ Replace r → may_be_refused (outcome_in w id (Run (commands.Replace (replacement last)) None r.put) true) ≡ true)
@@ -165,17 +165,17 @@ started_replacing old new t id b p pattern put asked first input world =
     let v : World = with_state id (replacing_state pattern put) old in
     subst (λ (xs : List ℕ). DoneBy Nowhere (with_state id (replacing_state (asked_of b).first xs) old) new t t id (Run (Seek StartReplace) None xs)) (input ∙ ap (λ (q : PromptInput). q.input) asked)
     (subst (λ (xs : List ℕ). DoneBy Nowhere (with_state id (replacing_state xs put) old) new t t id (Run (Seek StartReplace) None put)) (first ∙ ap (λ (q : PromptInput). q.first) asked)
-    (quietly Nowhere v new t id (Run (Seek StartReplace) None put) refl world (sym (quiet_seeking v id None put true StartReplace))))
+    (nowhere_quietly v new t id (Run (Seek StartReplace) None put) world (sym (quiet_seeking v id None put true StartReplace))))
 
 pub sought_quietly : (old new : World) (t : StoreTold) (id : ℕ) (xs : List Session) (at : ℕ) (step : SearchStep) → is_finding (search_held at xs) ≡ true
     → ((s : Search) (f : Sought) → search_held at xs ≡ Some s → s.aim ≡ Find f → new ≡ act old id (Run (Seek (SearchOn f.direction step)) None f.pattern) true) → DoneBy Nowhere old new t t id (seek_act (state_at at xs).mode step (state_at at xs).input)
 sought_quietly old new t id xs at step ready world =
     let there = seek_there (slice_get xs at) step ready in
     let f = there.1 in
-    rw there.4 (quietly Nowhere old new t id (Run (Seek (SearchOn f.direction step)) None f.pattern) refl (world there.0 f there.2 there.3) (sym (quiet_seeking old id None f.pattern true (SearchOn f.direction step))))
+    rw there.4 (nowhere_quietly old new t id (Run (Seek (SearchOn f.direction step)) None f.pattern) (world there.0 f there.2 there.3) (sym (quiet_seeking old id None f.pattern true (SearchOn f.direction step))))
 
 pub quit_quietly : (old new : World) (t : StoreTold) (id : ℕ) → new ≡ act old id (Run LeaveSearch None []) true → DoneBy Nowhere old new t t id (Run LeaveSearch None [])
-quit_quietly old new t id world = quietly Nowhere old new t id (Run LeaveSearch None []) refl world (sym (quiet_leaving old id None [] true))
+quit_quietly old new t id world = nowhere_quietly old new t id (Run LeaveSearch None []) world (sym (quiet_leaving old id None [] true))
 
 -- AN ACT THAT IS REFUSED
 
@@ -364,7 +364,7 @@ module _ (d : Directory) (ks : List MarkedBuffer) (xs : List Session) (next : Op
                 ∙ ap (λ (o : model.State). with_state id (λ was. o) w) s.told
                 ∙ sym (act_fails w id s.before s.act s.message true (session_of ks h) (session_some d ks xs next id at h place within is_h) (λ z seen. s.fails z s.before.kind seen));
             fault = λ e. cc;
-            saves = told_none t.accepted (flat_map saved_by (act_effects v id s.act true)) (s.quiet v id);
+            tells = s.quiet v id t;
           },
         );
       }

@@ -1,20 +1,21 @@
 -- What the store tells of an act, of one that saves and of one that does not.
 use Rattle.std.proofs.Common.{◌≡◌, ℕ, true, false, [], Option, Some, refl, sym, subst}
-use Rattle.std.specs.List.{flat_map}
 use Rattle.mgs_model.specs.World.{World}
 use Rattle.mgs_model.specs.Outcome as outcomes
 use Rattle.mgs_model.specs.Outcome.{Act}
 use Rattle.mgs_model.specs.Apply.{act, outcome_in}
-use Rattle.mgs_model.specs.Events.{act_effects, saved_by, with_state}
+use Rattle.mgs_model.specs.Events.{act_effects, with_state}
 use Rattle.mgs_model.specs.declared.errors.Keyed.{Keyed}
 use Rattle.mgs_model.specs.declared.search.Direction.{Direction}
 use Rattle.mgs_model.specs.declared.session.Command.TheVariants.{Seek}
 use Rattle.mgs_model.specs.declared.session.Seeking.TheVariants.{StartSearch}
 use Rattle.mgs_model.specs.declared.touched.Touched.{Touched}
 use Rattle.mgs_model.specs.declared.touched.Touched.TheVariants.{Nowhere}
-use Rattle.mgs_laws.proofs.Saves.{is_save, act_saves_none}
-use Rattle.mgs_store.specs.Stores.{StoreTold}
-use Rattle.mgs_store.proofs.Told.{told_none}
+use Rattle.mgs_model.specs.View.{View}
+use Rattle.mgs_model.specs.Acts.{outcome}
+use Rattle.mgs_births.specs.Telling.{Tells}
+use Rattle.mgs_core.proofs.Silent.{nowhere_told}
+use Rattle.mgs_births.specs.Telling.{StoreTold}
 use Rattle.mgs_plan.specs.declared.key_act.KeyAct.{KeyAct}
 use Rattle.mgs_plan.specs.declared.key_act.KeyAct.TheVariants.{Run}
 use Rattle.mgs_plan.specs.Actions.{act_of}
@@ -26,12 +27,16 @@ use Rattle.mgs_act.specs.Doing.{DoneBy}
 use Rattle.mgs_core.specs.KeyActs.{started_by, started_world}
 use Rattle.mgs_core.specs.Calls.{KeyedBy}
 
--- an act that is no save leaves the store
-pub quietly : (touched : Touched) (old new : World) (t : StoreTold) (id : ℕ) (c : Act) → is_save c ≡ false → new ≡ act old id c true → touched ≡ touched_in (outcome_in old id c true) → DoneBy touched old new t t id c
-quietly touched old new t id c other world tells = record {
-  acted = record { stored = true; world = world; fault = λ e. cc; saves = told_none t.accepted (flat_map saved_by (act_effects old id c true)) (act_saves_none old id c true other) };
+-- an act of which nothing is told leaves the store and the births
+pub quietly : (touched : Touched) (old new : World) (t : StoreTold) (id : ℕ) (c : Act) → Tells (act_effects old id c true) t t → new ≡ act old id c true → touched ≡ touched_in (outcome_in old id c true) → DoneBy touched old new t t id c
+quietly touched old new t id c told world tells = record {
+  acted = record { stored = true; world = world; fault = λ e. cc; tells = told };
   tells = tells;
 }
+
+-- one that touches nothing
+pub nowhere_quietly : (old new : World) (t : StoreTold) (id : ℕ) (c : Act) → new ≡ act old id c true → Nowhere ≡ touched_in (outcome_in old id c true) → DoneBy Nowhere old new t t id c
+nowhere_quietly old new t id c world tells = quietly Nowhere old new t id c (nowhere_told (outcome_in old id c true) t (sym tells)) world tells
 
 -- a search that starts, whatever the argument of its act
 pub started_quietly : (old new : World) (t : StoreTold) (id : ℕ) (a : KeyAct) (d : Direction) → started_by a ≡ Some d
@@ -39,7 +44,7 @@ pub started_quietly : (old new : World) (t : StoreTold) (id : ℕ) (a : KeyAct) 
 started_quietly old new t id (Run (Seek (StartSearch e)) n) d is world =
     let same : e ≡ d = cc in
     let v : World = with_state id (searching_state d) old in
-    rw same (quietly Nowhere v new t id (outcomes.Run (Seek (StartSearch d)) n []) refl (world n) (sym (quiet_seeking v id n [] true (StartSearch d))))
+    rw same (nowhere_quietly v new t id (outcomes.Run (Seek (StartSearch d)) n []) (world n) (sym (quiet_seeking v id n [] true (StartSearch d))))
 started_quietly old new t id _ d is world = cc
 
 -- what is seen of a server

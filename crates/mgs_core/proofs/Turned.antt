@@ -2,25 +2,25 @@
 use Rattle.std.proofs.Common.{◌≡◌, ℕ, zero, suc, ◌+◌, ◌≤◌, ◌<◌, Bool, true, false, List, [], ◌∷◌, ◌++◌, Option, Some, None, refl, sym, ap, subst, ◌∙◌, arith}
 use Rattle.std.specs.Prelude.{not, ◌||◌}
 use Rattle.std.specs.Option.{option_map}
-use Rattle.std.specs.List.{flat_map}
 use Rattle.mgs_model.specs.World.{World, Session, State, Todo, Played, Replace_all, Play, find_session}
-use Rattle.mgs_model.specs.Outcome.{Act, Outcome, Run}
-use Rattle.mgs_model.specs.Apply.{act, applied}
+use Rattle.mgs_model.specs.Outcome.{Act, Effect, Outcome, Run}
+use Rattle.mgs_model.specs.Apply.{applied, outcome_in}
 use Rattle.mgs_model.specs.declared.session.Command.TheVariants.{SaveBuffer}
-use Rattle.mgs_laws.proofs.Saves.{act_saves_none, is_save}
 use Rattle.mgs_model.specs.Acts.{allowed, judged, needs, outcome, permitted, without_all}
 use Rattle.mgs_model.specs.Turns.{todo_turn}
 use Rattle.mgs_model.specs.View.{View, view, view_of}
-use Rattle.mgs_model.specs.Events.{Saved, act_effects, begun_state, most_turns, rests, saved_by, settled, turn_in, with_state}
+use Rattle.mgs_model.specs.Events.{act_effects, begun_state, effect_in, most_turns, rests, settled, turn_in, with_state}
 use Rattle.mgs_laws.specs.Refusals.{may_be_refused}
 use Rattle.mgs_model.specs.declared.errors.Keyed.{Keyed}
 use Rattle.mgs_model.specs.declared.errors.Keyed.TheVariants.{Done, Short}
 use Rattle.mgs_model.specs.declared.errors.Keyed.TheVariants as keyed
-use Rattle.mgs_laws.proofs.Led.{Leads, LeadsOnce, acts_on, leads_kept, leads_nowhere, leads_on, leads_once, memory_behind}
-use Rattle.mgs_laws.proofs.Plays.{act_saves_nothing}
-use Rattle.mgs_laws.proofs.Turned.{act_short, leads_played, saves_done, saves_short, step_done, step_short, turn_todo}
-use Rattle.mgs_store.specs.Stores.{StoreTold, IsCounted, told_more}
-use Rattle.mgs_store.proofs.Told.{told_none, told_twice}
+use Rattle.mgs_core.proofs.Led.{Leads, LeadsOnce, acts_on, leads_kept, leads_nowhere, leads_on, leads_once, memory_behind}
+use Rattle.mgs_laws.proofs.Turned.{turn_todo}
+use Rattle.mgs_core.proofs.Played.{played_alike}
+use Rattle.mgs_core.proofs.Bytes.{act_short, effects_done, effects_short, step_done, step_short}
+use Rattle.mgs_store.specs.Stores.{IsCounted}
+use Rattle.mgs_births.specs.Telling.{StoreTold, Tells}
+use Rattle.mgs_births.proofs.Tells.{tells_none, tells_twice}
 use Rattle.mgs_session.specs.Playing.{is_nothing}
 use Rattle.mgs_core.specs.Turns.{EventBy, IsLess, IsTurnDone, IsWithin, TurnDone, TurnEnds, TurnRefused, TurnedBy, asks, goes_on, has_all, is_played, turn_to, weight}
 use Rattle.mgs_core.proofs.Steps.{not_found}
@@ -63,19 +63,19 @@ without_within n _ h = h
 
 -- AN EVENT SO FAR: so many turns, which lead from its start to the world as it is, with this answer of the store
 pub record SoFar (id used : ℕ) (stored : Bool) (start now : World) (before after : StoreTold) : Type 0 where
-  pub saved : List Saved
-  pub leads : Leads id stored used saved start now
+  pub effects : List Effect
+  pub leads : Leads id stored used effects start now
   pub fault : stored ≡ false → IsCounted before.failed after.failed
-  pub saves : after.accepted ≡ told_more saved before.accepted
+  pub tells : Tells effects before after
   -- no act asked it for anything
   pub still : leads.acts ≡ 0 → after ≡ before
 
 pub at_start : (id : ℕ) (w : World) (t : StoreTold) → SoFar id 0 true w w t t
 at_start id w t = record {
-  saved = [];
+  effects = [];
   leads = leads_nowhere id true w;
   fault = λ e. cc;
-  saves = told_none t.accepted [] refl;
+  tells = tells_none t;
   still = λ e. refl;
 }
 
@@ -83,37 +83,33 @@ some_act : (n : ℕ) {X : Type 0} → n ≡ 1 → n ≡ 0 → X
 some_act zero one none = cc
 some_act (suc n) one none = cc
 
--- where the store has refused nothing, and one more turn leads on, which saves nothing
-more : (id used : ℕ) (start now new : World) (before mid after : StoreTold) → SoFar id used true start now before mid → (on : Leads id true 1 [] now new) → after.accepted ≡ mid.accepted → (on.acts ≡ 0 → after ≡ mid) → SoFar id (used + 1) true start new before after
-more id used start now new before mid after s on same still = record {
-  saved = s.saved ++ [];
-  leads = leads_on id true used 1 s.saved [] start now new s.leads on;
+-- where the store has refused nothing, and one more turn leads on, of which this is told
+more : (id used : ℕ) (start now new : World) (before mid after : StoreTold) (es : List Effect) → SoFar id used true start now before mid → (on : Leads id true 1 es now new) → Tells es mid after → (on.acts ≡ 0 → after ≡ mid) → SoFar id (used + 1) true start new before after
+more id used start now new before mid after es s on told still = record {
+  effects = s.effects ++ es;
+  leads = leads_on id true used 1 s.effects es start now new s.leads on;
   fault = λ e. cc;
-  saves =
-      same
-      ∙ s.saves
-      ∙ told_none (told_more s.saved before.accepted) [] refl
-      ∙ told_twice before.accepted s.saved [];
+  tells = tells_twice s.effects es before mid after s.tells told;
   still = λ e.
-      let none : s.leads.acts + on.acts ≡ 0 = sym (acts_on id true used 1 s.saved [] start now new s.leads on) ∙ e in
+      let none : s.leads.acts + on.acts ≡ 0 = sym (acts_on id true used 1 s.effects es start now new s.leads on) ∙ e in
       still (omega arith) ∙ s.still (omega arith);
 }
+
+-- nothing is told of a turn that changes its session's state alone
+kept_told : (s t : StoreTold) → t ≡ s → Tells [] s t
+kept_told s t same = subst (λ (u : StoreTold). Tells [] s u) (sym same) (tells_none s)
 
 -- an act that saves nothing is the same for any answer of the store
 unasked_alike : (v : View) (c : Act) (s t : Bool) → asks c ≡ false → allowed v c s ≡ allowed v c t
 unasked_alike v (Run SaveBuffer n typed) s t h = cc
 unasked_alike v _ s t h = refl
 
-unasked_act : (w : World) (id : ℕ) (c : Act) (s t : Bool) → asks c ≡ false → act w id c s ≡ act w id c t
+unasked_act : (w : World) (id : ℕ) (c : Act) (s t : Bool) → asks c ≡ false → outcome_in w id c s ≡ outcome_in w id c t
 unfolding outcome
-unasked_act w id c s t h = ap (applied w id) (elim (view_of w id) as (λ o. option_map (λ (v : View). outcome v c s) o ≡ option_map (λ (v : View). outcome v c t) o) [
+unasked_act w id c s t h = elim (view_of w id) as (λ o. option_map (λ (v : View). outcome v c s) o ≡ option_map (λ (v : View). outcome v c t) o) [
   | None ↦ refl
   | Some v ↦ ap (λ (o : Outcome). Some (permitted v.session.state (judged v (needs v c)) o)) (unasked_alike v c s t h)
-])
-
-save_asks : (c : Act) → asks c ≡ false → is_save c ≡ false
-save_asks (Run SaveBuffer n typed) h = cc
-save_asks _ h = refl
+]
 
 -- a macro plays, or it is no save
 quiet_by : {X : Type 0} (plays saves : Bool) → (plays || not saves) ≡ true → (plays ≡ true → X) → (saves ≡ false → X) → X
@@ -123,18 +119,15 @@ quiet_by false false h f g = g refl
 
 more_by : (id used : ℕ) (left : List Todo) (start now new : World) (before mid after : StoreTold) (x : Session) → SoFar id used true start now before mid → find_session id now.sessions ≡ Some x → (state : State) (o : Option Act) → turn_in now id ≡ turn_to state o → IsTurnDone true left state o now new mid after id → SoFar id (used + 1) true start new before after
 more_by id used left start now new before mid after x s found state None turn done =
-    more id used start now new before mid after s (leads_kept id true now new state turn done.0) (ap (λ (t : StoreTold). t.accepted) done.1) (λ e. done.1)
+    more id used start now new before mid after [] s (leads_kept id true now new state turn done.0) (kept_told mid after done.1) (λ e. done.1)
 more_by id used left start now new before mid after x s found state (Some c) turn done =
     let did = done.2 in
     let w : World = with_state id (λ was. state) now in
-    let once : LeadsOnce id true [] now new =
-    quiet_by state.playing (asks c) (done.0 refl) (λ e. leads_played id did.stored true now new state c x found e turn did.world)
-    (λ f. subst (λ (saved : List Saved). LeadsOnce id true saved now new) (act_saves_none w id c true (save_asks c f)) (leads_once id true now new state c turn (did.world ∙ unasked_act w id c did.stored true f))) in
-    more id used start now new before mid after s once.0
-    (did.saves
-    ∙ sym (told_none mid.accepted (flat_map saved_by (act_effects w id c did.stored))
-    (quiet_by state.playing (asks c) (done.0 refl) (λ e. act_saves_nothing now id state x found e c did.stored) (λ f. act_saves_none w id c did.stored (save_asks c f)))))
-    (λ e. some_act once.0.acts once.1 e)
+    let alike : outcome_in w id c did.stored ≡ outcome_in w id c true =
+    quiet_by state.playing (asks c) (done.0 refl) (λ e. played_alike now id state x found e c did.stored true) (λ f. unasked_act w id c did.stored true f) in
+    let once : LeadsOnce id true (act_effects w id c did.stored) now new =
+    subst (λ (es : List Effect). LeadsOnce id true es now new) (ap effect_in (sym alike)) (leads_once id true now new state c turn (did.world ∙ ap (applied w id) alike)) in
+    more id used start now new before mid after (act_effects w id c did.stored) s once.0 did.tells (λ e. some_act once.0.acts once.1 e)
 
 -- a turn of what a macro plays
 pub next_turn : (id used : ℕ) (left : List Todo) (start now new : World) (before mid after : StoreTold) (x : Session) → SoFar id used true start now before mid → find_session id now.sessions ≡ Some x → TurnDone true left now new mid after id → SoFar id (used + 1) true start new before after
@@ -188,7 +181,7 @@ began_by : (id : ℕ) (start new : World) (before after : StoreTold) (n : ℕ) (
 began_by id start new before after n todo left within played state None turn done = record {
   used = 1;
   stored = true;
-  so_far = more id 0 start start new before before after (at_start id start before) (leads_kept id true start new state turn done.0) (ap (λ (t : StoreTold). t.accepted) done.1) (λ e. done.1);
+  so_far = more id 0 start start new before before after [] (at_start id start before) (leads_kept id true start new state turn done.0) (kept_told before after done.1) (λ e. done.1);
   within = within;
   rest = λ h. refl;
   first = λ e. not_both (is_played left) played e;
@@ -199,7 +192,7 @@ began_by id start new before after n todo left within played state (Some c) turn
     record {
       used = 1;
       stored = did.stored;
-      so_far = record { saved = flat_map saved_by (act_effects (with_state id (λ was. state) start) id c did.stored); leads = once.0; fault = did.fault; saves = did.saves; still = λ e. some_act once.0.acts once.1 e };
+      so_far = record { effects = act_effects (with_state id (λ was. state) start) id c did.stored; leads = once.0; fault = did.fault; tells = did.tells; still = λ e. some_act once.0.acts once.1 e };
       within = within;
       rest = λ h. absurd (h (done.1 refl));
       first = λ e. not_both (is_played left) played e;
@@ -254,13 +247,13 @@ event_over id start now before after n todo x found is keyed.Done none g = λ w 
     record {
       stored = g.stored;
       stop = None;
-      step = sym (step_done w now id byte g.stored g.used s.saved here s.leads within stops);
+      step = sym (step_done w now id byte g.stored g.used s.effects here s.leads within stops);
       short = (λ e. cc, λ e. cc);
       no_session = (λ e. cc, λ e. not_found (find_session id w.sessions) here e);
       quit = (λ e. cc, λ e. not_found (find_session id (settled now).sessions) there e.1);
       may = λ e. cc;
       fault = s.fault;
-      saves = s.saves ∙ sym (ap (λ (xs : List Saved). told_more xs before.accepted) (saves_done w now id byte g.stored g.used s.saved here s.leads within stops));
+      tells = subst (λ (es : List Effect). Tells es before after) (sym (effects_done w now id byte g.stored g.used s.effects here s.leads within stops)) s.tells;
       unasked = λ e. cc;
     }
 event_over id start now before after n todo x found is keyed.Short none b = λ w byte here there begins.
@@ -270,16 +263,15 @@ event_over id start now before after n todo x found is keyed.Short none b = λ w
     record {
       stored = true;
       stop = memory_behind s.leads.acts (Some 0);
-      step = ap settled t.told ∙ sym (step_short w b.last id byte true b.used s.saved here s.leads within t.state t.act b.session b.found t.turn);
+      step = ap settled t.told ∙ sym (step_short w b.last id byte true b.used s.effects here s.leads within t.state t.act b.session b.found t.turn);
       short = (λ e. refl, λ e. refl);
       no_session = (λ e. cc, λ e. not_found (find_session id w.sessions) here e);
       quit = (λ e. cc, λ e. not_found (find_session id (settled now).sessions) there e.1);
-      may = λ e. ap may_be_refused (act_short w b.last id byte true b.used s.saved here s.leads within t.state t.act b.session b.found t.turn) ∙ t.may;
+      may = λ e. ap may_be_refused (act_short w b.last id byte true b.used s.effects here s.leads within t.state t.act b.session b.found t.turn) ∙ t.may;
       fault = λ e. cc;
-      saves =
-          ap (λ (told : StoreTold). told.accepted) t.left
-          ∙ s.saves
-          ∙ sym (ap (λ (xs : List Saved). told_more xs before.accepted) (saves_short w b.last id byte true b.used s.saved here s.leads within t.state t.act b.session b.found t.turn));
+      tells =
+          subst (λ (es : List Effect). Tells es before after) (sym (effects_short w b.last id byte true b.used s.effects here s.leads within t.state t.act b.session b.found t.turn))
+          (subst (λ (u : StoreTold). Tells s.effects before u) (sym t.left) s.tells);
       unasked = λ e. (let none : s.leads.acts + 0 ≡ 0 = cc in t.left ∙ s.still (omega (arith, none)));
     }
 event_over id start now before after n todo x found is _ none t = t

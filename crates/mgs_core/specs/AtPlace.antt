@@ -23,7 +23,7 @@ use Rattle.mgs_seek.specs.Replacing.{remaining_at}
 use Rattle.mgs_session.specs.declared.State.{State}
 use Rattle.mgs_session.specs.declared.Session.{Session}
 use Rattle.mgs_session.specs.declared.search.Search.{Search}
-use Rattle.mgs_store.specs.Stores.{StoreTold}
+use Rattle.mgs_births.specs.Telling.{StoreTold}
 use Rattle.mgs_world.specs.Worlds.{aim_old, state_at, session_id, world_of}
 use Rattle.mgs_core.specs.declared.world.World as code
 use Rattle.mgs_core.specs.declared.byte_acts.Before.{Before}

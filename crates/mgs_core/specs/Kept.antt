@@ -1,6 +1,6 @@
 -- What a server is seen as: its world, and what its store tells.
 use Rattle.mgs_model.specs.World.{World}
-use Rattle.mgs_store.specs.Stores.{StoreTold}
+use Rattle.mgs_births.specs.Telling.{StoreTold}
 
 pub record Kept : Type 0 where
   pub world : World

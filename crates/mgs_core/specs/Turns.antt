@@ -13,7 +13,7 @@ use Rattle.mgs_model.specs.declared.errors.Keyed.{Keyed}
 use Rattle.mgs_model.specs.declared.errors.Keyed.TheVariants as keyed
 use Rattle.mgs_model.specs.declared.session.Command.TheVariants.{Exit, SaveBuffer}
 use Rattle.mgs_model.specs.declared.session.Mode.TheVariants.{Replacing}
-use Rattle.mgs_store.specs.Stores.{StoreTold}
+use Rattle.mgs_births.specs.Telling.{StoreTold}
 use Rattle.mgs_session.specs.Playing.{is_nothing}
 use Rattle.mgs_act.specs.Doing.{ActedBy}
 use Rattle.mgs_core.specs.Calls.{KeyedBy, closed}

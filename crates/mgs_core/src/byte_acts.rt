@@ -5,13 +5,14 @@ ghost use Rattle.mgs_seek.specs.Beginning.{search_held};
 ghost use Rattle.mgs_world.specs.Acted.{IsRefusable, IsSameWorld};
 ghost use Rattle.mgs_world.specs.Sound.{IsSound};
 ghost use Rattle.mgs_world.specs.Worlds.{idle, state_at, world_of};
-ghost use Rattle.mgs_store.specs.Stores.{store_told};
+ghost use Rattle.mgs_births.specs.StoreBirths.{store_and_births};
 ghost use Rattle.mgs_core.specs.AtPlace.{IsActDone, IsActRefusable, IsAsItWas, IsDoneIn, IsKeyActDone, LeavesFewer};
 ghost use Rattle.mgs_core.specs.KeyActs.{is_acted, started_by, started_in};
 ghost use Rattle.mgs_core.specs.ByteActs.{CanDo, IsReady, act_due, asked_of, is_asked, may_want_memory};
 
 use crate::world::World;
 use mgs_act::{Reply, act, answer};
+use mgs_births::WithBirths;
 use mgs_buffers::Buffers;
 use mgs_marks::Marked;
 use mgs_mini::Prompt;
@@ -110,12 +111,12 @@ fn started_by(done: KeyAct) -> Option<Direction>
 }
 
 /// Does an act of the session at `at`: a search that starts takes no memory.
-fn do_key_act<T: Marked + Drop, S: Store>(
+fn do_key_act<T: Marked + Drop, S: Store + Drop>(
     buffers: &mut Buffers<T>,
     directory: &Directory,
     sessions: &mut [Session],
     at: usize,
-    store: &mut S,
+    store: &mut WithBirths<S>,
     done: KeyAct,
 ) -> Result<Touched, Short>
     requires sound { IsSound buffers.old sessions.old }
@@ -123,7 +124,7 @@ fn do_key_act<T: Marked + Drop, S: Store>(
     requires fresh { state_at at sessions.old ≡ idle (state_at at sessions.old) }
     requires here { is_acted done ≡ true }
     ensures sound { IsSound buffers.new sessions.new }
-    ensures ok { IfOk result (IsKeyActDone (store_told S.failed S.accepted) at done sessions.old
+    ensures ok { IfOk result (IsKeyActDone (store_and_births S.failed S.accepted) at done sessions.old
         (world_of directory.now buffers.old sessions.old) store.old (world_of directory.now buffers.new sessions.new) store.new) }
     ensures wants { OnErr result (started_by done ≡ None) }
     ensures err { OnErr result (IsSameWorld directory.now buffers.old buffers.new sessions.old sessions.new) }
@@ -140,12 +141,12 @@ fn do_key_act<T: Marked + Drop, S: Store>(
 }
 
 /// Does what is due, to the parts of the world.
-fn do_in_parts<T: Marked + Drop, S: Store>(
+fn do_in_parts<T: Marked + Drop, S: Store + Drop>(
     buffers: &mut Buffers<T>,
     directory: &Directory,
     sessions: &mut [Session],
     at: usize,
-    store: &mut S,
+    store: &mut WithBirths<S>,
     due: Due<'_>,
 ) -> Result<Touched, Short>
     requires sound { IsSound buffers.old sessions.old }
@@ -153,7 +154,7 @@ fn do_in_parts<T: Marked + Drop, S: Store>(
     requires ready { IsReady due.act (search_held at sessions.old) (state_at at sessions.old) }
     requires here { CanDo due.before.now due.act }
     ensures sound { IsSound buffers.new sessions.new }
-    ensures ok { IsDoneIn (store_told S.failed S.accepted) at due.entry.act due.entry.before.now sessions.old
+    ensures ok { IsDoneIn (store_and_births S.failed S.accepted) at due.entry.act due.entry.before.now sessions.old
         (world_of directory.now buffers.old sessions.old) store.old (world_of directory.now buffers.new sessions.new) store.new result }
     ensures wants { OnErr result (may_want_memory due.entry.act ≡ true) }
     ensures err { OnErr result (IsSameWorld directory.now buffers.old buffers.new sessions.old sessions.new) }
@@ -202,10 +203,10 @@ fn do_in_parts<T: Marked + Drop, S: Store>(
 }
 
 /// Does what is due, by the session at `at`. The error: memory was refused, and nothing of it was done.
-pub fn do_byte_act<T: Marked + Drop, S: Store>(
+pub fn do_byte_act<T: Marked + Drop, S: Store + Drop>(
     world: &mut World<T>,
     at: usize,
-    store: &mut S,
+    store: &mut WithBirths<S>,
     due: Due<'_>,
 ) -> Result<Touched, Short>
     requires sound { IsSound world.old.buffers world.old.sessions.items }
@@ -215,7 +216,7 @@ pub fn do_byte_act<T: Marked + Drop, S: Store>(
     ensures directory { world.new.directory ≡ world.old.directory }
     ensures count { length world.new.sessions.items ≡ length world.old.sessions.items }
     ensures sound { IsSound world.new.buffers world.new.sessions.items }
-    ensures ok { IsActDone (store_told S.failed S.accepted) at due.entry.act due.entry.before.now world.old store.old world.new store.new result }
+    ensures ok { IsActDone (store_and_births S.failed S.accepted) at due.entry.act due.entry.before.now world.old store.old world.new store.new result }
     ensures wants { OnErr result (may_want_memory due.entry.act ≡ true) }
     ensures err { OnErr result (IsAsItWas world.old world.new) }
     ensures unasked { OnErr result (store.new ≡ store.old) }

@@ -5,7 +5,7 @@ ghost use Rattle.mgs_model.specs.World as model;
 ghost use Rattle.mgs_model.specs.declared.errors.Keyed.TheVariants.{Done, Quit};
 ghost use Rattle.mgs_buffers.specs.Judging.{AreJudged, rules_kept};
 ghost use Rattle.mgs_session.specs.Playing.{are_played};
-ghost use Rattle.mgs_store.specs.Stores.{store_told};
+ghost use Rattle.mgs_births.specs.StoreBirths.{store_and_births};
 ghost use Rattle.mgs_seek.specs.Beginning.{search_held};
 ghost use Rattle.mgs_session.specs.Sessions.{begun};
 ghost use Rattle.mgs_session.specs.declared.search.Search.{Search};
@@ -23,6 +23,7 @@ use crate::byte_acts::{Before, ByteAct, Due, ModeBefore, do_byte_act};
 use crate::key_byte::ByteStep;
 use crate::typed_byte::step_byte;
 use crate::world::World;
+use mgs_births::WithBirths;
 use mgs_buffers::Buffers;
 use mgs_cache::Judge;
 use mgs_maps::Keyboard;
@@ -165,11 +166,11 @@ fn forget_touched(judge: &mut Judge, touched: &Touched)
 }
 
 /// Does what a turn asks for by the session at `at`, where this was there before.
-fn act_turn<T: Marked + Drop, S: Store>(
+fn act_turn<T: Marked + Drop, S: Store + Drop>(
     world: &mut World<T>,
     judge: &mut Judge,
     at: usize,
-    store: &mut S,
+    store: &mut WithBirths<S>,
     act: ByteAct,
     was: &mut Before,
 ) -> Result<Touched, Short>
@@ -183,7 +184,7 @@ fn act_turn<T: Marked + Drop, S: Store>(
     ensures sound { IsSound world.new.buffers world.new.sessions.items }
     ensures directory { world.new.directory ≡ world.old.directory }
     ensures sizes { sizes_in world.new.sessions.items ≡ sizes_in world.old.sessions.items }
-    ensures ok { IsActDone (store_told S.failed S.accepted) at act was.old.mode world.old store.old world.new store.new result }
+    ensures ok { IsActDone (store_and_births S.failed S.accepted) at act was.old.mode world.old store.old world.new store.new result }
     ensures err { OnErr result (IsActRefused at was.old act world.old world.new) }
     ensures unasked { OnErr result (store.new ≡ store.old) }
     ensures further { OnOk result (LeavesFewer act at world.old.buffers world.new.buffers world.old.sessions.items world.new.sessions.items) }
@@ -218,11 +219,11 @@ fn answer_without_act(step: ByteStep) -> (Keyed, Touched)
 
 /// The next of what the session at `at` has still to do is done, or refused for want of memory, or ends its session, which is then to be
 /// taken out. It tells what it touched, and whether it changed so little that each window stands where it stood. No window settles.
-fn take_turn<T: Marked + Drop, S: Store>(
+fn take_turn<T: Marked + Drop, S: Store + Drop>(
     world: &mut World<T>,
     judge: &mut Judge,
     at: usize,
-    store: &mut S,
+    store: &mut WithBirths<S>,
 ) -> (Keyed, Touched, bool)
     requires sound { IsSound world.old.buffers world.old.sessions.items }
     requires place { IsPlace at world.old.sessions.items }
@@ -236,7 +237,7 @@ fn take_turn<T: Marked + Drop, S: Store>(
     ensures sizes { sizes_in world.new.sessions.items ≡ sizes_in world.old.sessions.items }
     ensures less { result.0 ≡ Done → LeavesLess at world.old.buffers world.new.buffers world.old.sessions.items world.new.sessions.items }
     ensures fit { result.0 ≡ Done → IsFit (state_at at world.new.sessions.items) }
-    ensures turned { IsTurned (store_told S.failed S.accepted) at world.old store.old world.new store.new result.0 }
+    ensures turned { IsTurned (store_and_births S.failed S.accepted) at world.old store.old world.new store.new result.0 }
     ensures stands { result.2 ≡ true → StaySettled world.old world.new }
     ensures alone { result.2 ≡ true → StateAlone at world.old.buffers world.new.buffers world.old.sessions.items world.new.sessions.items }
     ensures touched { AreApartAt result.1 at world.old world.new }
@@ -286,11 +287,11 @@ fn goes_on(keyed: Keyed, sessions: &[Session], at: usize) -> bool
 
 /// Turn after turn is taken until nothing is left to do, or memory is refused, or the session is to be taken out. No window settles; it tells whether
 /// each stands where it stood.
-pub fn take_turns<T: Marked + Drop, S: Store>(
+pub fn take_turns<T: Marked + Drop, S: Store + Drop>(
     world: &mut World<T>,
     judge: &mut Judge,
     at: usize,
-    store: &mut S,
+    store: &mut WithBirths<S>,
 ) -> (Keyed, Touched, bool)
     requires sound { IsSound world.old.buffers world.old.sessions.items }
     requires place { IsPlace at world.old.sessions.items }
@@ -302,7 +303,7 @@ pub fn take_turns<T: Marked + Drop, S: Store>(
     ensures sound { IsSound world.new.buffers world.new.sessions.items }
     ensures directory { world.new.directory ≡ world.old.directory }
     ensures sizes { sizes_in world.new.sessions.items ≡ sizes_in world.old.sessions.items }
-    ensures event { IsEvent (store_told S.failed S.accepted) at world.old store.old world.new store.new result.0 }
+    ensures event { IsEvent (store_and_births S.failed S.accepted) at world.old store.old world.new store.new result.0 }
     ensures stands { result.2 ≡ true → StaySettled world.old world.new }
     ensures alone { result.2 ≡ true → StateAlone at world.old.buffers world.new.buffers world.old.sessions.items world.new.sessions.items }
     ensures touched { AreApartAt result.1 at world.old world.new }
@@ -362,11 +363,11 @@ fn begin_at(sessions: &mut [Session], at: usize, byte: u8)
 }
 
 /// A byte of the session at `at`, as `Core::key` says, but that `Quit` changes what the session holds alone: it is to be taken out.
-pub fn type_in<T: Marked + Drop, S: Store>(
+pub fn type_in<T: Marked + Drop, S: Store + Drop>(
     world: &mut World<T>,
     judge: &mut Judge,
     at: usize,
-    store: &mut S,
+    store: &mut WithBirths<S>,
     id: SessionId,
     byte: u8,
 ) -> (Keyed, Touched, bool)
@@ -381,8 +382,8 @@ pub fn type_in<T: Marked + Drop, S: Store>(
     ensures directory { world.new.directory ≡ world.old.directory }
     ensures sizes { sizes_in world.new.sessions.items ≡ sizes_in world.old.sessions.items }
     ensures gone { result.0 ≡ Quit → IsSameBut id world.old world.new }
-    ensures left { result.0 ≡ Quit → store_told S.failed S.accepted store.new ≡ store_told S.failed S.accepted store.old }
-    ensures keyed { IsTyped (store_told S.failed S.accepted) id byte world.old store.old world.new store.new result.0 }
+    ensures left { result.0 ≡ Quit → store_and_births S.failed S.accepted store.new ≡ store_and_births S.failed S.accepted store.old }
+    ensures keyed { IsTyped (store_and_births S.failed S.accepted) id byte world.old store.old world.new store.new result.0 }
     ensures touched { AreApart result.1 id world.old world.new }
     ensures still { result.2 ≡ true → StaysStill id world.old world.new }
 {

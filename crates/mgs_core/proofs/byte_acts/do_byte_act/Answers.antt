@@ -2,7 +2,7 @@ use Rattle.std.proofs.Common.{◌≡◌, List, length, refl, arith}
 use Rattle.std.specs.Prelude.{OnErr, OnOk}
 use Rattle.std.specs.Vec.{with_items}
 use Rattle.mgs_session.specs.declared.Session.{Session}
-use Rattle.mgs_store.specs.Stores.{store_told}
+use Rattle.mgs_births.specs.StoreBirths.{store_and_births}
 use Rattle.mgs_world.specs.Acted.{IsRefusable, IsSameWorld}
 use Rattle.mgs_world.specs.Sound.{IsSound}
 use Rattle.mgs_world.specs.Worlds.{state_at, world_of}
@@ -29,7 +29,7 @@ returns g c =
       directory = refl;
       count = held (λ xs ys. length ys ≡ length xs) did.auto.sessions;
       sound = held (λ xs ys. IsSound ls ys) did.ensures.sound;
-      ok = held (λ xs ys. IsDoneIn (store_told g.S.Store.failed g.S.Store.accepted) at act b xs (world_of d ks xs) c.args.store.now (world_of d ls ys) did.new.store r) did.ensures.ok;
+      ok = held (λ xs ys. IsDoneIn (store_and_births g.S.Store.failed g.S.Store.accepted) at act b xs (world_of d ks xs) c.args.store.now (world_of d ls ys) did.new.store r) did.ensures.ok;
       wants = did.ensures.wants;
       err = held (λ xs ys. OnErr r (IsSameWorld d ks ls xs ys)) did.ensures.err;
       unasked = did.ensures.unasked;

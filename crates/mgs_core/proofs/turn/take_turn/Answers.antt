@@ -5,7 +5,7 @@ use Rattle.std.proofs.lemmas.List.{get_or_default}
 use Rattle.mgs_model.specs.declared.touched.Touched.TheVariants.{Nowhere}
 use Rattle.mgs_model.specs.Events.{refused_state}
 use Rattle.mgs_laws.proofs.Apart.{apart_state, apart_then}
-use Rattle.mgs_store.specs.Stores.{store_told}
+use Rattle.mgs_births.specs.StoreBirths.{store_and_births}
 use Rattle.mgs_session.specs.declared.Session.{Session}
 use Rattle.mgs_world.specs.Sound.{session_uses}
 use Rattle.mgs_world.specs.Worlds.{session_id, size_in, world_of}
@@ -126,7 +126,7 @@ returns-in-Err g c =
     refused_turn d ks xs next id at h y place within is_h b c.in-Acts.act s did.new.world.buffers did.new.world.sessions.items _ _ _
     ((λ i. let e : Before = record { mode = b; kind = c.index-session.result.now.state.kind; is_playing = c.is_playing-is_playing.ensures i } in e)
     ∙ ap (λ (x : Session). before_turn b x.state) (c.index-session.ensures ∙ get_or_default xs at c.index-session.result.now h within ∙ sym is_h))
-    c.in-Err.ensures.err (ap (λ s. store_told g.S.Store.failed g.S.Store.accepted s) c.in-Err.ensures.unasked) in
+    c.in-Err.ensures.err (ap (λ s. store_and_births g.S.Store.failed g.S.Store.accepted s) c.in-Err.ensures.unasked) in
     record {
       judged = did.ensures.judged;
       sound = did.ensures.sound;

@@ -4,7 +4,7 @@ use Rattle.std.proofs.lemmas.Bool.{and_parts}
 use Rattle.mgs_model.specs.World.{State}
 use Rattle.mgs_model.specs.declared.touched.Touched.TheVariants.{Nowhere}
 use Rattle.mgs_laws.proofs.Apart.{apart_same}
-use Rattle.mgs_store.specs.Stores.{store_told}
+use Rattle.mgs_births.specs.StoreBirths.{store_and_births}
 use Rattle.mgs_world.specs.Worlds.{session_id, state_at, world_of}
 use Rattle.mgs_core.specs.Turns.{goes_on}
 use Rattle.mgs_core.proofs.Joined.{apart_both}
@@ -51,7 +51,7 @@ loop-keyed-preserved g c =
     let same = l.invariant.directory in
     let on = sym (rw c.deref.ensures.value at c.goes_on.ensures) ∙ c.loop-keyed-test.true in
     let here = λ (id : ℕ) (place : c.args.at ≡ position_or_len (session_id id) xs). place_same id c.args.at xs ys place l.invariant.sizes in
-    let told = store_told g.S.Store.failed g.S.Store.accepted in
+    let told = store_and_births g.S.Store.failed g.S.Store.accepted in
     record {
       directory = t.ensures.directory ∙ same;
       judged = rw same at t.ensures.judged;

@@ -2,7 +2,7 @@ use Rattle.std.proofs.Common.{◌≡◌, ℕ, true, Option}
 use Rattle.std.specs.List.{position_or_len}
 use Rattle.mgs_laws.specs.Apart.{Apart}
 use Rattle.mgs_buffers.specs.Judging.{AreJudged, rules_kept}
-use Rattle.mgs_store.specs.Stores.{store_told}
+use Rattle.mgs_births.specs.StoreBirths.{store_and_births}
 use Rattle.mgs_world.specs.Sound.{IsSound}
 use Rattle.mgs_world.specs.Worlds.{session_id, state_at, sizes_in, world_of}
 use Rattle.mgs_core.specs.AtPlace.{StateAlone, StaySettled}
@@ -23,7 +23,7 @@ invariant-loop-keyed g l =
       judged : AreJudged d (rules_kept v.buffers) l.judge;
       sound : IsSound v.buffers v.sessions.items;
       sizes : sizes_in v.sessions.items ≡ sizes_in w.sessions.items;
-      event : (id : ℕ) → l.at ≡ position_or_len (session_id id) w.sessions.items → (next : Option ℕ) → EventSoFar id (world_of d w.buffers w.sessions.items next) (world_of d v.buffers v.sessions.items next) (store_told g.S.Store.failed g.S.Store.accepted l.initial.store) (store_told g.S.Store.failed g.S.Store.accepted l.store) (remaining_at l.at v.buffers v.sessions.items) (state_at l.at v.sessions.items).todo l.keyed;
+      event : (id : ℕ) → l.at ≡ position_or_len (session_id id) w.sessions.items → (next : Option ℕ) → EventSoFar id (world_of d w.buffers w.sessions.items next) (world_of d v.buffers v.sessions.items next) (store_and_births g.S.Store.failed g.S.Store.accepted l.initial.store) (store_and_births g.S.Store.failed g.S.Store.accepted l.store) (remaining_at l.at v.buffers v.sessions.items) (state_at l.at v.sessions.items).todo l.keyed;
       fit : l.keyed ≡ Done → IsFit (state_at l.at v.sessions.items);
       stands : l.stands ≡ true → StaySettled w v;
       alone : l.stands ≡ true → StateAlone l.at w.buffers v.buffers w.sessions.items v.sessions.items;
