@@ -9,10 +9,8 @@ use Rattle.std.proofs.Math.Nat.{le-max_left, le-max_right}
 use Rattle.mgs_model.proofs.Firsts.{find-change_first, find-change_first_other}
 use Rattle.mgs_model.specs.Apply.{change_first, remove_first}
 use Rattle.mgs_model.specs.Draw.{screen}
-use Rattle.mgs_model.specs.Events.{Event, Open, Byte, Close, Saved, can_open, is_open, opened, run, run_saves, settled}
-use Rattle.mgs_laws.proofs.Saves.{saves_behind}
-use Rattle.mgs_store.specs.Stores.{StoreTold, told_more}
-use Rattle.mgs_store.proofs.Told.{told_none, told_twice}
+use Rattle.mgs_model.specs.Events.{Event, Open, Byte, Close, can_open, is_open, opened, run, run_effects, settled}
+use Rattle.mgs_births.specs.Telling.{Tells}
 use Rattle.mgs_model.specs.Picture.{Picture}
 use Rattle.mgs_model.specs.World.{World, Session, find_session, has_id}
 use Rattle.mgs_model.specs.declared.errors.Keyed.{Keyed}
@@ -43,7 +41,7 @@ use Rattle.mgs_engine.specs.Queues.{Queue, after_taking, find_queue, is_queue_of
 use Rattle.mgs_engine.specs.Serving.{Serving, all_ended_by, ended_by, pending_of}
 use Rattle.mgs_engine.specs.Slow.{slow_ids}
 use Rattle.mgs_engine.specs.Tapes.{Told, bytes_on}
-use Rattle.mgs_engine.proofs.RunLemmas.{run-append, saves_first, store_left}
+use Rattle.mgs_engine.proofs.RunLemmas.{run-append, stays_told, store_left, told_behind, told_first}
 
 -- THE EVENTS OF A CALL, AND OF ALL
 
@@ -53,7 +51,7 @@ record Made (r : Taped) (c : Asked) (s : Taped) : Type 0 where
   events : List Event
   of : HasEvents r.serving c answer s.serving events
   world : s.serving.world ≡ run r.serving.world events
-  saves : s.serving.store.accepted ≡ told_more (run_saves r.serving.world events) r.serving.store.accepted
+  tells : Tells (run_effects r.serving.world events) r.serving.store s.serving.store
 
 made_open : (r s : Taped) (user : List ℕ) (rows cols : ℕ) (a : Result ℕ OpenFault) → Does r.serving (wire.Open user rows cols a) s.serving → s.tape ≡ answered (answers.Open a) r.tape → Made r (Opens user rows cols) s
 made_open r s user rows cols (Ok id) d t = record {
@@ -62,7 +60,7 @@ made_open r s user rows cols (Ok id) d t = record {
   events = Open id user rows cols ∷ [];
   of = (d, refl);
   world = d.0.ok.2;
-  saves = ap (λ (t : StoreTold). t.accepted) d.0.store ∙ told_none r.serving.store.accepted [] refl;
+  tells = stays_told r.serving.store s.serving.store d.0.store;
 }
 made_open r s user rows cols (Err fault) d t = record {
   answer = answers.Open (Err fault);
@@ -70,7 +68,7 @@ made_open r s user rows cols (Err fault) d t = record {
   events = [];
   of = (d, refl);
   world = ap (λ (x : Serving). x.world) d.0.err;
-  saves = ap (λ (x : Serving). x.store.accepted) d.0.err ∙ told_none r.serving.store.accepted [] refl;
+  tells = stays_told r.serving.store s.serving.store (ap (λ (x : Serving). x.store) d.0.err);
 }
 
 made : (r s : Taped) (c : Asked) → Makes r c s → Made r c s
@@ -84,15 +82,14 @@ made r s (Types id byte) m =
       events = Byte id byte h.step.stored h.step.stop ∷ slow;
       of = (m.1, refl);
       world = h.closes ∙ ap (λ (w : World). run w slow) h.step.step;
-      saves =
-          ap (λ (x : Serving). x.store.accepted) h.slow
-          ∙ ap (λ (t : StoreTold). t.accepted) (store_left Slow (slow_ids r.serving h.typed.world) h.typed)
-          ∙ h.step.saves
-          ∙ ap (λ (xs : List Saved). told_more xs r.serving.store.accepted) (sym (saves_first r.serving.world (Byte id byte h.step.stored h.step.stop) (slow_ids r.serving h.typed.world)));
+      tells =
+          told_first r.serving.world (Byte id byte h.step.stored h.step.stop) (slow_ids r.serving h.typed.world) r.serving.store h.typed.store s.serving.store
+          (ap (λ (x : Serving). x.store) h.slow ∙ store_left Slow (slow_ids r.serving h.typed.world) h.typed)
+          h.step.tells;
     }
-made r s (Closes id) m = record { answer = answers.Close; told = ap (λ (x : Told). x.answers) m.2; events = Close id ∷ []; of = (m.0, refl); world = m.1; saves = ap (λ (x : Serving). x.store.accepted) m.0.0 ∙ told_none r.serving.store.accepted [] refl }
-made r s (Takes id most) m = record { answer = answers.Took m.0; told = m.4; events = []; of = (m.3, refl); world = ap (λ (x : Serving). x.world) m.3; saves = ap (λ (x : Serving). x.store.accepted) m.3 ∙ told_none r.serving.store.accepted [] refl }
-made r s Asks m = record { answer = answers.Ended m.0; told = ap (λ (x : Told). x.answers) m.3; events = []; of = (m.1, m.2, refl); world = ap (λ (x : Serving). x.world) m.2; saves = ap (λ (x : Serving). x.store.accepted) m.2 ∙ told_none r.serving.store.accepted [] refl }
+made r s (Closes id) m = record { answer = answers.Close; told = ap (λ (x : Told). x.answers) m.2; events = Close id ∷ []; of = (m.0, refl); world = m.1; tells = stays_told r.serving.store s.serving.store (ap (λ (x : Serving). x.store) m.0.0) }
+made r s (Takes id most) m = record { answer = answers.Took m.0; told = m.4; events = []; of = (m.3, refl); world = ap (λ (x : Serving). x.world) m.3; tells = stays_told r.serving.store s.serving.store (ap (λ (x : Serving). x.store) m.3) }
+made r s Asks m = record { answer = answers.Ended m.0; told = ap (λ (x : Told). x.answers) m.3; events = []; of = (m.1, m.2, refl); world = ap (λ (x : Serving). x.world) m.2; tells = stays_told r.serving.store s.serving.store (ap (λ (x : Serving). x.store) m.2) }
 
 pub runs_events : (r s : Taped) (cs : List Asked) → Runs r cs s → IsRun r cs s
 runs_events r s [] h = record {
@@ -101,7 +98,7 @@ runs_events r s [] h = record {
   events = [];
   each = (refl, ap (λ (x : Taped). x.serving) h);
   world = ap (λ (x : Taped). x.serving.world) h;
-  saves = ap (λ (x : Taped). x.serving.store.accepted) h ∙ told_none r.serving.store.accepted [] refl;
+  tells = stays_told r.serving.store s.serving.store (ap (λ (x : Taped). x.serving.store) h);
 }
 runs_events r s (c ∷ cs) h =
     let first : Made r c h.0 = made r h.0 c h.1 in
@@ -112,12 +109,7 @@ runs_events r s (c ∷ cs) h =
       events = first.events ++ rest.events;
       each = (h.0.serving, first.events, rest.events, first.of, rest.each, refl);
       world = rest.world ∙ ap (λ (w : World). run w rest.events) first.world ∙ sym (run-append r.serving.world first.events rest.events);
-      saves =
-          rest.saves
-          ∙ ap (λ (w : World). told_more (run_saves w rest.events) h.0.serving.store.accepted) first.world
-          ∙ ap (told_more (run_saves (run r.serving.world first.events) rest.events)) first.saves
-          ∙ told_twice r.serving.store.accepted (run_saves r.serving.world first.events) (run_saves (run r.serving.world first.events) rest.events)
-          ∙ ap (λ (xs : List Saved). told_more xs r.serving.store.accepted) (sym (saves_behind r.serving.world first.events rest.events));
+      tells = told_behind r.serving.world h.0.serving.world first.events rest.events r.serving.store h.0.serving.store s.serving.store first.world first.tells rest.tells;
     }
 
 -- A SCREEN, FROM BYTES TO BYTES

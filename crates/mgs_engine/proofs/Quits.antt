@@ -18,7 +18,7 @@ use Rattle.mgs_engine.specs.declared.session_screen.Screen.{Screen}
 use Rattle.mgs_engine.specs.Screens.{queue_of, queues_of, screen_id}
 use Rattle.mgs_engine.specs.Served.{serving_of}
 use Rattle.mgs_core.specs.Kept.{Kept, kept}
-use Rattle.mgs_store.specs.Stores.{StoreTold}
+use Rattle.mgs_births.specs.Telling.{StoreTold}
 use Rattle.mgs_engine.specs.declared.session_end.Cause.{Cause}
 use Rattle.mgs_engine.specs.Serving.{Serving, ended_by, ended_keyed, ids_keyed, to_tell}
 use Rattle.mgs_engine.proofs.Screens.{queues_removed}

@@ -1,7 +1,9 @@
 -- What events come to, one after another: of any list of calls (Driven), and of a server's turn.
-use Rattle.std.proofs.Common.{◌≡◌, ℕ, List, [], ◌∷◌, ◌++◌, map, refl, ap, ◌∙◌, append-nil}
-use Rattle.mgs_laws.proofs.Saves.{closes_save_none, saves_next}
-use Rattle.mgs_model.specs.Events.{Event, Close, Saved, event_saves, run, run_saves, step}
+use Rattle.std.proofs.Common.{◌≡◌, ℕ, List, [], ◌∷◌, ◌++◌, map, refl, sym, ap, subst, ◌∙◌, append-nil, append_assoc}
+use Rattle.mgs_births.specs.Telling.{StoreTold, Tells}
+use Rattle.mgs_births.proofs.Tells.{tells_none, tells_twice}
+use Rattle.mgs_model.specs.Events.{Event, Close, event_effects, run, run_effects, step}
+use Rattle.mgs_model.specs.Outcome.{Effect}
 use Rattle.mgs_model.specs.World.{World}
 use Rattle.mgs_engine.specs.declared.session_end.Cause.{Cause}
 use Rattle.mgs_engine.specs.Serving.{Serving, all_ended_by, ended_by}
@@ -15,6 +17,35 @@ pub store_left : (cause : Cause) (ids : List ℕ) (s : Serving) → (all_ended_b
 store_left cause [] s = refl
 store_left cause (id ∷ ids) s = store_left cause ids (ended_by cause id s)
 
--- and save nothing behind an event
-pub saves_first : (w : World) (e : Event) (ids : List ℕ) → run_saves w (e ∷ map (λ i. Close i) ids) ≡ event_saves w e
-saves_first w e ids = saves_next w e (map (λ i. Close i) ids) ∙ ap (λ (xs : List Saved). event_saves w e ++ xs) (closes_save_none (step w e) ids) ∙ append-nil (event_saves w e)
+-- WHAT RUNS DO
+
+closes_do_nothing : (w : World) (ids : List ℕ) → run_effects w (map (λ i. Close i) ids) ≡ []
+closes_do_nothing w [] = refl
+closes_do_nothing w (id ∷ ids) = closes_do_nothing (step w (Close id)) ids
+
+-- an event, and closes after it
+pub effects_first : (w : World) (e : Event) (ids : List ℕ) → run_effects w (e ∷ map (λ i. Close i) ids) ≡ event_effects w e
+effects_first w e ids = ap (λ (es : List Effect). event_effects w e ++ es) (closes_do_nothing (step w e) ids) ∙ append-nil (event_effects w e)
+
+pub effects_behind : (w : World) (es fs : List Event) → run_effects w (es ++ fs) ≡ run_effects w es ++ run_effects (run w es) fs
+effects_behind w [] fs = refl
+effects_behind w (e ∷ es) fs =
+    ap (λ (xs : List Effect). event_effects w e ++ xs) (effects_behind (step w e) es fs)
+    ∙ sym (append_assoc (event_effects w e) (run_effects (step w e) es) (run_effects (run (step w e) es) fs))
+
+-- WHAT IS TOLD OF RUNS
+
+-- nothing, where the store stays
+pub stays_told : (s t : StoreTold) → t ≡ s → Tells [] s t
+stays_told s t same = subst (λ (u : StoreTold). Tells [] s u) (sym same) (tells_none s)
+
+-- of an event, and closes after it
+pub told_first : (w : World) (e : Event) (ids : List ℕ) (s t u : StoreTold) → u ≡ t → Tells (event_effects w e) s t → Tells (run_effects w (e ∷ map (λ i. Close i) ids)) s u
+told_first w e ids s t u same told =
+    subst (λ (xs : List Effect). Tells xs s u) (sym (effects_first w e ids)) (subst (λ (v : StoreTold). Tells (event_effects w e) s v) (sym same) told)
+
+-- of some events, and others after them
+pub told_behind : (w v : World) (es fs : List Event) (s t u : StoreTold) → v ≡ run w es → Tells (run_effects w es) s t → Tells (run_effects v fs) t u → Tells (run_effects w (es ++ fs)) s u
+told_behind w v es fs s t u leads first rest =
+    subst (λ (xs : List Effect). Tells xs s u) (sym (effects_behind w es fs))
+    (tells_twice (run_effects w es) (run_effects (run w es) fs) s t u first (subst (λ (x : World). Tells (run_effects x fs) t u) leads rest))

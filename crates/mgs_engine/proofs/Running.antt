@@ -1,13 +1,11 @@
 -- What the calls of connections do to the world of an engine.
 use Rattle.std.proofs.Common.{◌≡◌, ℕ, List, [], ◌∷◌, ◌++◌, map, Result, Ok, Err, refl, sym, ap, ◌∙◌, subst}
-use Rattle.mgs_model.specs.Events.{Event, Saved, run, run_saves}
+use Rattle.mgs_model.specs.Events.{Event, run, run_effects}
 use Rattle.mgs_model.specs.Events as model
 use Rattle.mgs_model.specs.World.{World}
 use Rattle.mgs_model.specs.declared.errors.Keyed.{Keyed}
 use Rattle.mgs_model.specs.declared.errors.OpenFault.{OpenFault}
-use Rattle.mgs_laws.proofs.Saves.{saves_behind}
-use Rattle.mgs_store.specs.Stores.{StoreTold, told_more}
-use Rattle.mgs_store.proofs.Told.{told_none, told_twice}
+use Rattle.mgs_births.specs.Telling.{StoreTold, Tells}
 use Rattle.mgs_wire.specs.Calls.{AreMade, Call, Open, Refuse, Byte, Close, Took}
 use Rattle.mgs_engine.specs.declared.session_end.Cause.TheVariants.{Slow}
 use Rattle.mgs_engine.specs.declared.tape.Answer.{Answer}
@@ -18,7 +16,7 @@ use Rattle.mgs_engine.specs.Driven.{HasEvents}
 use Rattle.mgs_engine.specs.Handled.{Handles}
 use Rattle.mgs_engine.specs.Serving.{Serving}
 use Rattle.mgs_engine.specs.Slow.{slow_ids}
-use Rattle.mgs_engine.proofs.RunLemmas.{run-append, saves_first, store_left}
+use Rattle.mgs_engine.proofs.RunLemmas.{run-append, stays_told, store_left, told_behind, told_first}
 use Rattle.mgs_engine.specs.Running.{HasTold, Ran, RanBy, answers_of, asked_by}
 
 -- the events of one call
@@ -26,20 +24,20 @@ record Came (old : Serving) (asked : Asked) (answer : Answer) (new : Serving) : 
   events : List Event
   has : HasEvents old asked answer new events
   world : new.world ≡ run old.world events
-  saves : new.store.accepted ≡ told_more (run_saves old.world events) old.store.accepted
+  tells : Tells (run_effects old.world events) old.store new.store
 
 came_open : (old new : Serving) (user : List ℕ) (rows cols : ℕ) (a : Result ℕ OpenFault) → Does old (Open user rows cols a) new → Came old (Opens user rows cols) (answers.Open a) new
 came_open old new user rows cols (Ok id) d = record {
   events = model.Open id user rows cols ∷ [];
   has = (d, refl);
   world = d.0.ok.2;
-  saves = ap (λ (t : StoreTold). t.accepted) d.0.store ∙ told_none old.store.accepted [] refl;
+  tells = stays_told old.store new.store d.0.store;
 }
 came_open old new user rows cols (Err fault) d = record {
   events = [];
   has = (d, refl);
   world = ap (λ (s : Serving). s.world) d.0.err;
-  saves = ap (λ (s : Serving). s.store.accepted) d.0.err ∙ told_none old.store.accepted [] refl;
+  tells = stays_told old.store new.store (ap (λ (s : Serving). s.store) d.0.err);
 }
 
 came_byte : (old new : Serving) (id byte : ℕ) (a : Keyed) → Does old (Byte id byte a) new → Came old (Types id byte) (answers.Byte a) new
@@ -51,11 +49,10 @@ came_byte old new id byte a d =
       events = model.Byte id byte h.step.stored h.step.stop ∷ slow;
       has = (d, refl);
       world = h.closes ∙ ap (λ (w : World). run w slow) h.step.step;
-      saves =
-          ap (λ (s : Serving). s.store.accepted) h.slow
-          ∙ ap (λ (t : StoreTold). t.accepted) (store_left Slow ids h.typed)
-          ∙ h.step.saves
-          ∙ ap (λ (xs : List Saved). told_more xs old.store.accepted) (sym (saves_first old.world (model.Byte id byte h.step.stored h.step.stop) ids));
+      tells =
+          told_first old.world (model.Byte id byte h.step.stored h.step.stop) ids old.store h.typed.store new.store
+          (ap (λ (s : Serving). s.store) h.slow ∙ store_left Slow ids h.typed)
+          h.step.tells;
     }
 
 came_close : (old new : Serving) (id : ℕ) → Does old (Close id) new → Came old (Closes id) answers.Close new
@@ -63,7 +60,7 @@ came_close old new id d = record {
   events = model.Close id ∷ [];
   has = (d, refl);
   world = d.2;
-  saves = ap (λ (s : Serving). s.store.accepted) d.0 ∙ told_none old.store.accepted [] refl;
+  tells = stays_told old.store new.store (ap (λ (s : Serving). s.store) d.0);
 }
 
 came_took : (old new : Serving) (id n : ℕ) → Does old (Took id n) new → Came old (Takes id n) (answers.Took n) new
@@ -71,7 +68,7 @@ came_took old new id n d = record {
   events = [];
   has = (d, refl);
   world = ap (λ (s : Serving). s.world) d;
-  saves = ap (λ (s : Serving). s.store.accepted) d ∙ told_none old.store.accepted [] refl;
+  tells = stays_told old.store new.store (ap (λ (s : Serving). s.store) d);
 }
 
 -- and those of the ones behind it
@@ -81,12 +78,7 @@ ran_then old mid new asked answer all answered first rest = record {
   events = first.events ++ rest.events;
   each = (mid, first.events, rest.events, first.has, rest.each, refl);
   world = rest.world ∙ ap (λ (w : World). run w rest.events) first.world ∙ sym (run-append old.world first.events rest.events);
-  saves =
-      rest.saves
-      ∙ ap (λ (w : World). told_more (run_saves w rest.events) mid.store.accepted) first.world
-      ∙ ap (told_more (run_saves (run old.world first.events) rest.events)) first.saves
-      ∙ told_twice old.store.accepted (run_saves old.world first.events) (run_saves (run old.world first.events) rest.events)
-      ∙ ap (λ (xs : List Saved). told_more xs old.store.accepted) (sym (saves_behind old.world first.events rest.events));
+  tells = told_behind old.world mid.world first.events rest.events old.store mid.store new.store first.world first.tells rest.tells;
 }
 
 -- those of all
@@ -95,7 +87,7 @@ ran old new [] h = record {
   events = [];
   each = (refl, h);
   world = ap (λ (s : Serving). s.world) h;
-  saves = ap (λ (s : Serving). s.store.accepted) h ∙ told_none old.store.accepted [] refl;
+  tells = stays_told old.store new.store (ap (λ (s : Serving). s.store) h);
 }
 ran old new (Open user rows cols a ∷ cs) h =
     ran_then old h.0 new (Opens user rows cols) (answers.Open a) (asked_by cs) (answers_of cs) (came_open old h.0 user rows cols a h.1) (ran h.0 new cs h.2)
@@ -113,7 +105,7 @@ has_run served new told first calls made =
       events = r.events;
       each = r.each;
       world = ap (λ (s : Serving). s.world) told ∙ r.world;
-      saves = ap (λ (s : Serving). s.store.accepted) told ∙ r.saves;
+      tells = subst (λ (t : StoreTold). Tells (run_effects first.world r.events) first.store t) (sym (ap (λ (s : Serving). s.store) told)) r.tells;
     }
 
 -- TELLING: there is one less to be told, until none is left

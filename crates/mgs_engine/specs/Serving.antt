@@ -10,7 +10,7 @@ use Rattle.mgs_model.specs.declared.errors.OpenFault.TheVariants.{Full}
 use Rattle.mgs_model.specs.declared.limits.TheConstants.{SESSION_LIMIT}
 use Rattle.mgs_model.specs.Events.{is_open, open_fault}
 use Rattle.mgs_core.specs.Calls.{closed}
-use Rattle.mgs_store.specs.Stores.{StoreTold}
+use Rattle.mgs_births.specs.Telling.{StoreTold}
 use Rattle.mgs_world.specs.declared.size.Size.{Size}
 use Rattle.mgs_world.specs.Worlds.{sizes}
 use Rattle.mgs_engine.specs.declared.session_end.Cause.{Cause}
