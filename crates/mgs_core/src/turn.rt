@@ -2,6 +2,7 @@
 ghost use Rattle.std.specs.Prelude.{◌≡◌, ◌<◌, ◌≤◌, [], Some, IfOk, OnOk, OnErr, length, slice_get, slice_set, false, true};
 ghost use Rattle.std.specs.List.{position_or_len};
 ghost use Rattle.mgs_model.specs.World as model;
+ghost use Rattle.mgs_laws.specs.Apart.{is_anywhere};
 ghost use Rattle.mgs_model.specs.declared.errors.Keyed.TheVariants.{Done, Quit};
 ghost use Rattle.mgs_buffers.specs.Judging.{AreJudged, rules_kept};
 ghost use Rattle.mgs_session.specs.Playing.{are_played};
@@ -189,6 +190,7 @@ fn act_turn<T: Marked + Drop, S: Store + Drop>(
     ensures unasked { OnErr result (store.new ≡ store.old) }
     ensures further { OnOk result (LeavesFewer act at world.old.buffers world.new.buffers world.old.sessions.items world.new.sessions.items) }
     ensures touched { IfOk result (λ touched. AreApartAt touched at world.old world.new) }
+    ensures births { IfOk result (λ touched. is_anywhere touched ≡ false → store.new.births ≡ store.old.births) }
 {
     let due = Due {
         act,
@@ -241,6 +243,7 @@ fn take_turn<T: Marked + Drop, S: Store + Drop>(
     ensures stands { result.2 ≡ true → StaySettled world.old world.new }
     ensures alone { result.2 ≡ true → StateAlone at world.old.buffers world.new.buffers world.old.sessions.items world.new.sessions.items }
     ensures touched { AreApartAt result.1 at world.old world.new }
+    ensures births { is_anywhere result.1 ≡ false → store.new.births ≡ store.old.births }
 {
     // Each text is within the limit, before the act and after it.
     prove!(world.buffers.len() <= usize::MAX);
@@ -307,6 +310,7 @@ pub fn take_turns<T: Marked + Drop, S: Store + Drop>(
     ensures stands { result.2 ≡ true → StaySettled world.old world.new }
     ensures alone { result.2 ≡ true → StateAlone at world.old.buffers world.new.buffers world.old.sessions.items world.new.sessions.items }
     ensures touched { AreApartAt result.1 at world.old world.new }
+    ensures births { is_anywhere result.1 ≡ false → store.new.births ≡ store.old.births }
 {
     let mut keyed = Keyed::Done;
     let mut touched = Touched::Nowhere;
@@ -385,6 +389,7 @@ pub fn type_in<T: Marked + Drop, S: Store + Drop>(
     ensures left { result.0 ≡ Quit → store_and_births S.failed S.accepted store.new ≡ store_and_births S.failed S.accepted store.old }
     ensures keyed { IsTyped (store_and_births S.failed S.accepted) id byte world.old store.old world.new store.new result.0 }
     ensures touched { AreApart result.1 id world.old world.new }
+    ensures births { is_anywhere result.1 ≡ false → store.new.births ≡ store.old.births }
     ensures still { result.2 ≡ true → StaysStill id world.old world.new }
 {
     let was = is_bare(&world.sessions[at]);

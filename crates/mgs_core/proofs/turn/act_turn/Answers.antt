@@ -4,6 +4,7 @@ use Rattle.mgs_laws.proofs.Apart.{apart_same}
 use Rattle.mgs_world.specs.Worlds.{world_of}
 use Rattle.mgs_world.proofs.Sizes.{sizes_seen}
 use Rattle.mgs_world.proofs.Soundness.{sound_set, sizes_set}
+use Rattle.mgs_core.proofs.Births.{births_still}
 use Rattle.mgs_core.proofs.Acted.{byte_act_apart, byte_act_sizes}
 use Rattle.mgs_core.proofs.Judged.{touched_judged}
 use Rattle.mgs_core.proofs.Taken.{refused_in_world}
@@ -53,3 +54,8 @@ returns-in-Err-clause-err g c = record {
       (omega (arith, c.requires.within, c.do_byte_act.ensures.count)) is c.index_mut.ensures.value c.refuse.ensures (c.in-Err.ensures.err next);
   may = c.in-Err.ensures.may;
 }
+
+pub returns-in-Ok-clause-births : goal.returns-in-Ok-clause-births
+returns-in-Ok-clause-births g c apart =
+    let did = c.in-Ok.ensures.ok c.requires.place.0 None c.requires.place.1 in
+    did.acted.tells.births ∙ births_still _ c.in-Ok.touched c.args.store.now.births did.tells apart

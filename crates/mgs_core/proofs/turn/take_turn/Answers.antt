@@ -47,6 +47,7 @@ returns-in_default g c =
       stands = λ still rests next. step_stands d ks xs next id at h y place within is_h alone.0 alone.1 (rests next);
       alone = λ still. alone_written at ks xs h y is_h alone.0;
       touched = λ id place next. step_apart d ks xs next id at h y place within is_h c.answer_without_act-keyed.result.1 alone.0 alone.1;
+      births = λ apart. refl;
     }
 
 pub act_turn-done-requires : goal.act_turn-done-requires
@@ -104,6 +105,7 @@ returns-in-Ok g c =
       touched = λ id place next.
           apart_then touched id (world_of d ks xs next) (world_of d ks (slice_set xs at y) next) (world_of d ls ys next)
           (step_apart d ks xs next id at h y place within is_h touched s.state s.stays) (c.in-Ok.ensures.touched id (place_same id at xs (slice_set xs at y) place put) next);
+      births = c.in-Ok.ensures.births;
     }
 
 pub returns-in-Err : goal.returns-in-Err
@@ -138,4 +140,5 @@ returns-in-Err g c =
       stands = λ still. cc;
       alone = λ still. cc;
       touched = λ id place next. rw (turned id place next).told (apart_state Nowhere id refused_state (world_of d ks xs next));
+      births = λ apart. ap (λ s. s.births) c.in-Err.ensures.unasked;
     }

@@ -1,9 +1,12 @@
-use Rattle.std.proofs.Common.{◌≡◌, ◌∙◌, ℕ, ◌≤◌, refl, ap, sym, subst}
+use Rattle.std.proofs.Common.{◌≡◌, ◌∙◌, ℕ, ◌≤◌, false, refl, ap, sym, subst}
 use Rattle.std.specs.List.{position_or_len}
 use Rattle.std.proofs.lemmas.Bool.{and_parts}
 use Rattle.mgs_model.specs.World.{State}
 use Rattle.mgs_model.specs.declared.touched.Touched.TheVariants.{Nowhere}
+use Rattle.mgs_model.specs.declared.touched.Touched.{Touched}
+use Rattle.mgs_laws.specs.Apart.{is_anywhere}
 use Rattle.mgs_laws.proofs.Apart.{apart_same}
+use Rattle.mgs_core.proofs.Births.{both_apart}
 use Rattle.mgs_births.specs.StoreBirths.{store_and_births}
 use Rattle.mgs_world.specs.Worlds.{session_id, state_at, world_of}
 use Rattle.mgs_core.specs.Turns.{goes_on}
@@ -30,6 +33,7 @@ loop-keyed-init g c =
       stands = λ still rests. rests;
       alone = λ still. alone_none c.args.at w.buffers xs c.requires.within;
       touched = λ id place next. apart_same Nowhere id _;
+      births = λ apart. refl;
     }
 
 pub take_turn-next-requires-clause-place : goal.take_turn-next-requires-clause-place
@@ -70,6 +74,9 @@ loop-keyed-preserved g c =
       touched = λ id place next.
           rw c.touched_both-touched.ensures
           (apart_both l.touched t.result.1 id (world_of d w.buffers xs next) (world_of d ks ys next) (world_of d ls zs next) (l.invariant.touched id place next) (rw same at (t.ensures.touched id (here id place) next)));
+      births = λ apart.
+          let both = both_apart l.touched t.result.1 (subst (λ (x : Touched). is_anywhere x ≡ false) c.touched_both-touched.ensures apart) in
+          t.ensures.births both.1 ∙ l.invariant.births both.0;
     }
 
 pub returns-clause-event : goal.returns-clause-event

@@ -1,6 +1,6 @@
-use Rattle.std.proofs.Common.{◌≡◌, ℕ, true, Option}
+use Rattle.std.proofs.Common.{◌≡◌, ℕ, true, false, Option}
 use Rattle.std.specs.List.{position_or_len}
-use Rattle.mgs_laws.specs.Apart.{Apart}
+use Rattle.mgs_laws.specs.Apart.{Apart, is_anywhere}
 use Rattle.mgs_buffers.specs.Judging.{AreJudged, rules_kept}
 use Rattle.mgs_births.specs.StoreBirths.{store_and_births}
 use Rattle.mgs_world.specs.Sound.{IsSound}
@@ -28,6 +28,7 @@ invariant-loop-keyed g l =
       stands : l.stands ≡ true → StaySettled w v;
       alone : l.stands ≡ true → StateAlone l.at w.buffers v.buffers w.sessions.items v.sessions.items;
       touched : (id : ℕ) → l.at ≡ position_or_len (session_id id) w.sessions.items → (next : Option ℕ) → Apart l.touched id (world_of d w.buffers w.sessions.items next) (world_of d v.buffers v.sessions.items next);
+      births : is_anywhere l.touched ≡ false → l.store.births ≡ l.initial.store.births;
     }
 
 abbrev pub decreases-loop-keyed : goal.decreases-loop-keyed

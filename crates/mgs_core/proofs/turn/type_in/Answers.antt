@@ -65,6 +65,7 @@ returns-in-Quit g c =
           (event_ends (world_of d ks xs next) (world_of d ks ys next) _ _ _ id c.args.byte (b.world next) (session_of ks c.index.result.now) (b.found next)
           (subst IsUnique (sym (sizes_of_world d ks ys next ∙ b.sizes)) c.requires.unique) (c.requires.settles next) (ends next));
       touched = λ next. apart_then t.result.1 id _ _ _ (b.apart t.result.1 next) (t.ensures.touched id b.place next);
+      births = t.ensures.births;
     }
 
 pub index-requires-in_default : goal.index-requires-in_default
@@ -105,6 +106,7 @@ returns-in_default g c =
           event_keyed id c.args.byte (world_of d ks xs next) (world_of d ks ys next) (world_of d v.buffers zs next) (world_of d ls zs next) _ _ t.result.0 c.in_default.not-Quit (t.ensures.event id b.place next) here
           (open_still d ks ls xs zs next id (t.ensures.sizes ∙ b.sizes) here) (b.world next) (apart next).0;
       touched = λ next. (apart next).1;
+      births = t.ensures.births;
       still = λ stays next.
           let both = and_parts t.result.2 (c.is_bare-was.result && c.is_bare-now.result) stays in
           let bare = and_parts c.is_bare-was.result c.is_bare-now.result both.1 in

@@ -6,6 +6,7 @@ use Rattle.mgs_world.specs.Worlds.{sizes, IsUnique, is_size_of}
 use Rattle.mgs_model.specs.Events.{Close, run}
 use Rattle.mgs_model.specs.World.{World}
 use Rattle.mgs_laws.specs.Apart.{rules_in}
+use Rattle.mgs_births.specs.Telling.{StoreTold}
 use Rattle.mgs_core.specs.Kept.{Kept}
 use Rattle.mgs_core.specs.Calls.{sizes_keyed}
 use Rattle.mgs_engine.specs.Screens.{late_ids}
@@ -22,7 +23,7 @@ use Rattle.mgs_engine.proofs.Slots.{same_slots}
 use Rattle.mgs_engine.proofs.Stays.{served_closed}
 use Rattle.mgs_engine.proofs.Still.{handles_still, painted_still, served_still}
 use Rattle.mgs_engine.proofs.Painted.{painted_all, painted_closed}
-use Rattle.mgs_engine.proofs.Closes.{closes_stay}
+use Rattle.mgs_engine.proofs.Closes.{closes_stay, ended_store}
 use Rattle.mgs_engine.proofs.engine.Engine.byte_told.Goals as goal
 
 -- THE BYTE ENDED ITS SESSION
@@ -132,3 +133,11 @@ returns-clause-rules g c = λ not.
     ∙ ap (λ (k : Kept). rules_in k.world.buffers) c.redraw_apart.ensures.core
     ∙ c.key_told-keyed.ensures.touched.rules (sym c.is_anywhere-ruled.ensures ∙ not)
     ∙ ap (λ (s : Serving). rules_in s.world.buffers) c.self.view_is
+
+pub returns-clause-births : goal.returns-clause-births
+returns-clause-births g c = λ not.
+    ap (λ (s : Serving). s.store.births) c.end_late.ensures.ended
+    ∙ ap (λ (t : StoreTold). t.births) (ended_store Slow (late_ids c.redraw_apart.new.screens.items) (serving_of c.redraw_apart.new.core c.redraw_apart.new.screens.items c.self.inside.ended.items))
+    ∙ ap (λ (k : Kept). k.store.births) c.redraw_apart.ensures.core
+    ∙ c.key_told-keyed.ensures.births (sym c.is_anywhere-ruled.ensures ∙ not)
+    ∙ ap (λ (s : Serving). s.store.births) c.self.view_is
