@@ -1,4 +1,6 @@
 pub mod Acts
+pub mod Changes
 pub mod Kept
+pub mod Rows
 pub mod SetAside
 pub mod Texts

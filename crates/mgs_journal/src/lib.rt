@@ -2,10 +2,12 @@
 #![tactic(auto)]
 
 mod access_equality;
+mod change;
 mod room;
 mod snapshot;
 
-pub use access_equality::{are_same, is_same_name};
+pub use access_equality::{are_same, is_same_group, is_same_list, is_same_name};
+pub use change::Change;
 use mgs_buffers::Rights;
 use mgs_model::{Decision, Name};
 use mgs_wire::Refusal;
@@ -39,19 +41,20 @@ pub enum Told {
     Saved(Name, Name),
 }
 
-/// Where it is kept by what access to each buffer is decided, what text it had last, and what is told of events.
+/// Persistent store for the rights of each buffer, the texts of buffers, and the audit events.
 ///
 /// A fault leaves unknown what is kept: nothing is asked of the journal after it.
 pub trait Journal {
-    ghost use Rattle.std.specs.Prelude.{◌≡◌, ℕ, Bool, ◌<◌, ◌++◌, ◌∷◌, [], List, IfSome, OnOk, OnErr, Option, None, Some, get_or, length, remove, slice_get, slice_set, string_bytes, ◌&&◌, not};
+    ghost use Rattle.std.specs.Prelude.{◌≡◌, ℕ, Bool, ◌<◌, List, IfSome, OnOk, OnErr, Option, None, Some, get_or, length, slice_get, slice_set, string_bytes, ◌&&◌, not};
     ghost use Rattle.mgs_model.specs.Names.{same_name};
-    ghost use Rattle.mgs_laws.specs.Apart.{Rules};
-    ghost use Rattle.mgs_journal.specs.Acts.{Act, Add, Set, Remove, Forget, Put, Tell, Tick};
+    ghost use Rattle.mgs_journal.specs.Acts.{Act, Alter, Forget, Put, Tell, Tick};
+    ghost use Rattle.mgs_journal.specs.Changes.{rows_changed, texts_changed};
     ghost use Rattle.mgs_journal.specs.Kept.{place_of, without};
+    ghost use Rattle.mgs_journal.specs.Rows.{KeptRights, births_in_rows, rules_in_rows};
     ghost use Rattle.mgs_journal.specs.Texts.{KeptText};
 
-    // By what access to each buffer is decided, as it is kept, in the order of creation.
-    ghost kept: { Self → List Rules };
+    // What is kept of the rights of each buffer, in the order of creation.
+    ghost rows: { Self → List KeptRights };
 
     // What is kept of their texts, in the same order. A buffer whose text was not kept yet has none.
     ghost texts: { Self → List (Option KeptText) };
@@ -66,17 +69,20 @@ pub trait Journal {
     // It did not take what it was asked for, which leads from one state to another.
     ghost fails: { Self → Self → Type 0 };
 
-    /// By what access to the `i`-th buffer that is kept is decided. `None` where no more than `i` are.
+    /// The rights that are kept of the `i`-th buffer. `None` if no more than `i` are kept.
     fn rights(&self, i: usize) -> Option<Rights<'_>>
-        ensures { result ≡ slice_get (kept self.now) i };
+        ensures { result ≡ slice_get (rules_in_rows (rows self.now)) i };
 
-    /// The place among what is kept of the first buffer of this name. `None` where none is kept.
+    /// The birth number that is kept of the `i`-th buffer. 0 if no more than `i` are kept.
+    fn birth(&self, i: usize) -> u64
+        ensures { result ≡ get_or (births_in_rows (rows self.now)) i 0 };
+
+    /// The index of the first buffer of this name among those that are kept. `None` if none is kept.
     fn place(&self, name: &Name) -> Option<usize>
-        ensures value { result ≡ place_of name.now (kept self.now) }
-        ensures within { IfSome result (λ i. i < length (kept self.now)) };
+        ensures value { result ≡ place_of name.now (rules_in_rows (rows self.now)) }
+        ensures within { IfSome result (λ i. i < length (rows self.now)) };
 
-    /// What is kept of the text of the `i`-th buffer that is kept. `None` where none of its texts was kept yet, and where no more than `i`
-    /// are kept.
+    /// What is kept of the text of the `i`-th buffer. `None` if none of its texts was kept yet, and if no more than `i` buffers are kept.
     fn text(&self, i: usize) -> Option<Snapshot<'_>>
         ensures { result ≡ get_or (texts self.now) i None };
 
@@ -88,40 +94,26 @@ pub trait Journal {
     fn is_taken(&self, name: &Name) -> bool
         ensures { result ≡ taken self.now name.now };
 
-    /// A user, or whoever makes the server, made a buffer: it is kept as the last from now on.
-    fn add(&mut self, user: Option<Name>, rights: &Rights<'_>) -> Result<(), JournalFault>
-        ensures kept { OnOk result (kept self.new ≡ kept self.old ++ rights.now ∷ []) }
-        ensures texts { OnOk result (texts self.new ≡ texts self.old ++ None ∷ []) }
-        ensures done { OnOk result (does self.old (Add user rights.now) self.new) }
-        ensures failed { OnErr result (fails self.old self.new) };
-
-    /// By this access is decided from now on, where the `i`-th buffer was.
-    fn set(&mut self, user: Option<Name>, i: usize, rights: &Rights<'_>) -> Result<(), JournalFault>
-        requires { i < length (kept self.old) }
-        ensures kept { OnOk result (kept self.new ≡ slice_set (kept self.old) i rights.now) }
-        ensures texts { OnOk result (texts self.new ≡ texts self.old) }
+    /// Makes these changes, one after another, by this user, or by nobody if the server makes them at its start. They are kept at once, all
+    /// of them or none: no crash leaves a part.
+    fn change(&mut self, user: Option<Name>, changes: &[Change<'_>]) -> Result<(), JournalFault>
+        ensures rows { OnOk result (rows self.new ≡ rows_changed changes.now (rows self.old)) }
+        ensures texts { OnOk result (texts self.new ≡ texts_changed changes.now (texts self.old)) }
         ensures taken { OnOk result ((name : List ℕ) → taken self.new name ≡ taken self.old name) }
-        ensures done { OnOk result (does self.old (Set user i rights.now) self.new) }
+        ensures done { OnOk result (does self.old (Alter user changes.now) self.new) }
         ensures failed { OnErr result (fails self.old self.new) };
 
-    /// The `i`-th buffer was killed.
-    fn remove(&mut self, user: Option<Name>, i: usize) -> Result<(), JournalFault>
-        requires { i < length (kept self.old) }
-        ensures kept { OnOk result (kept self.new ≡ remove (kept self.old) i) }
-        ensures texts { OnOk result (texts self.new ≡ remove (texts self.old) i) }
-        ensures done { OnOk result (does self.old (Remove user i) self.new) }
-        ensures failed { OnErr result (fails self.old self.new) };
-
-    /// What is kept of the first buffer of this name goes, if one is, and the name is not taken: the next buffer of it is a configuration's.
+    /// Removes what is kept of the first buffer of this name, if one is kept, and frees the name: the next buffer of it is a
+    /// configuration's.
     fn forget(&mut self, name: &Name) -> Result<(), JournalFault>
-        ensures kept { OnOk result (kept self.new ≡ without (place_of name.now (kept self.old)) (kept self.old)) }
-        ensures texts { OnOk result (texts self.new ≡ without (place_of name.now (kept self.old)) (texts self.old)) }
+        ensures rows { OnOk result (rows self.new ≡ without (place_of name.now (rules_in_rows (rows self.old))) (rows self.old)) }
+        ensures texts { OnOk result (texts self.new ≡ without (place_of name.now (rules_in_rows (rows self.old))) (texts self.old)) }
         ensures taken { OnOk result ((other : List ℕ) → taken self.new other ≡ (taken self.old other && not (same_name name.now other))) }
         ensures done { OnOk result (does self.old (Forget name.now) self.new) }
         ensures failed { OnErr result (fails self.old self.new) };
 
-    /// The `i`-th buffer has this text, of which that is kept in the place of what was: the text, whether the buffer is modified, and the sum
-    /// of its file's text.
+    /// Keeps a text of the `i`-th buffer in the place of the one before: the text, whether the buffer is modified, and the checksum of its
+    /// file's text.
     fn set_text(
         &mut self,
         i: usize,
@@ -129,23 +121,23 @@ pub trait Journal {
         modified: bool,
         file: i64,
     ) -> Result<(), JournalFault>
-        requires { i < length (kept self.old) }
-        ensures kept { OnOk result (kept self.new ≡ kept self.old) }
+        requires { i < length (rows self.old) }
+        ensures rows { OnOk result (rows self.new ≡ rows self.old) }
         ensures texts { OnOk result (texts self.new
             ≡ slice_set (texts self.old) i (Some (record { body = string_bytes body; modified = modified; file = file }))) }
         ensures done { OnOk result (does self.old (Put i (record { body = string_bytes body; modified = modified; file = file })) self.new) }
         ensures failed { OnErr result (fails self.old self.new) };
 
-    /// What is told of an event. It may be gathered, and kept a little later.
+    /// Appends an audit event. It can be gathered; `tick` commits what is gathered.
     fn tell(&mut self, told: Told) -> Result<(), JournalFault>
-        ensures kept { OnOk result (kept self.new ≡ kept self.old) }
+        ensures rows { OnOk result (rows self.new ≡ rows self.old) }
         ensures texts { OnOk result (texts self.new ≡ texts self.old) }
         ensures done { OnOk result (does self.old (Tell told) self.new) }
         ensures failed { OnErr result (fails self.old self.new) };
 
-    /// What was gathered for so long that it is due is kept.
+    /// Commits the gathered events, if the oldest of them is due.
     fn tick(&mut self) -> Result<(), JournalFault>
-        ensures kept { OnOk result (kept self.new ≡ kept self.old) }
+        ensures rows { OnOk result (rows self.new ≡ rows self.old) }
         ensures texts { OnOk result (texts self.new ≡ texts self.old) }
         ensures done { OnOk result (does self.old Tick self.new) }
         ensures failed { OnErr result (fails self.old self.new) };

@@ -1,6 +1,7 @@
 -- Texts as UTF-8, piece by piece, and the buffers whose they are.
 use Rattle.std.proofs.Common.{◌≡◌, ℕ, zero, suc, ◌+◌, ◌<◌, Bool, true, false, List, [], ◌∷◌, ◌++◌, map, drop, length, Option, Some, refl, sym, ap, ◌∙◌, subst, append_assoc}
 use Rattle.std.proofs.lemmas.List.{drop_more}
+use Rattle.std.proofs.lemmas.Option.{slice_get_within, slice_get-map}
 use Rattle.std.proofs.lemmas.Slice.Eq.{bytes_eq-Decides}
 use Rattle.std.specs.Prelude.{find, get_or, slice_get, IsSome, if◌then◌else◌}
 use Rattle.std.specs.Option.{option_map}
@@ -12,8 +13,9 @@ use Rattle.mgs_buffers.specs.Found.{Named as Found}
 use Rattle.mgs_buffers.specs.Judging.{rules_kept}
 use Rattle.mgs_buffers.specs.MarkedBuffer.{HasBuffer, MarkedBuffer, marked_at, marked_named, marked_or_none}
 use Rattle.mgs_journal.specs.Texts.{KeptText}
-use Rattle.mgs_keep.specs.Keeping.{IsAt, IsOf}
-use Rattle.mgs_keep.proofs.Walks.{within as within_list}
+use Rattle.mgs_engine.specs.Serving.{Serving}
+use Rattle.mgs_journal.specs.Rows.{KeptRights}
+use Rattle.mgs_keep.specs.Keeping.{IsAt, IsOf, file_sum, row_of, rows_in}
 
 pub encodes_then : (xs ys : List ℕ) → encode_utf8_all (xs ++ ys) ≡ encode_utf8_all xs ++ encode_utf8_all ys
 encodes_then [] ys = refl
@@ -74,28 +76,38 @@ found_in : (name : List ℕ) (ks : List MarkedBuffer) → find (is_named name) (
 found_in name [] = refl
 found_in name (k ∷ ks) = either (is_named name k.buffer) k (find (is_named name) (map (λ k. k.buffer) ks)) (find (marked_named name) ks) (found_in name ks)
 
-is_of : (ks : List MarkedBuffer) (name : List ℕ) (t : KeptText) → Named name ks → t.body ≡ encode_utf8_all (marked_at name ks).buffer.text → t.modified ≡ (marked_at name ks).buffer.modified
-    → IsOf (find (is_named name) (map (λ k. k.buffer) ks)) t
-is_of ks name t named body modified =
+is_of : (ks : List MarkedBuffer) (name : List ℕ) (before : Option KeptText) (t : KeptText) → Named name ks → t.body ≡ encode_utf8_all (marked_at name ks).buffer.text
+    → t.modified ≡ (marked_at name ks).buffer.modified → t.file ≡ file_sum (marked_at name ks).buffer.modified (marked_at name ks).buffer.text before
+    → IsOf (find (is_named name) (map (λ k. k.buffer) ks)) before t
+is_of ks name before t named body modified file =
     let here : marked_at name ks ≡ named.buffer = ap marked_or_none named.found in
     let found : find (is_named name) (map (λ k. k.buffer) ks) ≡ Some named.buffer.buffer = found_in name ks ∙ ap (option_map (λ (k : MarkedBuffer). k.buffer)) named.found in
-    subst (λ (o : Option Buffer). IsOf o t) (sym found)
-    (body ∙ ap (λ (k : MarkedBuffer). encode_utf8_all k.buffer.text) here, modified ∙ ap (λ (k : MarkedBuffer). k.buffer.modified) here)
+    subst (λ (o : Option Buffer). IsOf o before t) (sym found) (
+      body ∙ ap (λ (k : MarkedBuffer). encode_utf8_all k.buffer.text) here,
+      modified ∙ ap (λ (k : MarkedBuffer). k.buffer.modified) here,
+      file ∙ ap (λ (k : MarkedBuffer). file_sum k.buffer.modified k.buffer.text before) here,
+    )
 
 -- what is kept is of the buffer as it stands
-pub snapshot_is : (ks : List MarkedBuffer) (bs : List Buffer) (i : ℕ) (r : Rules) (t : KeptText) → map (λ k. k.buffer) ks ≡ bs → Some r ≡ slice_get (rules_kept ks) i
-    → t.body ≡ encode_utf8_all (marked_at r.name ks).buffer.text → t.modified ≡ (marked_at r.name ks).buffer.modified → IsAt (slice_get (rules_in bs) i) bs t
-snapshot_is ks bs i r t same at body modified =
-    subst (λ (cs : List Buffer). IsAt (slice_get (rules_in cs) i) cs t) same
-    (subst (λ (o : Option Rules). IsAt o (map (λ k. k.buffer) ks) t) at (is_of ks r.name t (named_at ks i r at) body modified))
+pub snapshot_is : (ks : List MarkedBuffer) (bs : List Buffer) (i : ℕ) (r : Rules) (before : Option KeptText) (t : KeptText) → map (λ k. k.buffer) ks ≡ bs → Some r ≡ slice_get (rules_kept ks) i
+    → t.body ≡ encode_utf8_all (marked_at r.name ks).buffer.text → t.modified ≡ (marked_at r.name ks).buffer.modified
+    → t.file ≡ file_sum (marked_at r.name ks).buffer.modified (marked_at r.name ks).buffer.text before → IsAt (slice_get (rules_in bs) i) bs before t
+snapshot_is ks bs i r before t same at body modified file =
+    subst (λ (cs : List Buffer). IsAt (slice_get (rules_in cs) i) cs before t) same
+    (subst (λ (o : Option Rules). IsAt o (map (λ k. k.buffer) ks) before t) at (is_of ks r.name before t (named_at ks i r at) body modified file))
 
 -- so of one that was looked up by its name
-pub snapshot_by : (ks : List MarkedBuffer) (bs : List Buffer) (i : ℕ) (r s : Rules) (f : Found) (t : KeptText) → map (λ k. k.buffer) ks ≡ bs → Some r ≡ slice_get (rules_kept ks) i → s ≡ r
-    → f ≡ record { name = s.name; all = ks } → t.body ≡ encode_utf8_all (marked_at f.name f.all).buffer.text → t.modified ≡ (marked_at f.name f.all).buffer.modified
-    → IsAt (slice_get (rules_in bs) i) bs t
-snapshot_by ks bs i r s f t same at is found body modified =
+pub snapshot_by : (ks : List MarkedBuffer) (bs : List Buffer) (i : ℕ) (r s : Rules) (f : Found) (before : Option KeptText) (t : KeptText) → map (λ k. k.buffer) ks ≡ bs
+    → Some r ≡ slice_get (rules_kept ks) i → s ≡ r → f ≡ record { name = s.name; all = ks } → t.body ≡ encode_utf8_all (marked_at f.name f.all).buffer.text
+    → t.modified ≡ (marked_at f.name f.all).buffer.modified → t.file ≡ file_sum t.modified (marked_at f.name f.all).buffer.text before
+    → IsAt (slice_get (rules_in bs) i) bs before t
+snapshot_by ks bs i r s f before t same at is found body modified file =
     let here : marked_at f.name f.all ≡ marked_at r.name ks = ap (λ (g : Found). marked_at g.name g.all) found ∙ ap (λ (q : Rules). marked_at q.name ks) is in
-    snapshot_is ks bs i r t same at (body ∙ ap (λ (k : MarkedBuffer). encode_utf8_all k.buffer.text) here) (modified ∙ ap (λ (k : MarkedBuffer). k.buffer.modified) here)
+    snapshot_is ks bs i r before t same at (body ∙ ap (λ (k : MarkedBuffer). encode_utf8_all k.buffer.text) here) (modified ∙ ap (λ (k : MarkedBuffer). k.buffer.modified) here)
+    (file ∙ ap (λ (m : Bool). file_sum m (marked_at f.name f.all).buffer.text before) modified ∙ ap (λ (k : MarkedBuffer). file_sum k.buffer.modified k.buffer.text before) here)
 
-pub within_kept : {B : Type 0} (ys kept : List B) (i : ℕ) (r : B) → Some r ≡ slice_get ys i → kept ≡ ys → i < length kept
-within_kept ys kept i r at same = subst (λ zs. i < length zs) (sym same) (within_list ys i r (sym at))
+pub within_rows : (s : Serving) (rows : List KeptRights) (i : ℕ) (r : Rules) → Some r ≡ slice_get (rules_in s.world.buffers) i → rows ≡ rows_in s → i < length rows
+within_rows s rows i r at same =
+    subst (λ rs. i < length rs) (sym same)
+    (slice_get_within (rows_in s) i (row_of s.store.births r)
+    (slice_get-map (row_of s.store.births) (rules_in s.world.buffers) i ∙ ap (option_map (row_of s.store.births)) (sym at)))

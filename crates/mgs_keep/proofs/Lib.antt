@@ -1,11 +1,12 @@
 mod Asking
 mod Bodies
 mod Calls
+mod Differences
 mod Ends
 mod Noted
 mod Places
+mod Rows
 mod Rules
 mod Running
 mod Sayings
 mod Sums
-mod Walks

@@ -1,6 +1,6 @@
 -- A server of whose buffers a journal keeps by what access they may be shown.
 use Rattle.std.specs.Str.{encode_utf8_all}
-use Rattle.std.specs.Prelude.{◌≡◌, ◌⊎◌, ℕ, Bool, true, false, cond, List, [], ◌∷◌, ◌++◌, map, find, length, slice_get, Option, Some, None, Ok, Err, if◌then◌else◌}
+use Rattle.std.specs.Prelude.{◌≡◌, ◌⊎◌, ◌<◌, ℕ, ℤ, pos, Bool, true, false, cond, List, [], ◌∷◌, ◌++◌, map, find, length, slice_get, get_or, Option, Some, None, Ok, Err, if◌then◌else◌}
 use Rattle.mgs_model.specs.Names.{is_name}
 use Rattle.mgs_model.specs.World.{Buffer, Session, find_session, is_named}
 use Rattle.mgs_model.specs.declared.echo_text.Message.{Message}
@@ -14,11 +14,16 @@ use Rattle.mgs_wire.specs.declared.refusal.Refusal.{Refusal}
 use Rattle.mgs_engine.specs.Does.{Does}
 use Rattle.mgs_engine.specs.Running.{Ran}
 use Rattle.mgs_engine.specs.Serving.{Serving, is_to_tell, pending_of}
-use Rattle.mgs_journal.specs.Acts.{Act, Put, Tell, Tick, AreChanges, AreDone}
+use Rattle.mgs_births.specs.Births.{Births, number_of}
+use Rattle.mgs_journal.specs.Acts.{Act, Alter, Put, Tell, Tick, AreDone}
+use Rattle.mgs_journal.specs.Rows.{KeptRights}
 use Rattle.mgs_journal.specs.Texts.{KeptText}
+use Rattle.mgs_journal.specs.declared.change.Change.{Change}
 use Rattle.mgs_journal.specs.declared.Told.{Told}
 use Rattle.mgs_journal.specs.declared.Told.TheVariants.{Came, Refused, RefusedUnnamed, Denied, Saved}
+use Rattle.mgs_keep.specs.Differences.{AreDifferences}
 use Rattle.mgs_keep.specs.Ends.{AreNoted, ends_told, listed, noted_after, noted_left}
+use Rattle.mgs_keep.specs.Sums.{sum_of}
 use Rattle.mgs_keep.specs.declared.session_users.Noted.{Noted}
 
 -- what is served, whose the sessions are whose end is to be told, the journal, and whether it failed
@@ -31,9 +36,16 @@ pub record Held (J : Type 0) : Type 0 where
 abbrev pub held : {J : Type 0} → Serving → List Noted → J → Bool → Held J
 held s users j failed = record { serving = s; users = users; journal = j; failed = failed }
 
--- what is kept is by what access is decided
-abbrev pub AreKept : {J : Type 0} → (J → List Rules) → Serving → J → Type 0
-AreKept kept s j = kept j ≡ rules_in s.world.buffers
+-- what a journal is to keep of a buffer's rights: with them its birth number
+abbrev pub row_of : Births → Rules → KeptRights
+row_of births r = record { rules = r; birth = number_of r.name births }
+
+abbrev pub rows_in : Serving → List KeptRights
+rows_in s = map (row_of s.store.births) (rules_in s.world.buffers)
+
+-- THE JOURNAL KEEPS by what access each buffer is decided, and which buffer it is
+abbrev pub AreKept : {J : Type 0} → (J → List KeptRights) → Serving → J → Type 0
+AreKept rows s j = rows j ≡ rows_in s
 
 -- the bytes that may be handed to a terminal: none once the journal failed
 abbrev pub shown : {J : Type 0} → ℕ → Held J → List ℕ
@@ -44,8 +56,8 @@ abbrev pub is_shown_end : {J : Type 0} → ℕ → Held J → Bool
 is_shown_end id s = cond s.failed false (is_to_tell id s.serving)
 
 -- BYTES ARE SHOWN only where the journal did not fail and keeps by what access is decided
-abbrev pub ShowsKept : {J : Type 0} → (J → List Rules) → Held J → List ℕ → Type 0
-ShowsKept kept s bytes = (bytes ≡ []) ⊎ (AreKept kept s.serving s.journal × (s.failed ≡ false))
+abbrev pub ShowsKept : {J : Type 0} → (J → List KeptRights) → Held J → List ℕ → Type 0
+ShowsKept rows s bytes = (bytes ≡ []) ⊎ (AreKept rows s.serving s.journal × (s.failed ≡ false))
 
 -- WHAT IS TOLD OF A CALL
 
@@ -89,47 +101,61 @@ user_by _ old = None
 
 -- WHAT A JOURNAL WAS ASKED FOR
 
--- for some changes by this user
-pub record HasChanged {J : Type 0} (does : J → Act → J → Type 0) (user : Option (List ℕ)) (old new : J) : Type 0 where
-  pub changes : List Act
-  pub each : AreChanges user changes
-  pub done : AreDone does changes old new
+-- changes are asked for in one act, if there are any
+abbrev pub altered : Option (List ℕ) → List Change → List Act
+altered user [] = []
+altered user (c ∷ cs) = Alter user (c ∷ cs) ∷ []
+
+-- for the changes that make its rows those of the buffers, and no others, by this user and in one act
+pub record HasChanged {J : Type 0} (rows : J → List KeptRights) (does : J → Act → J → Type 0) (user : Option (List ℕ)) (s : Serving) (old new : J) : Type 0 where
+  pub changes : List Change
+  pub each : AreDifferences 0 (rows_in s) (rows old) changes
+  pub done : AreDone does (altered user changes) old new
 
 -- it was told these, one after another
 abbrev pub WereTold : {J : Type 0} → (J → Act → J → Type 0) → List Told → J → J → Type 0
 WereTold does told old new = AreDone does (map Tell told) old new
 
--- what is kept of a text is all of a buffer's as it stands, as UTF-8, and whether that is modified
-abbrev pub IsOf : Option Buffer → KeptText → Type 0
-IsOf None text = ⊥
-IsOf (Some b) text = (text.body ≡ encode_utf8_all b.text) × (text.modified ≡ b.modified)
+-- the checksum of its file's text that is kept with a text: that of the text itself if the buffer is as its file is, else the one before
+abbrev pub sum_before : Option KeptText → ℤ
+sum_before None = pos 0
+sum_before (Some t) = t.file
 
--- so of the buffer that has the name of the one at a place
-abbrev pub IsAt : Option Rules → List Buffer → KeptText → Type 0
-IsAt None buffers text = ⊥
-IsAt (Some r) buffers text = IsOf (find (is_named r.name) buffers) text
+abbrev pub file_sum : Bool → List ℕ → Option KeptText → ℤ
+file_sum modified text before = cond modified (sum_before before) (sum_of text)
 
-abbrev pub IsSnapshot : Serving → Act → Type 0
-IsSnapshot s (Put place text) = IsAt (slice_get (rules_in s.world.buffers) place) s.world.buffers text
-IsSnapshot s _ = ⊥
+-- what is kept of a text is all of a buffer's as it stands, as UTF-8, whether that is modified, and the checksum of its file's text
+abbrev pub IsOf : Option Buffer → Option KeptText → KeptText → Type 0
+IsOf None before text = ⊥
+IsOf (Some b) before text = (text.body ≡ encode_utf8_all b.text) × (text.modified ≡ b.modified) × (text.file ≡ file_sum b.modified b.text before)
 
-abbrev pub AreSnapshots : Serving → List Act → Type 0
-AreSnapshots s [] = Unit {0}
-AreSnapshots s (a ∷ acts) = IsSnapshot s a × AreSnapshots s acts
+-- so of the buffer that has the name of the one at an index
+abbrev pub IsAt : Option Rules → List Buffer → Option KeptText → KeptText → Type 0
+IsAt None buffers before text = ⊥
+IsAt (Some r) buffers before text = IsOf (find (is_named r.name) buffers) before text
 
--- for keeping texts of buffers as they stand
-pub record HasPut {J : Type 0} (does : J → Act → J → Type 0) (s : Serving) (old new : J) : Type 0 where
-  pub texts : List Act
-  pub each : AreSnapshots s texts
-  pub done : AreDone does texts old new
+abbrev pub IsSnapshot : {J : Type 0} → (J → List (Option KeptText)) → Serving → J → Act → Type 0
+IsSnapshot texts s j (Put place text) = IsAt (slice_get (rules_in s.world.buffers) place) s.world.buffers (get_or (texts j) place None) text
+IsSnapshot texts s j _ = ⊥
 
--- for some changes by this user, then it was told these, then for keeping texts as they stand, and for nothing else
-pub record Asked {J : Type 0} (does : J → Act → J → Type 0) (user : Option (List ℕ)) (told : List Told) (s : Serving) (old new : J) : Type 0 where
-  pub changes : List Act
-  pub each : AreChanges user changes
-  pub texts : List Act
-  pub snapshots : AreSnapshots s texts
-  pub done : AreDone does (changes ++ (map Tell told ++ texts)) old new
+-- texts of buffers are kept as they stand, one after another
+abbrev pub ArePut : {J : Type 0} → (J → List (Option KeptText)) → (J → Act → J → Type 0) → Serving → List Act → J → J → Type 0
+ArePut texts does s [] old new = new ≡ old
+ArePut {J = J} texts does s (a ∷ acts) old new = (mid : J) × IsSnapshot texts s old a × does old a mid × ArePut texts does s acts mid new
+
+pub record HasPut {J : Type 0} (texts : J → List (Option KeptText)) (does : J → Act → J → Type 0) (s : Serving) (old new : J) : Type 0 where
+  pub acts : List Act
+  pub done : ArePut texts does s acts old new
+
+-- for the changes that make its rows those of the buffers, in one act by this user, then it was told these, then for keeping texts as they
+-- stand, and for nothing else
+pub record Asked {J : Type 0} (rows : J → List KeptRights) (texts : J → List (Option KeptText)) (does : J → Act → J → Type 0) (user : Option (List ℕ)) (told : List Told)
+    (s : Serving) (old new : J) : Type 0 where
+  pub changes : List Change
+  pub each : AreDifferences 0 (rows_in s) (rows old) changes
+  pub mid : J
+  pub done : AreDone does (altered user changes ++ map Tell told) old mid
+  pub put : HasPut texts does s mid new
 
 -- It took what it was asked for, or it failed: then it did not take the last of it. One that failed before is asked for nothing.
 pub record OrFails {J : Type 0} (fails : J → J → Type 0) (does : J → J → Type 0) (before : Bool) (old : J) (after : Bool) (new : J) : Type 0 where
@@ -137,27 +163,32 @@ pub record OrFails {J : Type 0} (fails : J → J → Type 0) (does : J → J →
   pub failed : before ≡ false → after ≡ true → (mid : J) × fails mid new
   pub stays : before ≡ true → (after ≡ true) × (new ≡ old)
 
+-- It did not take what it was asked for, or nothing was asked of it since there are more than 256 buffers or rows: no server has so many.
+abbrev pub FailsOrCrowds : {J : Type 0} → (J → J → Type 0) → (J → List KeptRights) → List KeptRights → J → J → Type 0
+FailsOrCrowds fails rows now old new = fails old new ⊎ ((new ≡ old) × ((256 < length now) ⊎ (256 < length (rows old))))
+
 -- A CALL: the server does it, and whose the session is that it opened is noted. Unless the journal failed it keeps by what access is
 -- decided from then on, and was asked for the changes that are the doing of the call's user, and told of the call.
-pub record Keeps {J : Type 0} (keeps : J → List Rules) (does : J → Act → J → Type 0) (fails : J → J → Type 0) (old : Held J) (call : Call) (new : Held J) : Type 0 where
+pub record Keeps {J : Type 0} (rows : J → List KeptRights) (texts : J → List (Option KeptText)) (does : J → Act → J → Type 0) (fails : J → J → Type 0)
+    (old : Held J) (call : Call) (new : Held J) : Type 0 where
   pub done : Does old.serving call new.serving
   pub users : new.users ≡ noted_after call new.serving old.users
   pub noted : AreNoted old.serving old.users → AreNoted new.serving new.users
-  pub kept : new.failed ≡ false → AreKept keeps new.serving new.journal
-  pub journal : OrFails fails (Asked does (user_by call old.serving) (told_of call new.serving) new.serving) old.failed old.journal new.failed new.journal
+  pub kept : new.failed ≡ false → AreKept rows new.serving new.journal
+  pub journal : OrFails (FailsOrCrowds fails rows (rows_in new.serving)) (Asked rows texts does (user_by call old.serving) (told_of call new.serving) new.serving) old.failed old.journal new.failed new.journal
 
 -- it was told of these ends, then to keep texts as they stand, and then what it gathered for long enough
-abbrev pub EndsTold : {J : Type 0} → (J → Act → J → Type 0) → List Told → Serving → J → J → Type 0
-EndsTold {J = J} does ends s old new = (told mid : J) × WereTold does ends old told × HasPut does s told mid × AreDone does (Tick ∷ []) mid new
+abbrev pub EndsTold : {J : Type 0} → (J → List (Option KeptText)) → (J → Act → J → Type 0) → List Told → Serving → J → J → Type 0
+EndsTold {J = J} texts does ends s old new = (told mid : J) × WereTold does ends old told × HasPut texts does s told mid × AreDone does (Tick ∷ []) mid new
 
 -- EACH THAT ENDED WAS TOLD: the journal of each whose it was and why, where those that are open or to be told were noted
-pub record HasTold {J : Type 0} (keeps : J → List Rules) (does : J → Act → J → Type 0) (fails : J → J → Type 0) (old new : Held J) : Type 0 where
+pub record HasTold {J : Type 0} (rows : J → List KeptRights) (texts : J → List (Option KeptText)) (does : J → Act → J → Type 0) (fails : J → J → Type 0) (old new : Held J) : Type 0 where
   pub served : new.serving ≡ record old.serving { ended = [] }
   pub users : new.users ≡ noted_left old.users old.serving.ended
   pub noted : AreNoted old.serving old.users → AreNoted new.serving new.users
   pub each : AreNoted old.serving old.users → length (ends_told old.users old.serving.ended) ≡ length old.serving.ended
-  pub kept : new.failed ≡ false → AreKept keeps new.serving new.journal
-  pub journal : OrFails fails (EndsTold does (ends_told old.users old.serving.ended) new.serving) old.failed old.journal new.failed new.journal
+  pub kept : new.failed ≡ false → AreKept rows new.serving new.journal
+  pub journal : OrFails fails (EndsTold texts does (ends_told old.users old.serving.ended) new.serving) old.failed old.journal new.failed new.journal
 
 -- what calls lead to is what the server ran
 abbrev pub HasRun : {J : Type 0} → Held J → List Call → Held J → Held J → Type 0

@@ -2,4 +2,3 @@ pub mod Differences
 pub mod Ends
 pub mod Keeping
 pub mod Sums
-pub mod Walks

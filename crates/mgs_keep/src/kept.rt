@@ -48,20 +48,20 @@ impl<T: Marked + Drop, S: Store + Drop, J: Journal + Drop> Model for Kept<T, S, 
 
     ghost view = { λ k. held k.engine k.users k.journal k.failed };
 
-    ghost invariant = { λ k. k.failed ≡ false → AreKept J.kept k.engine k.journal };
+    ghost invariant = { λ k. k.failed ≡ false → AreKept J.rows k.engine k.journal };
 }
 
 impl<T: Marked + Drop, S: Store + Drop, J: Journal + Drop> Kept<T, S, J> {
     /// A server of which nothing was shown yet, and its journal, which keeps from now on by what access its buffers may be shown.
-    /// `JournalFault`: it did not take that, or memory was refused before.
+    /// `JournalFault`: it did not take that, it keeps more than 256 buffers, or memory was refused.
     pub fn new(
         alloc: Global,
         engine: Engine<T, S>,
         mut journal: J,
     ) -> Result<Kept<T, S, J>, JournalFault>
         ensures serving { IfOk result (λ k. k.serving ≡ engine) }
-        ensures kept { IfOk result (λ k. AreKept J.kept k.serving k.journal) }
-        ensures changed { IfOk result (λ k. HasChanged J.does None journal k.journal) }
+        ensures kept { IfOk result (λ k. AreKept J.rows k.serving k.journal) }
+        ensures changed { IfOk result (λ k. HasChanged J.rows J.does None k.serving journal k.journal) }
         ensures users { IfOk result (λ k. k.users ≡ []) }
         ensures noted { IfOk result (λ k. ids_due engine ≡ [] → AreNoted k.serving k.users) }
         ensures failed { IfOk result (λ k. k.failed ≡ false) }
@@ -88,6 +88,22 @@ impl<T: Marked + Drop, S: Store + Drop, J: Journal + Drop> Kept<T, S, J> {
         &self.journal
     }
 
+    /// Ends the server, and gives the journal back.
+    pub fn into_journal(self) -> J
+        ensures { result ≡ self.journal }
+    {
+        let Kept {
+            engine: _,
+            journal,
+            users: _,
+            round: _,
+            room: _,
+            alloc: _,
+            failed: _,
+        } = self;
+        journal
+    }
+
     /// Whether the journal failed. Nothing is shown then.
     pub fn has_failed(&self) -> bool
         ensures { result ≡ self.now.failed }
@@ -101,7 +117,7 @@ impl<T: Marked + Drop, S: Store + Drop, J: Journal + Drop> Sessions for Kept<T, 
     ghost use Rattle.mgs_model.specs.Events.{is_open};
     ghost use Rattle.mgs_keep.specs.Keeping.{Keeps, ShowsKept, shown, is_shown_end};
 
-    ghost does = { Keeps J.kept J.does J.fails };
+    ghost does = { Keeps J.rows J.texts J.does J.fails };
 
     ghost live = { λ id s. is_open id s.serving.world };
 
@@ -160,7 +176,7 @@ impl<T: Marked + Drop, S: Store + Drop, J: Journal + Drop> Sessions for Kept<T, 
     // What a terminal is shown is drawn by access that is kept.
     fn pending(&self, id: SessionId) -> &[u8]
         ensures value { result.now ≡ shown id self.now }
-        ensures kept { ShowsKept J.kept self.now result.now }
+        ensures kept { ShowsKept J.rows self.now result.now }
     {
         if self.failed {
             return &[];
@@ -212,7 +228,7 @@ fn tell_all<T: Marked + Drop, S: Store + Drop, J: Journal>(
 )
     ensures engine { engine.new ≡ record engine.old { ended = [] } }
     ensures users { users.new ≡ noted_left users.old engine.old.ended }
-    ensures kept { failed.new ≡ false → J.kept journal.new ≡ J.kept journal.old }
+    ensures kept { failed.new ≡ false → J.rows journal.new ≡ J.rows journal.old }
     ensures journal { OrFails J.fails (WereTold J.does (ends_told users.old engine.old.ended)) failed.old journal.old failed.new journal.new }
 {
     while let Some((id, cause)) = engine.ended() {
@@ -224,7 +240,7 @@ fn tell_all<T: Marked + Drop, S: Store + Drop, J: Journal>(
 impl<T: Marked + Drop, S: Store + Drop, J: Journal + Drop> Served for Kept<T, S, J> {
     ghost use Rattle.mgs_keep.specs.Keeping.{HasRun, HasTold};
 
-    ghost tells = { HasTold J.kept J.does J.fails };
+    ghost tells = { HasTold J.rows J.texts J.does J.fails };
 
     ghost runs = { HasRun };
 

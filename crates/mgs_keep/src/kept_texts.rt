@@ -1,7 +1,7 @@
 // What is kept of texts.
 ghost use Rattle.std.specs.Prelude.{◌≡◌, ◌++◌, false, IfOk, OnOk, string_bytes};
 ghost use Rattle.std.specs.Str.{encode_utf8_all};
-ghost use Rattle.mgs_keep.specs.Keeping.{AreKept, HasPut, OrFails};
+ghost use Rattle.mgs_keep.specs.Keeping.{AreKept, HasPut, OrFails, file_sum};
 ghost use Rattle.mgs_keep.specs.Sums.{sum_of, summed};
 
 use crate::round::{Round, Standing, TEXT_SECONDS};
@@ -65,8 +65,10 @@ pub fn text_sum<T: Marked>(text: &T) -> i64
     sum.cast_signed()
 }
 
-// The sum of its file's text with which a text is kept: its own, where the buffer is as its file is, or else the one before.
-fn file_sum<T: Marked>(kept: Option<Snapshot<'_>>, text: &T, modified: bool) -> i64 {
+// The checksum of its file's text with which a text is kept: its own if the buffer is as its file is, else the one before.
+fn file_sum<T: Marked>(kept: &Option<Snapshot<'_>>, text: &T, modified: bool) -> i64
+    ensures { result ≡ file_sum modified (T.text text.now) kept.now }
+{
     if !modified {
         return text_sum(text);
     }
@@ -105,9 +107,9 @@ fn keep_text<T: Marked + Drop, S: Store + Drop, J: Journal>(
     failed: &mut bool,
     i: usize,
 ) -> bool
-    requires { failed.old ≡ false → AreKept J.kept engine.now journal.old }
-    ensures kept { failed.new ≡ false → J.kept journal.new ≡ J.kept journal.old }
-    ensures journal { OrFails J.fails (HasPut J.does engine.now) failed.old journal.old failed.new journal.new }
+    requires { failed.old ≡ false → AreKept J.rows engine.now journal.old }
+    ensures kept { failed.new ≡ false → J.rows journal.new ≡ J.rows journal.old }
+    ensures journal { OrFails J.fails (HasPut J.texts J.does engine.now) failed.old journal.old failed.new journal.new }
     ensures left { result ≡ false → (journal.new ≡ journal.old) × (failed.new ≡ failed.old) }
 {
     if *failed {
@@ -125,7 +127,7 @@ fn keep_text<T: Marked + Drop, S: Store + Drop, J: Journal>(
     if is_kept(journal.text(i), body.as_str(), modified) {
         return true;
     }
-    let file = file_sum(journal.text(i), found.text(), modified);
+    let file = file_sum(&journal.text(i), found.text(), modified);
     match journal.set_text(i, body, modified, file) {
         Ok(()) => {}
         Err(JournalFault) => *failed = true,
@@ -142,9 +144,9 @@ fn keep_in_room<T: Marked + Drop, S: Store + Drop, J: Journal>(
     room: &mut Room,
     i: usize,
 ) -> bool
-    requires { failed.old ≡ false → AreKept J.kept engine.now journal.old }
-    ensures kept { failed.new ≡ false → J.kept journal.new ≡ J.kept journal.old }
-    ensures journal { OrFails J.fails (HasPut J.does engine.now) failed.old journal.old failed.new journal.new }
+    requires { failed.old ≡ false → AreKept J.rows engine.now journal.old }
+    ensures kept { failed.new ≡ false → J.rows journal.new ≡ J.rows journal.old }
+    ensures journal { OrFails J.fails (HasPut J.texts J.does engine.now) failed.old journal.old failed.new journal.new }
     ensures left { result ≡ false → (journal.new ≡ journal.old) × (failed.new ≡ failed.old) }
 {
     if journal.text(i).is_none() {
@@ -167,9 +169,9 @@ fn keep_unless_noted<T: Marked + Drop, S: Store + Drop, J: Journal>(
     room: &mut Room,
     place: usize,
 ) -> bool
-    requires { failed.old ≡ false → AreKept J.kept engine.now journal.old }
-    ensures kept { failed.new ≡ false → J.kept journal.new ≡ J.kept journal.old }
-    ensures journal { OrFails J.fails (HasPut J.does engine.now) failed.old journal.old failed.new journal.new }
+    requires { failed.old ≡ false → AreKept J.rows engine.now journal.old }
+    ensures kept { failed.new ≡ false → J.rows journal.new ≡ J.rows journal.old }
+    ensures journal { OrFails J.fails (HasPut J.texts J.does engine.now) failed.old journal.old failed.new journal.new }
     ensures left { result ≡ false → (journal.new ≡ journal.old) × (failed.new ≡ failed.old) }
 {
     let Some(standing) = standing_at(engine, place) else {
@@ -196,9 +198,9 @@ pub(crate) fn keep_next<T: Marked + Drop, S: Store + Drop, J: Journal>(
     round: &mut Round,
     room: &mut Room,
 )
-    requires { failed.old ≡ false → AreKept J.kept engine.now journal.old }
-    ensures kept { failed.new ≡ false → J.kept journal.new ≡ J.kept journal.old }
-    ensures journal { OrFails J.fails (HasPut J.does engine.now) failed.old journal.old failed.new journal.new }
+    requires { failed.old ≡ false → AreKept J.rows engine.now journal.old }
+    ensures kept { failed.new ≡ false → J.rows journal.new ≡ J.rows journal.old }
+    ensures journal { OrFails J.fails (HasPut J.texts J.does engine.now) failed.old journal.old failed.new journal.new }
 {
     let Some(from) = round.next(journal.is_text_due(TEXT_SECONDS)) else {
         return;
@@ -235,9 +237,9 @@ pub(crate) fn keep_saved<T: Marked + Drop, S: Store + Drop, J: Journal>(
     room: &mut Room,
     name: Option<Name>,
 )
-    requires { failed.old ≡ false → AreKept J.kept engine.now journal.old }
-    ensures kept { failed.new ≡ false → J.kept journal.new ≡ J.kept journal.old }
-    ensures journal { OrFails J.fails (HasPut J.does engine.now) failed.old journal.old failed.new journal.new }
+    requires { failed.old ≡ false → AreKept J.rows engine.now journal.old }
+    ensures kept { failed.new ≡ false → J.rows journal.new ≡ J.rows journal.old }
+    ensures journal { OrFails J.fails (HasPut J.texts J.does engine.now) failed.old journal.old failed.new journal.new }
 {
     let Some(name) = name else {
         return;

@@ -1,7 +1,7 @@
 //! A server that shows nothing before a journal keeps by what access it may be shown.
 //!
-//! [`Kept`] stands between a server and its connections. After each event it compares by what access to each buffer is decided with what
-//! its [`Journal`] keeps, and has that keep what differs. Where the journal fails nothing more is shown.
+//! [`Kept`] stands between a server and its connections. After each event it compares the rights and the birth number of each buffer with
+//! the rows of its [`Journal`], and has the journal keep what differs, in one call. Once the journal failed nothing more is shown.
 #![tactic(auto)]
 
 mod access_changes;

@@ -16,7 +16,7 @@ use mgs_wire::Refusal;
 
 /// Hands to the journal what is told, if anything is and it did not fail.
 pub(crate) fn tell<J: Journal>(journal: &mut J, failed: &mut bool, told: Option<Told>)
-    ensures kept { failed.new ≡ false → J.kept journal.new ≡ J.kept journal.old }
+    ensures kept { failed.new ≡ false → J.rows journal.new ≡ J.rows journal.old }
     ensures journal { OrFails J.fails (WereTold J.does (listed told)) failed.old journal.old failed.new journal.new }
 {
     if *failed {
@@ -33,7 +33,7 @@ pub(crate) fn tell<J: Journal>(journal: &mut J, failed: &mut bool, told: Option<
 
 /// Has the journal keep what it gathered for long enough, if it did not fail.
 pub(crate) fn tick<J: Journal>(journal: &mut J, failed: &mut bool)
-    ensures kept { failed.new ≡ false → J.kept journal.new ≡ J.kept journal.old }
+    ensures kept { failed.new ≡ false → J.rows journal.new ≡ J.rows journal.old }
     ensures journal { OrFails J.fails (AreDone J.does (Tick ∷ [])) failed.old journal.old failed.new journal.new }
 {
     if *failed {

@@ -1,10 +1,12 @@
 // A journal of tests: what it is told is written down in words, and after so many calls it fails.
-ghost use Rattle.std.specs.Prelude.{◌≡◌, ◌<◌, IfSome, length};
+ghost use Rattle.std.specs.Prelude.{◌≡◌, ◌<◌, ◌∷◌, ◌++◌, [], IfSome, None, OnOk, length, remove};
+ghost use Rattle.mgs_journal.specs.Changes.{row_changed, rows_changed, text_changed, texts_changed};
 ghost use Rattle.mgs_journal.specs.Kept.{place_of};
+ghost use Rattle.mgs_journal.specs.Rows.{rules_in_rows};
 
 use mgs_acl::List;
 use mgs_buffers::Rights;
-use mgs_journal::{Journal, JournalFault, Snapshot, Told};
+use mgs_journal::{Change, Journal, JournalFault, Snapshot, Told};
 use mgs_model::{Decision, Name, Owners};
 use mgs_wire::Refusal;
 use std::alloc::Global;
@@ -17,28 +19,30 @@ pub(crate) struct Row {
     name: Name,
     owners: Owners,
     list: List,
+    birth: u64,
 }
 
 impl Model for Row {
-    ghost use Rattle.mgs_laws.specs.Apart.{Rules};
+    ghost use Rattle.mgs_journal.specs.Rows.{KeptRights};
 
-    ghost Value = { Rules };
+    ghost Value = { KeptRights };
 
-    ghost view = { λ r. record { name = r.name; owners = r.owners; entries = r.list } };
+    ghost view = { λ r. record { rules = record { name = r.name; owners = r.owners; entries = r.list }; birth = r.birth } };
 }
 
-fn row_of(rights: &Rights<'_>) -> Row
-    ensures { result ≡ rights.now }
+fn row_of(rights: &Rights<'_>, birth: u64) -> Row
+    ensures { result ≡ record { rules = rights.now; birth = birth } }
 {
     Row {
         name: *rights.name,
         owners: *rights.owners,
         list: rights.list.copy(),
+        birth,
     }
 }
 
 fn lent(row: &Row) -> Rights<'_>
-    ensures { result ≡ row.now }
+    ensures { result ≡ row.now.rules }
 {
     Rights {
         name: &row.name,
@@ -106,7 +110,7 @@ impl Book {
             }),
             None => None,
         })?;
-        self.rows.push(row_of(rights))?;
+        self.rows.push(row_of(rights, 0))?;
         Ok(())
     }
 
@@ -164,7 +168,7 @@ fn cause_of(cause: Refusal) -> &'static str {
 
 // The place of the first row of this name.
 fn first_of(rows: &[Row], name: &Name) -> Option<usize>
-    ensures value { result ≡ place_of name.now rows.now }
+    ensures value { result ≡ place_of name.now (rules_in_rows rows.now) }
     ensures within { IfSome result (λ i. i < length rows.now) }
 {
     rows.iter().position(|row| *name == row.name)
@@ -181,8 +185,73 @@ fn snapshot_of(page: &Page) -> Snapshot<'_>
     }
 }
 
+// Adds a buffer as the last.
+fn add(
+    rows: &mut Vec<Row>,
+    texts: &mut Vec<Option<Page>>,
+    words: &mut String,
+    left: &mut usize,
+    user: Option<&Name>,
+    row: Row,
+) -> Result<(), JournalFault>
+    ensures rows { OnOk result (rows.new.items ≡ rows.old.items ++ row ∷ []) }
+    ensures texts { OnOk result (texts.new.items ≡ texts.old.items ++ None ∷ []) }
+{
+    note(words, left, user, "makes", word_of(Some(&row.name)))?;
+    if texts.push(None).is_err() || rows.push(row).is_err() {
+        return Err(JournalFault);
+    }
+    Ok(())
+}
+
+// Takes out the buffer at an index, and its text.
+fn kill(
+    rows: &mut Vec<Row>,
+    texts: &mut Vec<Option<Page>>,
+    words: &mut String,
+    left: &mut usize,
+    user: Option<&Name>,
+    i: usize,
+) -> Result<(), JournalFault>
+    ensures rows { OnOk result (rows.new.items ≡ remove rows.old.items i) }
+    ensures texts { OnOk result (texts.new.items ≡ remove texts.old.items i) }
+{
+    if i >= texts.len() || i >= rows.len() {
+        return Err(JournalFault);
+    }
+    let _ = texts.remove(i);
+    let gone = rows.remove(i);
+    note(words, left, user, "kills", word_of(Some(&gone.name)))
+}
+
+// Makes one change.
+fn make(
+    rows: &mut Vec<Row>,
+    texts: &mut Vec<Option<Page>>,
+    words: &mut String,
+    left: &mut usize,
+    user: Option<&Name>,
+    change: &Change<'_>,
+) -> Result<(), JournalFault>
+    ensures rows { OnOk result (rows.new.items ≡ row_changed change.now rows.old.items) }
+    ensures texts { OnOk result (texts.new.items ≡ text_changed change.now texts.old.items) }
+{
+    match change {
+        Change::Add(rights, birth) => add(rows, texts, words, left, user, row_of(rights, *birth)),
+        Change::Set(i, rights) => {
+            if *i >= rows.len() {
+                return Err(JournalFault);
+            }
+            note(words, left, user, "changes", word_of(Some(rights.name)))?;
+            rows[*i] = row_of(rights, rows[*i].birth);
+            Ok(())
+        }
+        Change::Remove(i) => kill(rows, texts, words, left, user, *i),
+    }
+}
+
 impl Journal for Book {
-    ghost kept = { λ b. b.rows.items };
+    ghost rows = { λ b. b.rows.items };
 
     ghost texts = { λ b. b.texts.items };
 
@@ -199,6 +268,14 @@ impl Journal for Book {
             Some(lent(&self.rows[i]))
         } else {
             None
+        }
+    }
+
+    fn birth(&self, i: usize) -> u64 {
+        if i < self.rows.len() {
+            self.rows[i].birth
+        } else {
+            0
         }
     }
 
@@ -224,59 +301,30 @@ impl Journal for Book {
         false
     }
 
-    fn add(&mut self, user: Option<Name>, rights: &Rights<'_>) -> Result<(), JournalFault> {
-        note(
-            &mut self.words,
-            &mut self.left,
-            user.as_ref(),
-            "makes",
-            word_of(Some(rights.name)),
-        )?;
-        match self.texts.push(None) {
-            Ok(()) => {}
-            Err(_) => return Err(JournalFault),
+    fn change(&mut self, user: Option<Name>, changes: &[Change<'_>]) -> Result<(), JournalFault> {
+        for change in changes {
+            make(
+                &mut self.rows,
+                &mut self.texts,
+                &mut self.words,
+                &mut self.left,
+                user.as_ref(),
+                change,
+            )?;
         }
-        match self.rows.push(row_of(rights)) {
-            Ok(()) => Ok(()),
-            Err(_) => Err(JournalFault),
-        }
-    }
-
-    fn set(
-        &mut self,
-        user: Option<Name>,
-        i: usize,
-        rights: &Rights<'_>,
-    ) -> Result<(), JournalFault> {
-        note(
-            &mut self.words,
-            &mut self.left,
-            user.as_ref(),
-            "changes",
-            word_of(Some(rights.name)),
-        )?;
-        self.rows[i] = row_of(rights);
         Ok(())
-    }
-
-    fn remove(&mut self, user: Option<Name>, i: usize) -> Result<(), JournalFault> {
-        if i >= self.texts.len() {
-            return Err(JournalFault);
-        }
-        let _ = self.texts.remove(i);
-        let gone = self.rows.remove(i);
-        note(
-            &mut self.words,
-            &mut self.left,
-            user.as_ref(),
-            "kills",
-            word_of(Some(&gone.name)),
-        )
     }
 
     fn forget(&mut self, name: &Name) -> Result<(), JournalFault> {
         match first_of(self.rows.as_slice(), name) {
-            Some(i) => self.remove(None, i),
+            Some(i) => kill(
+                &mut self.rows,
+                &mut self.texts,
+                &mut self.words,
+                &mut self.left,
+                None,
+                i,
+            ),
             None => note(
                 &mut self.words,
                 &mut self.left,

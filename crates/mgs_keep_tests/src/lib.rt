@@ -5,9 +5,13 @@
 #[cfg(test)]
 mod book;
 #[cfg(test)]
+mod identity;
+#[cfg(test)]
 mod keeping;
 #[cfg(test)]
 mod office;
+#[cfg(test)]
+mod real_tables;
 #[cfg(test)]
 mod room;
 #[cfg(test)]

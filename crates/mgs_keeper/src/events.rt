@@ -1,17 +1,19 @@
 // The events that the journal tells.
 ghost use Rattle.std.specs.Prelude.{◌≢◌};
 
-use crate::folder::journal_path;
+use crate::folder::{journal_path, log_path};
 use crate::keep_arguments::Wanted;
+use crate::live::open_live;
 use crate::status::{FAILED, IN_USE, PRINTED};
 use jiff::Timestamp;
 use jiff::civil::Date;
 use jiff::tz::TimeZone;
 use mgs_command::tell;
-use mgs_ledger::{Filter, audit};
-use mgs_tables::{OpenFault, open};
+use mgs_ledger::{AuditFault, Filter, audit};
+use mgs_tables::OpenFault;
 use sqlite::{Alter, Connection};
-use std::{fs, io};
+use std::fs::{self, Files};
+use std::io::{self, ErrorKind};
 
 /// What a time is that is none.
 const NO_TIME: &str = "--since: not a time as 2026-11-29 or 2026-11-29T01:22:33Z";
@@ -52,6 +54,8 @@ fn print_tables<S: Alter + Drop>(
     let mut out = io::writer(rt);
     match audit(&mut conn, rt.alloc(), filter, &mut out) {
         Ok(()) => PRINTED,
+        // Whoever reads has read enough.
+        Err(AuditFault::Output(error)) if error.kind() == ErrorKind::BrokenPipe => PRINTED,
         Err(fault) => {
             tell(rt, fault);
             FAILED
@@ -61,13 +65,18 @@ fn print_tables<S: Alter + Drop>(
 
 // Prints the events of the journal in this file.
 fn print_from(rt: &HostRuntime, path: &str, filter: &Filter<'_>) -> u8 {
-    match open(rt, path) {
+    match open_live(rt, path) {
         Ok(conn) => print_tables(rt, conn, filter),
         Err(fault) => end_open(rt, fault),
     }
 }
 
-/// Prints the events of the journal in a folder, oldest first, those that are wanted. It makes no file.
+// Whether something has a name.
+fn is_there<R: Files>(rt: &R, path: &str) -> bool {
+    fs::symlink_metadata(rt, path).is_ok()
+}
+
+/// Prints the events of the journal in a folder, oldest first, those that are wanted. It only reads, also while a server has the journal open.
 pub(crate) fn print_events(rt: &HostRuntime, folder: &str, wanted: &Wanted) -> u8 {
     let since = match &wanted.since {
         None => None,
@@ -83,7 +92,11 @@ pub(crate) fn print_events(rt: &HostRuntime, folder: &str, wanted: &Wanted) -> u
         tell(rt, "no memory");
         return FAILED;
     };
-    if !matches!(fs::exists(rt, path.as_str()), Ok(true)) {
+    let Ok(beside) = log_path(rt, path.as_str()) else {
+        tell(rt, "no memory");
+        return FAILED;
+    };
+    if !is_there(rt, path.as_str()) && !is_there(rt, beside.as_str()) {
         let _ = eprintln!(rt; "{path}: there is no journal");
         return FAILED;
     }

@@ -28,8 +28,28 @@ pub(crate) fn journal_path<R: AllocGlobal>(rt: &R, folder: &str) -> Result<Strin
     Ok(path)
 }
 
-/// Makes an empty file for the journal, which only its owner may read and write, where there is none. SQLite gives its log the same mode.
-pub(crate) fn make_private<R: Files>(rt: &R, path: &str) {
+/// The path of the log beside the journal's file.
+pub(crate) fn log_path<R: AllocGlobal>(rt: &R, path: &str) -> Result<String, AllocError> {
+    let mut log_path = String::new(rt.alloc());
+    log_path.push_str(path)?;
+    log_path.push_str("-wal")?;
+    Ok(log_path)
+}
+
+// Whether something stands in the log beside a journal.
+fn has_log<R: Files>(rt: &R, log_path: &str) -> bool {
+    match fs::symlink_metadata(rt, log_path) {
+        Ok(log) => !log.is_file() || log.len() > 0,
+        Err(_) => false,
+    }
+}
+
+/// Makes an empty file for the journal, which only its owner may read and write, if there is none, unless a log stands beside it: then the
+/// journal was taken away, which the open refuses. SQLite gives its log the same mode.
+pub(crate) fn make_private<R: Files>(rt: &R, path: &str, log_path: &str) {
+    if has_log(rt, log_path) {
+        return;
+    }
     let mut how = OpenOptions::new();
     how.write(true).create_new(true).mode(PRIVATE);
     let _ = how.open(rt, path);

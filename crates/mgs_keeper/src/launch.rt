@@ -1,7 +1,7 @@
 // What is served at a start.
 ghost use Rattle.std.specs.Prelude.{◌≡◌, IfOk};
 ghost use Rattle.mgs_buffers.specs.MarkedBuffer.{AreUnmarked};
-ghost use Rattle.mgs_store.specs.Stores.{store_told};
+ghost use Rattle.mgs_births.specs.Telling.{first_told};
 ghost use Rattle.mgs_server.specs.Listening.{at_first, first_world};
 ghost use Rattle.mgs_keeper.specs.Start.{Starts};
 
@@ -40,7 +40,7 @@ fn open_engine<T: Marked + Drop, S: Store + Drop>(
     store: S,
 ) -> Result<Engine<T, S>, Short>
     requires { AreUnmarked buffers }
-    ensures { IfOk result (λ e. e ≡ at_first (first_world directory buffers) (store_told S.failed S.accepted store)) }
+    ensures { IfOk result (λ e. e ≡ at_first (first_world directory buffers) (first_told S.failed S.accepted store)) }
 {
     let core = Core::new(alloc, directory, buffers, store)?;
     Engine::new(alloc, core)
@@ -62,7 +62,7 @@ pub fn start<T: Marked + Drop, S: Store + Drop, J: Journal + Drop>(
     store: S,
     journal: J,
 ) -> Result<Kept<T, S, J>, StartFault>
-    ensures { IfOk result (λ k. Starts J.kept J.texts J.taken S.failed S.accepted directory configured.now store journal k) }
+    ensures { IfOk result (λ k. Starts J.rows J.does J.texts J.taken S.failed S.accepted directory configured.now store journal k) }
 {
     let buffers = match join(alloc, &directory, configured, &journal) {
         Ok(buffers) => buffers,

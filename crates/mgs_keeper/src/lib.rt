@@ -5,11 +5,13 @@ mod events;
 mod folder;
 mod keep_arguments;
 mod launch;
+mod live;
 mod program;
 mod repair;
 mod service;
 mod status;
 mod turns;
+mod watch;
 
 pub use launch::{StartFault, start};
 pub use program::run;

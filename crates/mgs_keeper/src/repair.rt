@@ -2,13 +2,14 @@
 ghost use Rattle.std.specs.Prelude.{◌≡◌, ◌≢◌, ◌<◌, ◌&&◌, ℕ, List, IfErr, OnOk, length, not};
 ghost use Rattle.mgs_model.specs.Names.{same_name};
 ghost use Rattle.mgs_journal.specs.Kept.{place_of, without};
+ghost use Rattle.mgs_journal.specs.Rows.{rules_in_rows};
 ghost use Rattle.mgs_keeper.specs.Mending.{AreMended, IsMended, given, given_named};
 
 use crate::keep_arguments::Mending;
 use crate::status::{FAILED, JOURNAL_FAILED};
 use mgs_buffers::Rights;
 use mgs_command::tell;
-use mgs_journal::{Journal, JournalFault};
+use mgs_journal::{Change, Journal, JournalFault};
 use mgs_model::{Name, Owners};
 
 // Why what the journal keeps is not mended.
@@ -34,8 +35,8 @@ fn mend_answer<'a>(answer: Result<(), JournalFault>) -> Result<(), MendFault<'a>
 
 // Gives the buffer at a place another owner.
 fn give<J: Journal>(journal: &mut J, i: usize, owner: Name) -> Result<(), JournalFault>
-    requires { i < length (J.kept journal.old) }
-    ensures kept { OnOk result (J.kept journal.new ≡ given owner i (J.kept journal.old)) }
+    requires { i < length (J.rows journal.old) }
+    ensures rows { OnOk result (J.rows journal.new ≡ given owner i (J.rows journal.old)) }
     ensures texts { OnOk result (J.texts journal.new ≡ J.texts journal.old) }
     ensures taken { OnOk result ((name : List ℕ) → J.taken journal.new name ≡ J.taken journal.old name) }
 {
@@ -53,7 +54,7 @@ fn give<J: Journal>(journal: &mut J, i: usize, owner: Name) -> Result<(), Journa
         owners: &owners,
         list: &list,
     };
-    journal.set(None, i, &given)
+    journal.change(None, &[Change::Set(i, given)])
 }
 
 // The owner of a buffer is this user from now on.
@@ -62,7 +63,7 @@ fn mend_owner<'a, J: Journal>(
     buffer: &'a str,
     owner: &'a str,
 ) -> Result<(), MendFault<'a>>
-    ensures kept { OnOk result (J.kept journal.new ≡ given_named buffer.now owner.now (J.kept journal.old)) }
+    ensures rows { OnOk result (J.rows journal.new ≡ given_named buffer.now owner.now (J.rows journal.old)) }
     ensures texts { OnOk result (J.texts journal.new ≡ J.texts journal.old) }
     ensures taken { OnOk result ((name : List ℕ) → J.taken journal.new name ≡ J.taken journal.old name) }
 {
@@ -80,8 +81,8 @@ fn mend_owner<'a, J: Journal>(
 
 // What is kept of a buffer goes, and its name is free for the configuration.
 fn forget<'a, J: Journal>(journal: &mut J, buffer: &'a str) -> Result<(), MendFault<'a>>
-    ensures kept { OnOk result (J.kept journal.new ≡ without (place_of buffer.now (J.kept journal.old)) (J.kept journal.old)) }
-    ensures texts { OnOk result (J.texts journal.new ≡ without (place_of buffer.now (J.kept journal.old)) (J.texts journal.old)) }
+    ensures rows { OnOk result (J.rows journal.new ≡ without (place_of buffer.now (rules_in_rows (J.rows journal.old))) (J.rows journal.old)) }
+    ensures texts { OnOk result (J.texts journal.new ≡ without (place_of buffer.now (rules_in_rows (J.rows journal.old))) (J.texts journal.old)) }
     ensures taken { OnOk result ((other : List ℕ)
         → J.taken journal.new other ≡ (J.taken journal.old other && not (same_name buffer.now other))) }
 {
@@ -96,7 +97,7 @@ fn forget<'a, J: Journal>(journal: &mut J, buffer: &'a str) -> Result<(), MendFa
 
 // Mends what the journal keeps of one buffer.
 fn mend<'a, J: Journal>(journal: &mut J, mending: &'a Mending) -> Result<(), MendFault<'a>>
-    ensures { OnOk result (IsMended J.kept J.texts J.taken mending.now journal.old journal.new) }
+    ensures { OnOk result (IsMended J.rows J.texts J.taken mending.now journal.old journal.new) }
 {
     match mending {
         Mending::Forget(buffer) => forget(journal, buffer.as_str()),
@@ -130,7 +131,7 @@ pub(crate) fn mend_all<R: Eprint, J: Journal>(
     journal: &mut J,
     mendings: &[Mending],
 ) -> Result<(), u8>
-    ensures mended { OnOk result (AreMended J.kept J.texts J.taken mendings.now journal.old journal.new) }
+    ensures mended { OnOk result (AreMended J.rows J.texts J.taken mendings.now journal.old journal.new) }
     ensures failed { IfErr result (λ status. status ≢ 0) }
 {
     for mending in mendings {

@@ -4,12 +4,13 @@ ghost use Rattle.mgs_buffers.specs.MarkedBuffer.{marked_at};
 ghost use Rattle.mgs_keeper.specs.Unsaved.{AreUnsavedWords, SaysFile, is_unsaved};
 
 use crate::events::end_open;
-use crate::folder::{is_private_folder, journal_path, make_private};
+use crate::folder::{is_private_folder, journal_path, log_path, make_private};
 use crate::keep_arguments::Mending;
 use crate::launch::{StartFault, start};
 use crate::repair::mend_all;
 use crate::status::{FAILED, JOURNAL_FAILED};
 use crate::turns::serve_kept;
+use crate::watch::Watch;
 use mgs_buffers::{Buffers, Rights};
 use mgs_command::{NO_MEMORY, tell};
 use mgs_config::{BufferFile, Config};
@@ -20,9 +21,10 @@ use mgs_keep::text_sum;
 use mgs_ledger::Ledger;
 use mgs_model::{BUFFER_LIMIT, Name};
 use mgs_store::Store;
-use mgs_tables::open;
+use mgs_tables::{OpenFault, open};
 use sqlite::{Alter, Connection, FileFrom, FileStore as TableStore, Wary};
 use std::fmt::Display;
+use std::fs::Files;
 use std::io::{self, Printer, Write};
 use std::mem;
 use std::net::Net;
@@ -124,8 +126,18 @@ fn resume_ledger<'a, S: Alter + Drop>(
     }
 }
 
-// The ledger of the journal in a folder.
-fn open_ledger<'a>(rt: &'a HostRuntime, folder: &str) -> Result<FileLedger<'a>, u8>
+// The watch of the files of a journal that was opened.
+fn begin_watch(rt: &HostRuntime, path: &str) -> Result<Watch, u8>
+    ensures { IfErr result (λ status. status ≢ 0) }
+{
+    match Watch::new(rt, path) {
+        Ok(watch) => Ok(watch),
+        Err(_) => Err(end_open(rt, OpenFault::System)),
+    }
+}
+
+// The ledger of the journal in a folder, and the watch of its files.
+fn open_ledger<'a>(rt: &'a HostRuntime, folder: &str) -> Result<(FileLedger<'a>, Watch), u8>
     ensures { IfErr result (λ status. status ≢ 0) }
 {
     if !matches!(is_private_folder(rt, folder), Ok(true)) {
@@ -135,11 +147,17 @@ fn open_ledger<'a>(rt: &'a HostRuntime, folder: &str) -> Result<FileLedger<'a>, 
     let Ok(path) = journal_path(rt, folder) else {
         return Err(refuse(rt, NO_MEMORY));
     };
-    make_private(rt, path.as_str());
-    match open(rt, path.as_str()) {
-        Ok(conn) => resume_ledger(rt, conn),
-        Err(fault) => Err(end_open(rt, fault)),
-    }
+    let Ok(beside) = log_path(rt, path.as_str()) else {
+        return Err(refuse(rt, NO_MEMORY));
+    };
+    make_private(rt, path.as_str(), beside.as_str());
+    let conn = match open(rt, path.as_str()) {
+        Ok(conn) => conn,
+        Err(fault) => return Err(end_open(rt, fault)),
+    };
+    let watch = begin_watch(rt, path.as_str())?;
+    let ledger = resume_ledger(rt, conn)?;
+    Ok((ledger, watch))
 }
 
 // The store of these files on the system's disk.
@@ -171,11 +189,11 @@ fn end_start<R: Eprint>(rt: &R, fault: StartFault) -> u8
 
 // Serves a configuration, by what a journal keeps.
 fn serve_journal<
-    R: AllocGlobal + Net + Clock,
+    R: AllocGlobal + Net + Clock + Files,
     W: Print + Eprint + Wait,
     S: Store + Drop,
     J: Journal + Drop,
->(rt: &R, wait: &W, port: u16, config: Config, store: S, journal: J) -> u8
+>(rt: &R, wait: &W, port: u16, config: Config, store: S, journal: J, watch: Watch) -> u8
     ensures { result ≢ 0 }
 {
     let Config {
@@ -187,7 +205,7 @@ fn serve_journal<
     tell_differences(wait, &buffers, &journal);
     tell_unsaved(wait, &buffers, &journal);
     match start(rt.alloc(), directory, &buffers, store, journal) {
-        Ok(kept) => serve_kept(rt, wait, port, kept, tickets, rt),
+        Ok(kept) => serve_kept(rt, wait, port, kept, tickets, rt, watch),
         Err(fault) => end_start(wait, fault),
     }
 }
@@ -200,6 +218,7 @@ fn serve_ledger<W: Print + Eprint + Wait, A: Alter + Drop, C: Clock + Drop, O: W
     mut config: Config,
     mut ledger: Ledger<A, C, O>,
     mendings: &[Mending],
+    watch: Watch,
 ) -> u8
     ensures { result ≢ 0 }
 {
@@ -209,7 +228,7 @@ fn serve_ledger<W: Print + Eprint + Wait, A: Alter + Drop, C: Clock + Drop, O: W
     }
     let files = mem::replace(&mut config.files, Vec::new(rt.alloc()));
     match open_store(rt, files) {
-        Ok(store) => serve_journal(rt, wait, port, config, store, ledger),
+        Ok(store) => serve_journal(rt, wait, port, config, store, ledger, watch),
         Err(status) => status,
     }
 }
@@ -231,7 +250,7 @@ pub(crate) fn serve<W: Print + Eprint + Wait>(
         Err(fault) => return refuse(rt, fault),
     };
     match open_ledger(rt, folder) {
-        Ok(ledger) => serve_ledger(rt, wait, port, config, ledger, mendings),
+        Ok((ledger, watch)) => serve_ledger(rt, wait, port, config, ledger, mendings, watch),
         Err(status) => status,
     }
 }

@@ -2,6 +2,7 @@
 ghost use Rattle.std.specs.Prelude.{◌≢◌};
 
 use crate::status::{JOURNAL_FAILED, NO_SOCKETS};
+use crate::watch::Watch;
 use mgs_command::tell;
 use mgs_journal::{Journal, JournalFault};
 use mgs_keep::Kept;
@@ -9,49 +10,51 @@ use mgs_marks::Marked;
 use mgs_model::Tickets;
 use mgs_server::Server;
 use mgs_store::Store;
+use std::fs::Files;
 use std::net::Net;
 use std::sync::Wait;
 use std::time::Clock;
 
-// Serves turn by turn without end. It returns where a turn or the journal failed, which is told.
+// Serves turn by turn without end. It returns if a turn or the journal failed, or if a file of the journal was moved, and says so.
 fn serve_turns<
+    R: Files + Clock,
     W: Print + Eprint + Wait,
     T: Marked + Drop,
     S: Store + Drop,
     J: Journal + Drop,
     C: Clock + Drop,
->(rt: &W, server: &mut Server<Kept<T, S, J>, C>) -> u8
+>(rt: &R, wait: &W, server: &mut Server<Kept<T, S, J>, C>, mut watch: Watch) -> u8
     ensures { result ≢ 0 }
 {
     let port = server.port();
-    let _ = println!(rt; "listening 127.0.0.1:{port}");
-    for _ in rt.forever() {
+    let _ = println!(wait; "listening 127.0.0.1:{port}");
+    for _ in wait.forever() {
         if let Err(fault) = server.turn() {
-            tell(rt, fault);
+            tell(wait, fault);
             return NO_SOCKETS;
         }
-        if server.sessions().has_failed() {
-            tell(rt, JournalFault);
+        if server.sessions().has_failed() || watch.is_moved(rt) {
+            tell(wait, JournalFault);
             return JOURNAL_FAILED;
         }
     }
     unreachable!()
 }
 
-/// Serves what a journal keeps on a port of the loopback address, to whoever has one of the tickets. It returns where that cannot be begun,
-/// or not gone on with, as `NO_SOCKETS`, and where the journal failed, as `JOURNAL_FAILED`, and tells why on standard error.
+/// Serves what a journal keeps on a port of the loopback address, to whoever has one of the tickets. It returns `NO_SOCKETS` if that cannot
+/// be begun or continued, and `JOURNAL_FAILED` if the journal failed or a file of it was moved, and says why on standard error.
 pub(crate) fn serve_kept<
-    R: AllocGlobal + Net,
+    R: AllocGlobal + Net + Files + Clock,
     W: Print + Eprint + Wait,
     T: Marked + Drop,
     S: Store + Drop,
     J: Journal + Drop,
     C: Clock + Drop,
->(rt: &R, wait: &W, port: u16, kept: Kept<T, S, J>, tickets: Tickets, clock: C) -> u8
+>(rt: &R, wait: &W, port: u16, kept: Kept<T, S, J>, tickets: Tickets, clock: C, watch: Watch) -> u8
     ensures { result ≢ 0 }
 {
     match Server::over(rt, port, kept, tickets, clock) {
-        Ok(mut server) => serve_turns(wait, &mut server),
+        Ok(mut server) => serve_turns(rt, wait, &mut server, watch),
         Err(fault) => {
             tell(wait, fault);
             NO_SOCKETS

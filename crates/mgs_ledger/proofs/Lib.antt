@@ -1,2 +1,2 @@
+mod Lists
 mod Names
-mod Places

@@ -1,6 +1,7 @@
+pub mod Gathering
 pub mod Keeping
 pub mod Reading
 pub mod Snapshots
 pub mod Spelling
-pub mod Telling
 pub mod Taken
+pub mod Telling

@@ -1,26 +1,55 @@
 -- What is read back of rights and texts: what spells the rows, to the letter.
-use Rattle.std.specs.Prelude.{◌≡◌, List, [], map, length, Option}
+use Rattle.std.specs.Prelude.{◌≡◌, ℕ, ℤ, pos, List, [], ◌∷◌, map, length, Option}
+use Rattle.sqlite.specs.declared.types.Value.TheVariants.{Int}
 use Rattle.sqlite.specs.Order.{Row}
 use Rattle.sqlite.specs.Store.{Ghosts}
 use Rattle.sqlite.specs.State.{State, Shown, HasCleanDisk}
 use Rattle.sqlite.specs.Held.{Held, state}
-use Rattle.mgs_laws.specs.Apart.{Rules}
 use Rattle.mgs_tables.specs.Rows.{rights_columns}
-use Rattle.mgs_tables.specs.Texts.{select_rights}
+use Rattle.mgs_tables.specs.Texts.{select_rights, select_newest}
+use Rattle.mgs_tables.specs.Reading.{ShowsEvents, ShowsNumber}
+use Rattle.mgs_tables.specs.declared.rows.Event.{Event}
+use Rattle.mgs_journal.specs.Rows.{KeptRights, births_in_rows}
 use Rattle.mgs_journal.specs.Texts.{KeptText}
 use Rattle.mgs_ledger.specs.Snapshots.{AreTextsRead}
 use Rattle.mgs_ledger.specs.Spelling.{values_of}
+use Rattle.mgs_ledger.specs.Taken.{all_noted, last_number}
 
--- the rights are all rows of the table of buffers
-pub record AreRead (old new : State) (all : List Rules) : Type 0 where
+abbrev pub row_values : KeptRights → Row
+row_values k = values_of k.rules
+
+-- no birth number is known
+abbrev pub AreUnborn : List KeptRights → Type 0
+AreUnborn all = births_in_rows all ≡ map (λ _. 0) all
+
+-- the rights are all rows of the table of buffers, and no birth number is known
+pub record AreRead (old new : State) (all : List KeptRights) : Type 0 where
   pub rows : List Row
   pub answer : Shown select_rights [] old new rows
-  pub same : map values_of all ≡ map rights_columns rows
+  pub same : map row_values all ≡ map rights_columns rows
+  pub births : AreUnborn all
 
--- first the rights are read and then the texts, as many
-pub record AreResumed {S : Type 0} (g : Ghosts S) (old : Held S) (all : List Rules) (kept : List (Option KeptText)) : Type 0 where
+-- the events are read by pages, each after the last number of the one before, until there is none
+abbrev pub ArePages : {S : Type 0} → Ghosts S → ℤ → List (List Event) → Held S → Held S → Type 0
+ArePages g last [] old new = HasCleanDisk (state g new) → ShowsEvents (Int last ∷ Int (pos 256) ∷ []) (state g old) (state g new) []
+ArePages {S} g last (page ∷ pages) old new =
+    (mid : Held S) × (HasCleanDisk (state g mid) → ShowsEvents (Int last ∷ Int (pos 256) ∷ []) (state g old) (state g mid) page) × ArePages g (last_number last page) pages mid new
+
+-- the number of the newest event is read
+abbrev pub HasNewest : {S : Type 0} → Ghosts S → Held S → Held S → Type 0
+HasNewest g old new = HasCleanDisk (state g new) → (number : ℤ) × ShowsNumber select_newest [] (state g old) (state g new) number
+
+-- the events of all pages say which names are taken
+abbrev pub AreAllNoted : {S : Type 0} → Ghosts S → Held S → Held S → List (List ℕ) → Type 0
+AreAllNoted g old new names = (pages : List (List Event)) × ArePages g (pos 0) pages old new × (names ≡ all_noted [] pages)
+
+-- first the rights are read, then the texts, as many, and then the events, which say which names are taken
+pub record AreResumed {S : Type 0} (g : Ghosts S) (old new : Held S) (all : List KeptRights) (kept : List (Option KeptText)) (taken : List (List ℕ)) : Type 0 where
   pub mid : Held S
-  pub new : Held S
+  pub later : Held S
+  pub last : Held S
   pub rights : HasCleanDisk (state g mid) → AreRead (state g old) (state g mid) all
-  pub texts : HasCleanDisk (state g new) → AreTextsRead (state g mid) (state g new) kept
+  pub texts : HasCleanDisk (state g later) → AreTextsRead (state g mid) (state g later) kept
   pub count : length kept ≡ length all
+  pub names : AreAllNoted g later last taken
+  pub newest : HasNewest g last new

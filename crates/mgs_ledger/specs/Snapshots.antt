@@ -9,6 +9,8 @@ use Rattle.mgs_journal.specs.Texts.{KeptText}
 use Rattle.mgs_tables.specs.Both.{RanWith}
 use Rattle.mgs_tables.specs.Rows.{text_columns}
 use Rattle.mgs_tables.specs.Texts.{replace_text, select_texts}
+use Rattle.mgs_ledger.specs.declared.batch.Gathered.{Gathered}
+use Rattle.mgs_ledger.specs.Gathering.{AreTold}
 
 abbrev pub flag : Bool → ℤ
 flag true = pos 1
@@ -19,9 +21,9 @@ abbrev pub text_values : KeptText → Row
 text_values t = Int (flag t.modified) ∷ Int t.file ∷ Text t.body ∷ []
 
 -- a statement gave the buffer of the name this text, and with it what was gathered, in one transaction that is the last
-pub record IsTextPut {S : Type 0} (g : Ghosts S) (name : List ℕ) (text : KeptText) (new : Held S) : Type 0 where
-  pub old : Held S
+pub record IsTextPut {S : Type 0} (g : Ghosts S) (name : List ℕ) (text : KeptText) (gathered : List Gathered) (old new : Held S) : Type 0 where
   pub events : List Row
+  pub told : AreTold gathered events
   pub ran : RanWith g replace_text (Text name ∷ text_values text) events old (state g new).committed
 
 -- what is read of a buffer that has a text, and of one that has none yet

@@ -1,8 +1,20 @@
--- What is gathered of what is told.
-use Rattle.std.specs.Prelude.{◌≡◌, ℤ, nat_lt, cond, List, [], ◌∷◌, ◌++◌, length}
-use Rattle.mgs_journal.specs.Acts.{Act, Put, Tell}
+-- What is gathered of what is told, and what each act commits of it.
+use Rattle.std.specs.Prelude.{◌≡◌, ◌⊎◌, ℕ, ℤ, Bool, true, false, nat_lt, cond, List, [], ◌∷◌, ◌++◌, length, map, Option, None, Some, slice_get, codes}
+use Rattle.sqlite.specs.Order.{Row}
+use Rattle.sqlite.specs.Store.{Ghosts}
+use Rattle.sqlite.specs.State.{HasCleanDisk}
+use Rattle.sqlite.specs.Held.{Held, state}
+use Rattle.mgs_tables.specs.Changes.{RanChanges, Statement}
+use Rattle.mgs_journal.specs.Acts.{Act, Alter, Forget, Put, Tell, Tick}
+use Rattle.mgs_journal.specs.Rows.{KeptRights}
 use Rattle.mgs_journal.specs.declared.Told.{Told}
+use Rattle.mgs_journal.specs.declared.Told.TheVariants as told
+use Rattle.mgs_journal.specs.declared.change.Change.{Change}
 use Rattle.mgs_ledger.specs.declared.batch.Gathered.{Gathered}
+use Rattle.mgs_ledger.specs.Keeping.{event_row, events_of, forget_events, forget_statements, statements_of}
+use Rattle.mgs_ledger.specs.Snapshots.{IsTextPut}
+use Rattle.mgs_ledger.specs.Spelling.{text_or_empty}
+pub use Rattle.mgs_ledger.specs.Gathering.{AreTold}
 
 -- what is left of what is gathered once there is room for one more: all is committed where 256 are gathered
 abbrev pub made_room : List Gathered → List Gathered
@@ -12,8 +24,41 @@ made_room xs = cond (nat_lt (length xs) 256) xs []
 abbrev pub IsGathered : Told → List Gathered → List Gathered → Type 0
 IsGathered told old new = (at : ℤ) × (new ≡ old ++ record { at = at; told = told } ∷ [])
 
--- what an act does to what is gathered: what is told comes behind it, and where a text is kept it is committed
-abbrev pub GathersBy : Act → List Gathered → List Gathered → Type 0
-GathersBy (Tell told) old new = IsGathered told (made_room old) new
-GathersBy (Put place text) old new = new ≡ []
-GathersBy _ old new = Unit {0}
+-- the statements, the events that were gathered and then these are one transaction, which is the last
+pub record IsCommitted {S : Type 0} (g : Ghosts S) (statements : List Statement) (gathered : List Gathered) (events : List Row) (old new : Held S) : Type 0 where
+  pub rows : List Row
+  pub told : AreTold gathered rows
+  pub ran : RanChanges g statements (rows ++ events) old (state g new).committed
+
+-- what was gathered is a transaction by itself
+pub record AreCommitted {S : Type 0} (g : Ghosts S) (gathered : List Gathered) (old new : Held S) : Type 0 where
+  pub rows : List Row
+  pub told : AreTold gathered rows
+  pub ran : RanChanges g [] rows old (state g new).committed
+
+-- the changes of rows, with what was gathered, at one time
+abbrev pub IsAltered : {S : Type 0} → Ghosts S → Option (List ℕ) → List Change → List KeptRights → List Gathered → Held S → Held S → Type 0
+IsAltered g user changes rows gathered old new = (at : ℤ) × IsCommitted g (statements_of changes rows) gathered (events_of at user changes rows) old new
+
+-- a name is forgotten, with what was gathered
+abbrev pub IsForgotten : {S : Type 0} → Ghosts S → List ℕ → List KeptRights → List Gathered → Held S → Held S → Type 0
+IsForgotten g name rows gathered old new = (at : ℤ) × IsCommitted g (forget_statements name rows) gathered (forget_events at name rows) old new
+
+-- nothing is committed if there is room, else all that was gathered
+abbrev pub MakesRoom : {S : Type 0} → Ghosts S → Bool → List Gathered → Held S → Held S → Type 0
+MakesRoom g true gathered old new = new ≡ old
+MakesRoom g false gathered old new = HasCleanDisk (state g new) → AreCommitted g gathered old new
+
+-- nothing is changed, or all that was gathered is committed
+abbrev pub IsTicked : {S : Type 0} → Ghosts S → List Gathered → List Gathered → Held S → Held S → Type 0
+IsTicked g was is old new = ((is ≡ was) × (new ≡ old)) ⊎ ((is ≡ []) × (HasCleanDisk (state g new) → AreCommitted g was old new))
+
+-- what an act does to what is gathered and to the tables: a change, a forgotten name and a text commit all that was gathered, and what is
+-- told comes after it
+abbrev pub IsDone : {S : Type 0} → Ghosts S → Act → List KeptRights → List Gathered → List Gathered → Held S → Held S → Type 0
+IsDone g (Alter user changes) rows was is old new = (is ≡ []) × (HasCleanDisk (state g new) → IsAltered g user changes rows was old new)
+IsDone g (Forget name) rows was is old new = (is ≡ []) × (HasCleanDisk (state g new) → IsForgotten g name rows was old new)
+IsDone g (Put place text) rows was is old new =
+    (is ≡ []) × (HasCleanDisk (state g new) → (k : KeptRights) → slice_get rows place ≡ Some k → IsTextPut g k.rules.name text was old new)
+IsDone g (Tell told) rows was is old new = IsGathered told (made_room was) is × MakesRoom g (nat_lt (length was) 256) was old new
+IsDone g Tick rows was is old new = IsTicked g was is old new

@@ -1,9 +1,18 @@
 // What is gathered before it is committed.
+ghost use Rattle.std.specs.Prelude.{◌≡◌, map, IfOk, OnOk};
+ghost use Rattle.sqlite.specs.State.{HasCleanDisk};
+ghost use Rattle.sqlite.specs.Held.{state};
+ghost use Rattle.mgs_tables.specs.Changes.{RanChanges};
+ghost use Rattle.mgs_tables.specs.Rows.{event_values};
+ghost use Rattle.mgs_ledger.specs.Gathering.{AreTold, IsTold, told_buffer, told_user, told_what};
+ghost use Rattle.mgs_ledger.specs.Keeping.{planned_statement, word_values};
+
 use crate::ledger_fault::LedgerFault;
-use crate::rights_spelling::name_text;
+use crate::planned::{PlannedRow, lent_rows};
+use crate::rights_spelling::text_or_empty;
 use mgs_journal::Told;
 use mgs_model::{Decision, Name};
-use mgs_tables::{EventRow, put_events};
+use mgs_tables::{EventRow, put_changes};
 use mgs_wire::Refusal;
 use sqlite::{Alter, Connection};
 use std::alloc::{AllocError, Global};
@@ -16,31 +25,26 @@ pub(crate) struct Gathered {
     pub(crate) told: Told,
 }
 
-/// What the row of an event that is gathered is made of.
+/// What the row of an event is made of.
 #[derive(Drop)]
 pub(crate) struct Words {
-    at: i64,
-    user: Option<Name>,
-    what: &'static str,
-    buffer: Option<Name>,
-    detail: String,
-}
-
-fn name_or<'a>(name: &'a Option<Name>, none: &'a str) -> &'a str {
-    match name {
-        Some(name) => name_text(name),
-        None => none,
-    }
+    pub(crate) at: i64,
+    pub(crate) user: Option<Name>,
+    pub(crate) what: &'static str,
+    pub(crate) buffer: Option<Name>,
+    pub(crate) detail: String,
 }
 
 impl Words {
     /// The row, lent.
-    pub(crate) fn row(&self) -> EventRow<'_> {
+    pub(crate) fn row(&self) -> EventRow<'_>
+        ensures { event_values result ≡ word_values self.now }
+    {
         EventRow {
             at: self.at,
-            user: name_or(&self.user, "-"),
+            user: text_or_empty(&self.user),
             what: self.what,
-            buffer: name_or(&self.buffer, ""),
+            buffer: text_or_empty(&self.buffer),
             detail: self.detail.as_str(),
         }
     }
@@ -85,7 +89,9 @@ fn detail_of(alloc: Global, told: Told) -> Result<String, AllocError> {
     }
 }
 
-fn what_of(told: Told) -> &'static str {
+fn what_of(told: Told) -> &'static str
+    ensures { result.now ≡ told_what told }
+{
     match told {
         Told::Came(_) => "login",
         Told::Refused(_, _) | Told::RefusedUnnamed(_) => "refused",
@@ -95,7 +101,9 @@ fn what_of(told: Told) -> &'static str {
     }
 }
 
-fn user_of(told: Told) -> Option<Name> {
+fn user_of(told: Told) -> Option<Name>
+    ensures { result ≡ told_user told }
+{
     match told {
         Told::Came(user) => Some(user),
         Told::Refused(user, _) => Some(user),
@@ -108,14 +116,18 @@ fn user_of(told: Told) -> Option<Name> {
     }
 }
 
-fn buffer_of(told: Told) -> Option<Name> {
+fn buffer_of(told: Told) -> Option<Name>
+    ensures { result ≡ told_buffer told }
+{
     match told {
         Told::Saved(_, buffer) => Some(buffer),
         _ => None,
     }
 }
 
-fn words_of(alloc: Global, gathered: &Gathered) -> Result<Words, AllocError> {
+fn words_of(alloc: Global, gathered: &Gathered) -> Result<Words, AllocError>
+    ensures { IfOk result (λ words. IsTold gathered.now (word_values words)) }
+{
     Ok(Words {
         at: gathered.at,
         user: user_of(gathered.told),
@@ -126,7 +138,9 @@ fn words_of(alloc: Global, gathered: &Gathered) -> Result<Words, AllocError> {
 }
 
 /// What the rows of the events are made of.
-pub(crate) fn all_words(alloc: Global, gathered: &[Gathered]) -> Result<Vec<Words>, LedgerFault> {
+pub(crate) fn all_words(alloc: Global, gathered: &[Gathered]) -> Result<Vec<Words>, LedgerFault>
+    ensures { IfOk result (λ all. AreTold gathered.now (map word_values all.items)) }
+{
     let mut all = Vec::with_capacity(alloc, gathered.len())?;
     for event in gathered {
         all.push(words_of(alloc, event)?)?;
@@ -135,7 +149,9 @@ pub(crate) fn all_words(alloc: Global, gathered: &[Gathered]) -> Result<Vec<Word
 }
 
 /// The rows of the events, lent.
-pub(crate) fn rows_of(alloc: Global, all: &[Words]) -> Result<Vec<EventRow<'_>>, LedgerFault> {
+pub(crate) fn rows_of(alloc: Global, all: &[Words]) -> Result<Vec<EventRow<'_>>, LedgerFault>
+    ensures { IfOk result (λ rows. map event_values rows.items ≡ map word_values all.now) }
+{
     let mut rows = Vec::with_capacity(alloc, all.len())?;
     for words in all {
         rows.push(words.row())?;
@@ -143,13 +159,18 @@ pub(crate) fn rows_of(alloc: Global, all: &[Words]) -> Result<Vec<EventRow<'_>>,
     Ok(rows)
 }
 
-/// Adds the events to the tables, all of them or none.
+/// Makes the changes of rows and adds the events, all of that or nothing.
 pub(crate) fn put_all<S: Alter>(
     conn: &mut Connection<S>,
     alloc: Global,
+    planned: &[PlannedRow],
     all: &[Words],
-) -> Result<(), LedgerFault> {
+) -> Result<(), LedgerFault>
+    ensures { HasCleanDisk (state S.Store conn.new)
+        → OnOk result (RanChanges S.Store (map planned_statement planned.now) (map word_values all.now) conn.old (state S.Store conn.new).committed) }
+{
+    let changes = lent_rows(alloc, planned)?;
     let rows = rows_of(alloc, all)?;
-    put_events(conn, rows.as_slice())?;
+    put_changes(conn, changes.as_slice(), rows.as_slice())?;
     Ok(())
 }

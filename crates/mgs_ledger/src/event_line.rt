@@ -13,11 +13,11 @@ fn push_time(line: &mut String, at: i64) -> Result<(), AllocError> {
 
 fn push_field(line: &mut String, field: &str) -> Result<(), AllocError> {
     line.push_str("\t")?;
-    line.push_str(if field.is_empty() { "-" } else { field })
+    line.push_str(field)
 }
 
 /// The line of an event: `TIME NUMBER USER WHAT BUFFER DETAIL`, parted by tabs, with a line feed at its end. The time is in UTC, as
-/// `2026-11-29T01:22:33Z`. What is empty is `-`, and so is a time beyond the year 9999.
+/// `2026-11-29T01:22:33Z`. An empty user, buffer or detail is an empty field. A time beyond the year 9999 is `-`.
 pub(crate) fn line_of(
     alloc: Global,
     number: i64,

@@ -1,7 +1,7 @@
 //! The ledger: a journal that keeps in SQLite tables by what access to each buffer is decided, and what happened.
 //!
-//! [`Ledger`] is a `Journal`. A change of rights is committed with its event before the call returns. What else is told is gathered, and
-//! committed before the next change, with the next text, when [`GATHER_LIMIT`] are gathered, or a second later. Each event is a line on a
+//! [`Ledger`] is a `Journal`. The changes of one event are committed with their events in one transaction before the call returns. What else is
+//! told is gathered, and committed with the next change or text, when [`GATHER_LIMIT`] are gathered, or a second later. Each event is a line on a
 //! writer once it is committed. [`audit`] prints the lines of all events again. A text is kept whole, in the place of the one before.
 #![tactic(auto)]
 
@@ -11,12 +11,11 @@ mod event_lines;
 mod ledger;
 mod ledger_fault;
 mod log;
-mod rights_equality;
+mod planned;
 mod rights_spelling;
 mod snapshot;
 mod stored_rights;
 mod stored_texts;
-mod tables;
 mod taken;
 mod value;
 

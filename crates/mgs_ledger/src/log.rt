@@ -1,25 +1,26 @@
 // What happened, as it is told, gathered and committed.
-ghost use Rattle.std.specs.Prelude.{◌≡◌, [], true, OnOk};
+ghost use Rattle.std.specs.Prelude.{◌≡◌, ℤ, [], None, OnOk, IfOk, map, length, nat_lt};
 ghost use Rattle.sqlite.specs.State.{HasCleanDisk};
 ghost use Rattle.sqlite.specs.Held.{state};
-ghost use Rattle.mgs_ledger.specs.Telling.{made_room, IsGathered};
-ghost use Rattle.mgs_ledger.specs.Keeping.{IsAdded, IsRemoved, IsPut, TakePlace, IsSet, named, with_list, with_owner};
+ghost use Rattle.mgs_journal.specs.Changes.{rows_changed, texts_changed};
+ghost use Rattle.mgs_tables.specs.Changes.{RanChanges};
+ghost use Rattle.mgs_ledger.specs.Keeping.{kill_events, planned_statement, word_values};
+ghost use Rattle.mgs_ledger.specs.Reading.{HasNewest};
 ghost use Rattle.mgs_ledger.specs.Snapshots.{IsTextPut};
+ghost use Rattle.mgs_ledger.specs.Telling.{made_room, AreCommitted, IsAltered, IsCommitted, IsGathered, IsTicked, MakesRoom};
 
 use crate::batch::{Gathered, Words, all_words, put_all};
 use crate::event_line::print_line;
 use crate::ledger_fault::LedgerFault;
-use crate::rights_equality::{is_same_group, is_same_list, is_same_name};
-use crate::rights_spelling::{name_text, push_list};
+use crate::planned::{PlannedRow, plan_all, push_kill};
+use crate::snapshot::SnapshotValue;
 use crate::stored_texts::keep_text;
-use crate::tables::{add_rights, drop_rights, set_rights};
-use mgs_acl::List;
-use mgs_buffers::Rights;
-use mgs_journal::{Room, Snapshot, Told};
-use mgs_model::{Name, Owners};
-use mgs_tables::{EventRow, newest, put_event};
+use crate::value::RightsValue;
+use mgs_journal::{Change, Room, Snapshot, Told};
+use mgs_model::Name;
+use mgs_tables::{EventRow, newest};
 use sqlite::{Alter, Connection};
-use std::alloc::{AllocError, Global};
+use std::alloc::Global;
 use std::io::Write;
 use std::time::Clock;
 
@@ -46,21 +47,6 @@ pub(crate) struct Log<S: Alter + Drop, C: Clock + Drop, W: Write + Drop> {
     room: Room,
 }
 
-/// The user's name, or `-` where there is none.
-fn user_text(user: Option<&Name>) -> &str {
-    match user {
-        Some(user) => name_text(user),
-        None => "-",
-    }
-}
-
-fn group_word(group: &Option<Name>) -> &str {
-    match group {
-        Some(group) => name_text(group),
-        None => "-",
-    }
-}
-
 /// The time, in seconds since 1970.
 fn seconds<C: Clock>(clock: &C) -> Result<i64, LedgerFault> {
     let Ok(now) = clock.since_1970() else {
@@ -70,24 +56,6 @@ fn seconds<C: Clock>(clock: &C) -> Result<i64, LedgerFault> {
         Ok(seconds) => Ok(seconds),
         Err(_) => Err(LedgerFault::Clock),
     }
-}
-
-fn list_detail(alloc: Global, old: &List, new: &List) -> Result<String, AllocError> {
-    let mut detail = String::new(alloc);
-    push_list(&mut detail, old)?;
-    detail.push_str(" -> ")?;
-    push_list(&mut detail, new)?;
-    Ok(detail)
-}
-
-fn name_detail(alloc: Global, old: &str, new: &str) -> Result<String, AllocError> {
-    format!(in alloc; "{old} -> {new}")
-}
-
-fn is_same_buffer(old: &Rights<'_>, new: &Rights<'_>) -> bool
-    ensures { result ≡ true → named old.now new.now ≡ old.now }
-{
-    is_same_name(old.name, new.name)
 }
 
 // Writes the line of an event that is committed, and says its number.
@@ -120,7 +88,9 @@ impl<S: Alter + Drop, C: Clock + Drop, W: Write + Drop> Log<S, C, W> {
         alloc: Global,
         clock: C,
         out: W,
-    ) -> Result<Log<S, C, W>, LedgerFault> {
+    ) -> Result<Log<S, C, W>, LedgerFault>
+        ensures { IfOk result (λ log. HasNewest S.Store conn log.conn) }
+    {
         let number = newest(&mut conn)?;
         let gathered = Vec::with_capacity(alloc, GATHER_LIMIT)?;
         let room = Room::new(alloc, ROOM)?;
@@ -136,24 +106,34 @@ impl<S: Alter + Drop, C: Clock + Drop, W: Write + Drop> Log<S, C, W> {
         })
     }
 
-    /// Commits all that is gathered.
-    pub(crate) fn commit(&mut self) -> Result<(), LedgerFault>
-        ensures { OnOk result (self.new.gathered.items ≡ []) }
+    // Makes these changes of rows and adds these events, all of that or nothing. What was gathered is among the events.
+    fn put(&mut self, planned: &[PlannedRow], events: &[Words]) -> Result<(), LedgerFault>
+        ensures gathered { OnOk result (self.new.gathered.items ≡ []) }
+        ensures committed { HasCleanDisk (state S.Store self.new.conn)
+            → OnOk result (RanChanges S.Store (map planned_statement planned.now) (map word_values events.now) self.old.conn (state S.Store self.new.conn).committed) }
     {
-        if self.gathered.is_empty() {
-            return Ok(());
-        }
         self.room.lend();
-        let all = all_words(self.alloc, self.gathered.as_slice())?;
-        put_all(&mut self.conn, self.alloc, all.as_slice())?;
+        put_all(&mut self.conn, self.alloc, planned, events)?;
         self.room.take_back();
         self.gathered.clear();
-        self.number = print_all(&mut self.out, self.alloc, self.number, all.as_slice());
+        self.number = print_all(&mut self.out, self.alloc, self.number, events);
         Ok(())
     }
 
+    /// Commits all that is gathered.
+    pub(crate) fn commit(&mut self) -> Result<(), LedgerFault>
+        ensures gathered { OnOk result (self.new.gathered.items ≡ []) }
+        ensures committed { HasCleanDisk (state S.Store self.new.conn)
+            → OnOk result (AreCommitted S.Store self.old.gathered.items self.old.conn self.new.conn) }
+    {
+        let events = all_words(self.alloc, self.gathered.as_slice())?;
+        self.put(&[], events.as_slice())
+    }
+
     /// Commits all that is gathered, and gives the connection back.
-    pub(crate) fn close(mut self) -> Result<Connection<S>, LedgerFault> {
+    pub(crate) fn close(mut self) -> Result<Connection<S>, LedgerFault>
+        ensures { IfOk result (λ conn. HasCleanDisk (state S.Store conn) → AreCommitted S.Store self.gathered.items self.conn conn) }
+    {
         self.commit()?;
         let Log {
             conn,
@@ -170,7 +150,8 @@ impl<S: Alter + Drop, C: Clock + Drop, W: Write + Drop> Log<S, C, W> {
 
     // Commits all that is gathered, if there is no room for one more.
     fn make_room(&mut self) -> Result<(), LedgerFault>
-        ensures { OnOk result (self.new.gathered.items ≡ made_room self.old.gathered.items) }
+        ensures gathered { OnOk result (self.new.gathered.items ≡ made_room self.old.gathered.items) }
+        ensures committed { OnOk result (MakesRoom S.Store (nat_lt (length self.old.gathered.items) 256) self.old.gathered.items self.old.conn self.new.conn) }
     {
         if self.gathered.len() < GATHER_LIMIT {
             return Ok(());
@@ -180,15 +161,18 @@ impl<S: Alter + Drop, C: Clock + Drop, W: Write + Drop> Log<S, C, W> {
 
     /// Gathers what is told.
     pub(crate) fn gather(&mut self, told: Told) -> Result<(), LedgerFault>
-        ensures { OnOk result (IsGathered told (made_room self.old.gathered.items) self.new.gathered.items) }
+        ensures gathered { OnOk result (IsGathered told (made_room self.old.gathered.items) self.new.gathered.items) }
+        ensures committed { OnOk result (MakesRoom S.Store (nat_lt (length self.old.gathered.items) 256) self.old.gathered.items self.old.conn self.new.conn) }
     {
         self.make_room()?;
         let at = seconds(&self.clock)?;
         push_gathered(&mut self.gathered, at, told)
     }
 
-    /// Commits all that is gathered, where the second is over in which the first of it was told.
-    pub(crate) fn commit_due(&mut self) -> Result<(), LedgerFault> {
+    /// Commits all that is gathered, if the second is over in which the first of it was told.
+    pub(crate) fn commit_due(&mut self) -> Result<(), LedgerFault>
+        ensures { OnOk result (IsTicked S.Store self.old.gathered.items self.new.gathered.items self.old.conn self.new.conn) }
+    {
         if self.gathered.is_empty() {
             return Ok(());
         }
@@ -199,68 +183,49 @@ impl<S: Alter + Drop, C: Clock + Drop, W: Write + Drop> Log<S, C, W> {
         self.commit()
     }
 
-    /// A buffer was made: commits its rights with the event, and before that what is gathered.
-    pub(crate) fn add(
+    /// Makes changes of the rows and texts, and commits them with the events that tell of them, after what was gathered, in one transaction.
+    pub(crate) fn change(
         &mut self,
-        user: Option<&Name>,
-        rights: &Rights<'_>,
+        user: &Option<Name>,
+        rows: &mut Vec<RightsValue>,
+        texts: &mut Vec<Option<SnapshotValue>>,
+        changes: &[Change<'_>],
     ) -> Result<(), LedgerFault>
-        ensures { HasCleanDisk (state S.Store self.new.conn) → OnOk result (IsAdded S.Store rights.now self.new.conn) }
+        ensures rows { OnOk result (rows.new.items ≡ rows_changed changes.now rows.old.items) }
+        ensures texts { OnOk result (texts.new.items ≡ texts_changed changes.now texts.old.items) }
+        ensures gathered { OnOk result (self.new.gathered.items ≡ []) }
+        ensures committed { HasCleanDisk (state S.Store self.new.conn)
+            → OnOk result (IsAltered S.Store user.now changes.now rows.old.items self.old.gathered.items self.old.conn self.new.conn) }
     {
-        self.commit()?;
-        let event = EventRow {
-            at: seconds(&self.clock)?,
-            user: user_text(user),
-            what: "create",
-            buffer: name_text(rights.name),
-            detail: "",
-        };
-        self.room.lend();
-        add_rights(&mut self.conn, self.alloc, rights, &event)?;
-        self.room.take_back();
-        self.number = print_one(&mut self.out, self.alloc, self.number, &event);
-        Ok(())
+        let at = seconds(&self.clock)?;
+        let mut events = all_words(self.alloc, self.gathered.as_slice())?;
+        let mut planned = Vec::new(self.alloc);
+        plan_all(
+            self.alloc,
+            &mut planned,
+            &mut events,
+            at,
+            user,
+            rows,
+            texts,
+            changes,
+        )?;
+        self.put(planned.as_slice(), events.as_slice())
     }
 
-    /// A buffer of these rights was killed: commits that with the event, and before that what is gathered.
-    pub(crate) fn remove(
-        &mut self,
-        user: Option<&Name>,
-        rights: &Rights<'_>,
-    ) -> Result<(), LedgerFault>
-        ensures { HasCleanDisk (state S.Store self.new.conn) → OnOk result (IsRemoved S.Store rights.now self.new.conn) }
+    /// A name is free again, of which there is no row: commits an event that nobody killed it, after what was gathered.
+    pub(crate) fn forget(&mut self, name: &Name) -> Result<(), LedgerFault>
+        ensures gathered { OnOk result (self.new.gathered.items ≡ []) }
+        ensures committed { HasCleanDisk (state S.Store self.new.conn)
+            → OnOk result ((at : ℤ) × IsCommitted S.Store [] self.old.gathered.items (kill_events at None name.now) self.old.conn self.new.conn) }
     {
-        self.commit()?;
-        let event = EventRow {
-            at: seconds(&self.clock)?,
-            user: user_text(user),
-            what: "kill",
-            buffer: name_text(rights.name),
-            detail: "",
-        };
-        self.room.lend();
-        drop_rights(&mut self.conn, rights.name, &event)?;
-        self.room.take_back();
-        self.number = print_one(&mut self.out, self.alloc, self.number, &event);
-        Ok(())
+        let at = seconds(&self.clock)?;
+        let mut events = all_words(self.alloc, self.gathered.as_slice())?;
+        push_kill(self.alloc, &mut events, at, &None, name)?;
+        self.put(&[], events.as_slice())
     }
 
-    /// A name is free again: that is a kill by nobody, which is committed, and before that what is gathered.
-    pub(crate) fn forget(&mut self, name: &Name) -> Result<(), LedgerFault> {
-        self.commit()?;
-        let event = EventRow {
-            at: seconds(&self.clock)?,
-            user: user_text(None),
-            what: "kill",
-            buffer: name_text(name),
-            detail: "",
-        };
-        put_event(&mut self.conn, &event)?;
-        self.number = print_one(&mut self.out, self.alloc, self.number, &event);
-        Ok(())
-    }
-
-    /// Whether `interval` seconds are over since a text was kept last, or the clock was set back by so many. Where it cannot be read, they are.
+    /// Whether `interval` seconds are over since a text was kept last, or the clock was set back by so many. If it cannot be read, they are.
     pub(crate) fn is_text_due(&self, interval: u64) -> bool {
         match seconds(&self.clock) {
             Ok(now) => now.abs_diff(self.text_second) >= interval,
@@ -271,152 +236,16 @@ impl<S: Alter + Drop, C: Clock + Drop, W: Write + Drop> Log<S, C, W> {
     /// A buffer has this text: commits that with all that is gathered, in one transaction.
     pub(crate) fn keep_text(&mut self, name: &Name, text: &Snapshot<'_>) -> Result<(), LedgerFault>
         ensures gathered { OnOk result (self.new.gathered.items ≡ []) }
-        ensures committed { HasCleanDisk (state S.Store self.new.conn) → OnOk result (IsTextPut S.Store name.now text.now self.new.conn) }
+        ensures committed { HasCleanDisk (state S.Store self.new.conn)
+            → OnOk result (IsTextPut S.Store name.now text.now self.old.gathered.items self.old.conn self.new.conn) }
     {
-        self.room.lend();
         let all = all_words(self.alloc, self.gathered.as_slice())?;
         self.text_second = seconds(&self.clock)?;
+        self.room.lend();
         keep_text(&mut self.conn, self.alloc, name, text, all.as_slice())?;
         self.room.take_back();
         self.gathered.clear();
         self.number = print_all(&mut self.out, self.alloc, self.number, all.as_slice());
-        Ok(())
-    }
-
-    // Gives a buffer other rights, and commits them with an event that tells it.
-    fn put(
-        &mut self,
-        user: Option<&Name>,
-        rights: &Rights<'_>,
-        what: &str,
-        detail: &str,
-    ) -> Result<(), LedgerFault>
-        ensures { HasCleanDisk (state S.Store self.new.conn) → OnOk result (IsPut S.Store rights.now self.new.conn) }
-    {
-        let event = EventRow {
-            at: seconds(&self.clock)?,
-            user: user_text(user),
-            what,
-            buffer: name_text(rights.name),
-            detail,
-        };
-        set_rights(&mut self.conn, self.alloc, rights, &event)?;
-        self.number = print_one(&mut self.out, self.alloc, self.number, &event);
-        Ok(())
-    }
-
-    // Has another list be kept, where it is another.
-    fn set_list(
-        &mut self,
-        user: Option<&Name>,
-        old: &Rights<'_>,
-        new: &Rights<'_>,
-    ) -> Result<(), LedgerFault>
-        ensures { HasCleanDisk (state S.Store self.new.conn)
-            → OnOk result (TakePlace S.Store (named old.now new.now) (with_list old.now new.now) self.old.conn self.new.conn) }
-    {
-        if is_same_list(old.list, new.list) {
-            return Ok(());
-        }
-        let detail = list_detail(self.alloc, old.list, new.list)?;
-        let rights = Rights {
-            name: new.name,
-            owners: old.owners,
-            list: new.list,
-        };
-        self.put(user, &rights, "list", detail.as_str())?;
-        Ok(())
-    }
-
-    // Has another owner be kept, where it is another, beside the new list.
-    fn set_owner(
-        &mut self,
-        user: Option<&Name>,
-        old: &Rights<'_>,
-        new: &Rights<'_>,
-    ) -> Result<(), LedgerFault>
-        ensures { HasCleanDisk (state S.Store self.new.conn)
-            → OnOk result (TakePlace S.Store (with_list old.now new.now) (with_owner old.now new.now) self.old.conn self.new.conn) }
-    {
-        if is_same_name(&old.owners.owner, &new.owners.owner) {
-            return Ok(());
-        }
-        let detail = name_detail(
-            self.alloc,
-            name_text(&old.owners.owner),
-            name_text(&new.owners.owner),
-        )?;
-        let owners = Owners {
-            owner: new.owners.owner,
-            group: old.owners.group,
-        };
-        let rights = Rights {
-            name: new.name,
-            owners: &owners,
-            list: new.list,
-        };
-        self.put(user, &rights, "owner", detail.as_str())?;
-        Ok(())
-    }
-
-    // Has another owning group be kept, where it is another, beside the new list and owner.
-    fn set_group(
-        &mut self,
-        user: Option<&Name>,
-        old: &Rights<'_>,
-        new: &Rights<'_>,
-    ) -> Result<(), LedgerFault>
-        ensures { HasCleanDisk (state S.Store self.new.conn)
-            → OnOk result (TakePlace S.Store (with_owner old.now new.now) new.now self.old.conn self.new.conn) }
-    {
-        if is_same_group(&old.owners.group, &new.owners.group) {
-            return Ok(());
-        }
-        let detail = name_detail(
-            self.alloc,
-            group_word(&old.owners.group),
-            group_word(&new.owners.group),
-        )?;
-        self.put(user, new, "group", detail.as_str())
-    }
-
-    // Has each part be kept that is another.
-    fn set_parts(
-        &mut self,
-        user: Option<&Name>,
-        old: &Rights<'_>,
-        new: &Rights<'_>,
-    ) -> Result<(), LedgerFault>
-        ensures { HasCleanDisk (state S.Store self.new.conn)
-            → OnOk result (TakePlace S.Store (named old.now new.now) new.now self.old.conn self.new.conn) }
-    {
-        self.set_list(user, old, new)?;
-        self.set_owner(user, old, new)?;
-        self.set_group(user, old, new)?;
-        Ok(())
-    }
-
-    /// A buffer's rights are others from now on: commits each that is another with an event of its own, the list first, and before that
-    /// what is gathered.
-    ///
-    /// # Errors
-    ///
-    /// `Other` where the rights are of two buffers, and then nothing is changed.
-    pub(crate) fn set(
-        &mut self,
-        user: Option<&Name>,
-        old: &Rights<'_>,
-        new: &Rights<'_>,
-    ) -> Result<(), LedgerFault>
-        ensures { HasCleanDisk (state S.Store self.new.conn) → OnOk result (IsSet S.Store old.now new.now self.new.conn) }
-    {
-        if !is_same_buffer(old, new) {
-            return Err(LedgerFault::Other);
-        }
-        self.commit()?;
-        self.room.lend();
-        self.set_parts(user, old, new)?;
-        self.room.take_back();
         Ok(())
     }
 }

@@ -1,7 +1,7 @@
 // How rights are spelled.
-ghost use Rattle.std.specs.Prelude.{◌≡◌, ◌++◌, IfOk, OnOk, string_bytes};
+ghost use Rattle.std.specs.Prelude.{◌≡◌, ◌++◌, true, IfOk, OnOk, string_bytes};
 ghost use Rattle.mgs_model.specs.Draw.{entry_text};
-ghost use Rattle.mgs_ledger.specs.Spelling.{group_text, entry_lines, line_feed};
+ghost use Rattle.mgs_ledger.specs.Spelling.{entry_lines, line_feed, listed, parted, separator, text_or_empty};
 
 use mgs_acl::{List, print_entry};
 use mgs_model::{Entry, Name};
@@ -17,12 +17,12 @@ pub(crate) fn name_text(name: &Name) -> &str
     }
 }
 
-/// The group's name, or nothing where there is none.
-pub(crate) fn group_text(group: &Option<Name>) -> &str
-    ensures { result.now ≡ group_text group.now }
+/// The name, or nothing if there is none.
+pub(crate) fn text_or_empty(name: &Option<Name>) -> &str
+    ensures { result.now ≡ text_or_empty name.now }
 {
-    match group {
-        Some(group) => name_text(group),
+    match name {
+        Some(name) => name_text(name),
         None => "",
     }
 }
@@ -57,16 +57,37 @@ pub(crate) fn entry_lines(alloc: Global, list: &List) -> Result<String, AllocErr
     lines_of(alloc, list.as_slice())
 }
 
-/// The entries of a list, parted by `; `, or `-` where there is none.
-pub(crate) fn push_list(text: &mut String, list: &List) -> Result<(), AllocError> {
+fn separator_text(is_first: bool) -> &'static str
+    ensures { result.now ≡ separator is_first }
+{
+    if is_first { "" } else { "; " }
+}
+
+fn push_parted(text: &mut String, is_first: bool, entry: &Entry) -> Result<(), AllocError>
+    ensures { OnOk result (string_bytes text.new ≡ string_bytes text.old ++ (separator is_first ++ entry_text entry.now)) }
+{
+    text.push_str(separator_text(is_first))?;
+    push_entry(text, entry)
+}
+
+fn parted_text(alloc: Global, entries: &[Entry]) -> Result<String, AllocError>
+    ensures { IfOk result (λ text. string_bytes text ≡ parted true entries.now) }
+{
+    let mut text = String::new(alloc);
+    let mut is_first = true;
+    for entry in entries {
+        push_parted(&mut text, is_first, entry)?;
+        is_first = false;
+    }
+    Ok(text)
+}
+
+/// The entries of a list, parted by `; `, or `-` if there is none.
+pub(crate) fn listed_text(alloc: Global, list: &List) -> Result<String, AllocError>
+    ensures { IfOk result (λ text. string_bytes text ≡ listed list.now) }
+{
     if list.is_empty() {
-        return text.push_str("-");
+        return String::from_str(alloc, "-");
     }
-    for (i, entry) in list.as_slice().iter().enumerate() {
-        if i > 0 {
-            text.push_str("; ")?;
-        }
-        push_entry(text, entry)?;
-    }
-    Ok(())
+    parted_text(alloc, list.as_slice())
 }

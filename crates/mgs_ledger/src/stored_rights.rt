@@ -3,8 +3,8 @@ ghost use Rattle.std.specs.Prelude.{◌≡◌, IfOk, IfSome, map};
 ghost use Rattle.sqlite.specs.State.{HasCleanDisk};
 ghost use Rattle.sqlite.specs.Held.{state};
 ghost use Rattle.mgs_tables.specs.Rows.{rights_read};
-ghost use Rattle.mgs_ledger.specs.Spelling.{entry_lines, group_text, values_of};
-ghost use Rattle.mgs_ledger.specs.Reading.{AreRead};
+ghost use Rattle.mgs_ledger.specs.Spelling.{entry_lines, text_or_empty};
+ghost use Rattle.mgs_ledger.specs.Reading.{AreRead, AreUnborn, row_values};
 
 use crate::ledger_fault::LedgerFault;
 use crate::rights_spelling::entry_lines;
@@ -56,7 +56,7 @@ fn read_user(text: &str) -> Option<Name>
 }
 
 fn read_group(text: &str) -> Option<Option<Name>>
-    ensures { IfSome result (λ group. group_text group ≡ text.now) }
+    ensures { IfSome result (λ group. text_or_empty group ≡ text.now) }
 {
     if text.is_empty() {
         return Some(None);
@@ -69,7 +69,7 @@ fn read_group(text: &str) -> Option<Option<Name>>
 
 fn read_owners(owner: &str, group: &str) -> Option<Owners>
     ensures owner { IfSome result (λ owners. owners.owner ≡ owner.now) }
-    ensures group { IfSome result (λ owners. group_text owners.group ≡ group.now) }
+    ensures group { IfSome result (λ owners. text_or_empty owners.group ≡ group.now) }
 {
     match read_user(owner) {
         None => None,
@@ -81,7 +81,8 @@ fn read_owners(owner: &str, group: &str) -> Option<Owners>
 }
 
 fn read_value(alloc: Global, row: &Rights) -> Result<Option<RightsValue>, AllocError>
-    ensures { IfOk result (λ value. IfSome value (λ value. values_of value ≡ rights_read row.now)) }
+    ensures spelled { IfOk result (λ value. IfSome value (λ value. row_values value ≡ rights_read row.now)) }
+    ensures birth { IfOk result (λ value. IfSome value (λ value. value.birth ≡ 0)) }
 {
     let Some(name) = Name::read(row.name.as_str()) else {
         return Ok(None);
@@ -92,11 +93,17 @@ fn read_value(alloc: Global, row: &Rights) -> Result<Option<RightsValue>, AllocE
     let Some(list) = read_list(alloc, row.entries.as_str())? else {
         return Ok(None);
     };
-    Ok(Some(RightsValue { name, owners, list }))
+    Ok(Some(RightsValue {
+        name,
+        owners,
+        list,
+        birth: 0,
+    }))
 }
 
 fn read_row(alloc: Global, row: &Rights) -> Result<RightsValue, LedgerFault>
-    ensures { IfOk result (λ value. values_of value ≡ rights_read row.now) }
+    ensures spelled { IfOk result (λ value. row_values value ≡ rights_read row.now) }
+    ensures birth { IfOk result (λ value. value.birth ≡ 0) }
 {
     match read_value(alloc, row)? {
         Some(value) => Ok(value),
@@ -105,7 +112,8 @@ fn read_row(alloc: Global, row: &Rights) -> Result<RightsValue, LedgerFault>
 }
 
 fn read_rows(alloc: Global, rows: &[Rights]) -> Result<Vec<RightsValue>, LedgerFault>
-    ensures { IfOk result (λ values. map values_of values.items ≡ map rights_read rows.now) }
+    ensures spelled { IfOk result (λ values. map row_values values.items ≡ map rights_read rows.now) }
+    ensures births { IfOk result (λ values. AreUnborn values.items) }
 {
     let mut values = Vec::with_capacity(alloc, BUFFER_LIMIT)?;
     for row in rows {

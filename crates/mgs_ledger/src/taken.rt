@@ -1,8 +1,9 @@
 // The names that users took.
-ghost use Rattle.std.specs.Prelude.{◌≡◌, OnOk, filter, not};
+ghost use Rattle.std.specs.Prelude.{◌≡◌, true, [], IfOk, OnOk, filter, not};
 ghost use Rattle.mgs_model.specs.Access.{is_among};
 ghost use Rattle.mgs_model.specs.Names.{same_name};
-ghost use Rattle.mgs_ledger.specs.Taken.{event_noted, noted, page_noted};
+ghost use Rattle.mgs_ledger.specs.Taken.{event_noted, last_number, noted, page_noted};
+ghost use Rattle.mgs_ledger.specs.Reading.{AreAllNoted};
 
 use crate::ledger_fault::LedgerFault;
 use mgs_model::Name;
@@ -38,7 +39,7 @@ fn note(names: &mut Vec<Name>, name: Name, is_by_user: bool) -> Result<(), Ledge
     Ok(())
 }
 
-// What an event does to the names that are taken: a user takes one by making or killing a buffer, and who makes the server frees it so.
+// What an event does to the names that are taken: a user takes one by making or killing a buffer, and nobody frees it so.
 fn note_event(names: &mut Vec<Name>, event: &Event) -> Result<(), LedgerFault>
     ensures { OnOk result (names.new.items ≡ event_noted names.old.items event.now) }
 {
@@ -46,35 +47,55 @@ fn note_event(names: &mut Vec<Name>, event: &Event) -> Result<(), LedgerFault>
         return Ok(());
     }
     match Name::read(event.buffer.as_str()) {
-        Some(name) => note(names, name, event.user.as_str() != "-"),
+        Some(name) => note(names, name, !event.user.is_empty()),
         None => Ok(()),
     }
 }
 
-// Notes all events of a page, and says the number of the last of all.
-fn note_page(names: &mut Vec<Name>, events: &[Event], mut last: i64) -> Result<i64, LedgerFault>
+// Notes all events of a page.
+fn note_page(names: &mut Vec<Name>, events: &[Event]) -> Result<(), LedgerFault>
     ensures { OnOk result (names.new.items ≡ page_noted names.old.items events.now) }
 {
     for event in events {
         note_event(names, event)?;
+    }
+    Ok(())
+}
+
+// The number of the last event of a page, or this one if the page is empty.
+fn last_of(events: &[Event], mut last: i64) -> i64
+    ensures { result ≡ last_number last events.now }
+{
+    for event in events {
         last = event.number;
     }
-    Ok(last)
+    last
+}
+
+// Whether a page has no event.
+fn is_end(events: &[Event]) -> bool
+    ensures { result ≡ true → events.now ≡ [] }
+{
+    events.is_empty()
 }
 
 /// The names whose last buffer a user made or killed, by the events of the tables.
 pub(crate) fn read_taken<S: Alter>(
     conn: &mut Connection<S>,
     alloc: Global,
-) -> Result<Vec<Name>, LedgerFault> {
+) -> Result<Vec<Name>, LedgerFault>
+    ensures { IfOk result (λ names. AreAllNoted S.Store conn.old conn.new names.items) }
+{
     let mut names = Vec::new(alloc);
     let mut last = 0;
     for _ in 0..u64::MAX {
         let events = read_events(conn, alloc, last, PAGE)?;
-        if events.is_empty() {
+        let page = events.as_slice();
+        if is_end(page) {
             return Ok(names);
         }
-        last = note_page(&mut names, events.as_slice(), last)?;
+        note_page(&mut names, page)?;
+        last = last_of(page, last);
     }
-    Ok(names)
+    Err(LedgerFault::Full)
 }

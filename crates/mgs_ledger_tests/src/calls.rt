@@ -3,7 +3,7 @@
 use crate::desk::Dial;
 use mgs_acl::{List, print_entry, read_entry};
 use mgs_buffers::Rights;
-use mgs_journal::{Journal, Told};
+use mgs_journal::{Change, Journal, Told};
 use mgs_model::{Name, Owners};
 use std::alloc::{AllocError, Global};
 use std::test::Fail;
@@ -53,7 +53,7 @@ pub(crate) fn add<J: Journal>(
         owners: &owners,
         list: &list,
     };
-    desk.add(Some(name("ann")?), &rights)?;
+    desk.change(Some(name("ann")?), &[Change::Add(rights, 1)])?;
     Ok(())
 }
 
@@ -76,7 +76,10 @@ pub(crate) fn set<J: Journal>(
         owners: &owners,
         list: &list,
     };
-    Ok(desk.set(Some(name("ann")?), 0, &rights).is_ok())
+    Ok(
+        desk.change(Some(name("ann")?), &[Change::Set(0, rights)])
+            .is_ok(),
+    )
 }
 
 /// Has a user kill the first buffer, or for `-` nobody.
@@ -84,7 +87,7 @@ pub(crate) fn remove<J: Journal>(desk: &mut J, user: &str) -> Result<(), Fail> {
     if desk.rights(0).is_none() {
         return Err(Fail::new("no buffer"));
     }
-    desk.remove(name_if(user)?, 0)?;
+    desk.change(name_if(user)?, &[Change::Remove(0)])?;
     Ok(())
 }
 
@@ -188,4 +191,53 @@ pub(crate) fn is_taken<J: Journal>(desk: &J, buffer: &str) -> Result<bool, Fail>
 pub(crate) fn forget<J: Journal>(desk: &mut J, buffer: &str) -> Result<(), Fail> {
     desk.forget(&name(buffer)?)?;
     Ok(())
+}
+
+// The changes that kill the first buffer, make one of these rights and give it other rights.
+fn remake<'a>(first: Rights<'a>, second: Rights<'a>) -> [Change<'a>; 3] {
+    [
+        Change::Remove(0),
+        Change::Add(first, 7),
+        Change::Set(0, second),
+    ]
+}
+
+/// Has this user, who is called `-` if it says so, kill the first buffer, make another one of this name and give it another owner and list,
+/// all at once. The owner of the new one is this one, and it has this group.
+pub(crate) fn replace<J: Journal>(
+    desk: &mut J,
+    user: &str,
+    buffer: &str,
+    owner: &str,
+    group: &str,
+) -> Result<(), Fail> {
+    let buffer = name(buffer)?;
+    let first = Owners {
+        owner: name("ann")?,
+        group: None,
+    };
+    let second = Owners {
+        owner: name(owner)?,
+        group: Some(name(group)?),
+    };
+    let wide = list("ALLOW EVERYONE@ rw")?;
+    let narrow = list("ALLOW OWNER@ r")?;
+    let made = Rights {
+        name: &buffer,
+        owners: &first,
+        list: &wide,
+    };
+    let given = Rights {
+        name: &buffer,
+        owners: &second,
+        list: &narrow,
+    };
+    let changes = remake(made, given);
+    desk.change(Some(name(user)?), &changes)?;
+    Ok(())
+}
+
+/// The birth number of the first buffer.
+pub(crate) fn birth<J: Journal>(desk: &J) -> u64 {
+    desk.birth(0)
 }

@@ -1,8 +1,9 @@
 // What is told of changes, and which lines an audit prints.
-use crate::calls::{add, remove, set};
-use crate::desk::{Dial, begin, last_lines, lines};
+use crate::calls::{add, birth, remove, replace, set, set_text, text};
+use crate::desk::{Dial, again, begin, last_lines, lines};
 use mgs_journal::Journal;
 use mgs_ledger::Filter;
+use std::alloc::Global;
 use std::test::Fail;
 
 // Ann makes a buffer, and changes each of its rights, and nobody kills it. Says whether the change was taken.
@@ -21,11 +22,11 @@ fn a_change_is_told_with_what_was_before(rt: HostRuntime) -> Result<(), Fail> {
     let text = last_lines(rt.alloc(), desk)?;
     assert_eq!(rt;
         text.as_str(),
-        "2026-11-29T01:22:33Z\t1\tann\tcreate\tnotes\t-\n\
+        "2026-11-29T01:22:33Z\t1\tann\tcreate\tnotes\tann:staff ALLOW OWNER@ rw; DENY bob w\n\
          2026-11-29T01:22:33Z\t2\tann\tlist\tnotes\tALLOW OWNER@ rw; DENY bob w -> ALLOW OWNER@ r\n\
          2026-11-29T01:22:33Z\t3\tann\towner\tnotes\tann -> bob\n\
-         2026-11-29T01:22:33Z\t4\tann\tgroup\tnotes\tstaff -> -\n\
-         2026-11-29T01:22:33Z\t5\t-\tkill\tnotes\t-\n"
+         2026-11-29T01:22:33Z\t4\tann\tgroup\tnotes\tstaff -> \n\
+         2026-11-29T01:22:33Z\t5\t\tkill\tnotes\t\n"
     );
     Ok(())
 }
@@ -44,7 +45,7 @@ fn what_is_as_it_was_is_not_told(rt: HostRuntime) -> Result<(), Fail> {
     let text = last_lines(rt.alloc(), desk)?;
     assert_eq!(rt;
         text.as_str(),
-        "2026-11-29T01:22:33Z\t1\tann\tcreate\tnotes\t-\n"
+        "2026-11-29T01:22:33Z\t1\tann\tcreate\tnotes\tann: ALLOW OWNER@ rw\n"
     );
     Ok(())
 }
@@ -64,13 +65,13 @@ fn an_audit_prints_what_is_asked_for(rt: HostRuntime) -> Result<(), Fail> {
     make_two(&mut desk, &dial)?;
     let mut conn = desk.close()?;
     let nobodys = Filter {
-        user: Some("-"),
+        user: Some(""),
         buffer: None,
         since: None,
     };
     assert_eq!(rt;
         lines(rt.alloc(), &mut conn, &nobodys)?.as_str(),
-        "2026-11-29T01:22:33Z\t2\t-\tkill\tnotes\t-\n"
+        "2026-11-29T01:22:33Z\t2\t\tkill\tnotes\t\n"
     );
     let later = Filter {
         user: Some("ann"),
@@ -79,7 +80,36 @@ fn an_audit_prints_what_is_asked_for(rt: HostRuntime) -> Result<(), Fail> {
     };
     assert_eq!(rt;
         lines(rt.alloc(), &mut conn, &later)?.as_str(),
-        "2026-11-29T01:22:34Z\t3\tann\tcreate\ttodo\t-\n"
+        "2026-11-29T01:22:34Z\t3\tann\tcreate\ttodo\tann: ALLOW OWNER@ rw\n"
+    );
+    Ok(())
+}
+
+// Ann makes a buffer with a text, and a user, a group and a buffer that are called `-` take part in one change: it is killed, and another
+// one comes in its place. Says whether the new one has no text, and its birth number.
+fn replace_all<J: Journal>(alloc: Global, desk: &mut J) -> Result<bool, Fail> {
+    add(desk, "-", "ann", "-", "ALLOW OWNER@ rw")?;
+    set_text(desk, alloc, 0, "secret", true, 1)?;
+    replace(desk, "-", "-", "bob", "-")?;
+    Ok(text(alloc, desk, 0)?.as_str() == "-" && birth(desk) == 7)
+}
+
+#[test]
+fn a_kill_and_a_create_in_one_change_are_told_apart(rt: HostRuntime) -> Result<(), Fail> {
+    let dial = Dial::new();
+    let mut desk = begin(rt.alloc(), &dial)?;
+    assert!(rt; replace_all(rt.alloc(), &mut desk)?);
+    let desk = again(rt.alloc(), &dial, desk)?;
+    assert!(rt; text(rt.alloc(), &desk, 0)?.as_str() == "-" && birth(&desk) == 0);
+    let text = last_lines(rt.alloc(), desk)?;
+    assert_eq!(rt;
+        text.as_str(),
+        "2026-11-29T01:22:33Z\t1\tann\tcreate\t-\tann: ALLOW OWNER@ rw\n\
+         2026-11-29T01:22:33Z\t2\t-\tkill\t-\t\n\
+         2026-11-29T01:22:33Z\t3\t-\tcreate\t-\tann: ALLOW EVERYONE@ rw\n\
+         2026-11-29T01:22:33Z\t4\t-\tlist\t-\tALLOW EVERYONE@ rw -> ALLOW OWNER@ r\n\
+         2026-11-29T01:22:33Z\t5\t-\towner\t-\tann -> bob\n\
+         2026-11-29T01:22:33Z\t6\t-\tgroup\t-\t -> -\n"
     );
     Ok(())
 }

@@ -30,13 +30,13 @@ fn what_is_told_comes_before_the_next_change(rt: HostRuntime) -> Result<(), Fail
     tell_all(&mut desk)?;
     assert_eq!(rt; dial.line_count(), 0);
     add(&mut desk, "notes", "ann", "-", "ALLOW OWNER@ rw")?;
-    let text = "2026-11-29T01:22:33Z\t1\tbob\tlogin\t-\t-\n\
-         2026-11-29T01:22:33Z\t2\tbob\tdenied\t-\tREAD_DATA entry 2\n\
-         2026-11-29T01:22:33Z\t3\tbob\tdenied\t-\tWRITE_DATA no entry\n\
-         2026-11-29T01:22:33Z\t4\tbob\tend\t-\tquit\n\
-         2026-11-29T01:22:33Z\t5\tbob\tend\t-\tclosed\n\
-         2026-11-29T01:22:33Z\t6\tbob\tend\t-\tslow\n\
-         2026-11-29T01:22:33Z\t7\tann\tcreate\tnotes\t-\n";
+    let text = "2026-11-29T01:22:33Z\t1\tbob\tlogin\t\t\n\
+         2026-11-29T01:22:33Z\t2\tbob\tdenied\t\tREAD_DATA entry 2\n\
+         2026-11-29T01:22:33Z\t3\tbob\tdenied\t\tWRITE_DATA no entry\n\
+         2026-11-29T01:22:33Z\t4\tbob\tend\t\tquit\n\
+         2026-11-29T01:22:33Z\t5\tbob\tend\t\tclosed\n\
+         2026-11-29T01:22:33Z\t6\tbob\tend\t\tslow\n\
+         2026-11-29T01:22:33Z\t7\tann\tcreate\tnotes\tann: ALLOW OWNER@ rw\n";
     assert_eq!(rt; last_lines(rt.alloc(), desk)?.as_str(), text);
     Ok(())
 }

@@ -2,7 +2,7 @@
 use crate::calls::{add, kept, remove, set};
 use crate::desk::{Desk, Dial, again, begin, resume, tables};
 use mgs_journal::Journal;
-use mgs_tables::{EventRow, RightsRow};
+use mgs_tables::{EventRow, RightsRow, RowChange};
 use sqlite::{Connection, MemStore};
 use std::alloc::Global;
 use std::test::Fail;
@@ -32,7 +32,7 @@ fn insert(
         buffer: "notes",
         detail: "",
     };
-    mgs_tables::add_buffer(conn, &rights, &event)?;
+    mgs_tables::put_changes(conn, &[RowChange::Add(rights)], &[event])?;
     Ok(())
 }
 

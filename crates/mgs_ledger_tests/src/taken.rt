@@ -1,5 +1,5 @@
 // Which names users took.
-use crate::calls::{add, forget, is_taken, remove};
+use crate::calls::{add, forget, is_taken, remove, replace};
 use crate::desk::{Dial, again, begin};
 use mgs_journal::Journal;
 use std::test::Fail;
@@ -51,5 +51,24 @@ fn a_killed_name_is_taken_until_it_is_forgotten(rt: HostRuntime) -> Result<(), F
     assert!(rt; is_taken_until_forgotten(&mut desk)?);
     let desk = again(rt.alloc(), &dial, desk)?;
     assert!(rt; !is_taken(&desk, "notes")?);
+    Ok(())
+}
+
+// Ann makes a buffer, and a user who is called `-` kills it and makes another one.
+fn make_and_replace<J: Journal>(desk: &mut J) -> Result<(), Fail> {
+    add(desk, "notes", "ann", "-", "ALLOW ann rw")?;
+    remove(desk, "-")?;
+    add(desk, "plan", "ann", "-", "ALLOW ann rw")?;
+    replace(desk, "-", "notes", "-", "-")
+}
+
+// A user who is called `-` is a user: what that user made is taken.
+#[test]
+fn a_user_whose_name_is_a_dash_takes_a_name(rt: HostRuntime) -> Result<(), Fail> {
+    let dial = Dial::new();
+    let mut desk = begin(rt.alloc(), &dial)?;
+    make_and_replace(&mut desk)?;
+    let desk = again(rt.alloc(), &dial, desk)?;
+    assert!(rt; is_taken(&desk, "notes")? && is_taken(&desk, "plan")?);
     Ok(())
 }

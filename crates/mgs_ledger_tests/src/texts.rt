@@ -119,7 +119,7 @@ fn what_is_gathered_is_committed_with_a_text(rt: HostRuntime) -> Result<(), Fail
     let mut desk = two(rt.alloc(), &dial)?;
     assert!(rt; waits_for_a_text(&mut desk, &dial, rt.alloc())?);
     let text = last_lines(rt.alloc(), desk)?;
-    assert!(rt; text.as_str().ends_with("\t5\tbob\tlogin\t-\t-\n"));
+    assert!(rt; text.as_str().ends_with("\t5\tbob\tlogin\t\t\n"));
     Ok(())
 }
 

@@ -1,7 +1,7 @@
 -- A configuration that is served.
 use Rattle.std.specs.Prelude.{◌≡◌, ◌≢◌, ℕ, List, [], Option}
 use Rattle.mgs_model.specs.Events.{Saved}
-use Rattle.mgs_store.specs.Stores.{store_told}
+use Rattle.mgs_births.specs.Telling.{first_told}
 use Rattle.mgs_command.specs.declared.preparation.TheConstants.{FAILED, NO_SOCKETS}
 use Rattle.mgs_config.specs.World.{paths_of}
 use Rattle.mgs_config.specs.Configured.{Config}
@@ -26,7 +26,7 @@ pub record Serves {D : Type 0} (failed : FileStore D → ℕ) (accepted : FileSt
   pub named : rows_in store ≡ paths_of config.files.items
   pub found : AreFound leads (places_in store)
   pub untouched : steps_of done store ≡ before
-  pub serving : server.serving ≡ at_first (first_world config.directory config.buffers) (store_told failed accepted store)
+  pub serving : server.serving ≡ at_first (first_world config.directory config.buffers) (first_told failed accepted store)
   pub tickets : server.tickets ≡ config.tickets
   pub nobody : server.peers ≡ []
   pub listens : port ≢ 0 → server.port ≡ port

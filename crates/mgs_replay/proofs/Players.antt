@@ -8,7 +8,7 @@ use Rattle.mgs_model.specs.Events.{Close, step}
 use Rattle.mgs_model.specs.declared.errors.Keyed.{Keyed}
 use Rattle.mgs_model.specs.declared.errors.Keyed.TheVariants as keyed
 use Rattle.mgs_model.specs.declared.errors.OpenFault.{OpenFault}
-use Rattle.mgs_store.specs.Stores.{StoreTold}
+use Rattle.mgs_births.specs.Telling.{StoreTold}
 use Rattle.mgs_core.specs.Calls.{KeyedBy, OpenedBy}
 use Rattle.mgs_engine.specs.Serving.{Serving}
 use Rattle.mgs_engine.specs.Painted.{Painted}

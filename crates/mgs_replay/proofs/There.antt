@@ -7,7 +7,7 @@ use Rattle.mgs_model.specs.World.{World, Session, find_session}
 use Rattle.mgs_model.specs.Events.{is_open}
 use Rattle.mgs_model.specs.declared.errors.Keyed.{Keyed}
 use Rattle.mgs_model.specs.declared.errors.Keyed.TheVariants as keyed
-use Rattle.mgs_store.specs.Stores.{StoreTold}
+use Rattle.mgs_births.specs.Telling.{StoreTold}
 use Rattle.mgs_core.specs.Calls.{KeyedBy}
 use Rattle.mgs_core.proofs.Ids.{All-found}
 use Rattle.mgs_replay.specs.declared.client.Cause.{Cause}

@@ -1,8 +1,10 @@
 -- What a start adds, one buffer after another.
 use Rattle.std.proofs.Common.{◌≡◌, ℕ, zero, suc, length, Bool, true, false, List, [], ◌∷◌, ◌++◌, map, Option, Some, None, if◌then◌else◌, refl, sym, ap, subst, ◌∙◌}
 use Rattle.std.proofs.lemmas.List.{map-append}
+use Rattle.std.proofs.lemmas.List.Elements.{All-push}
 use Rattle.std.specs.Prelude.{find, get_or, is_some, slice_get, take}
 use Rattle.mgs_model.proofs.Blind.{is_name}
+use Rattle.mgs_model.specs.Access.{Directory, is_among}
 use Rattle.mgs_laws.specs.Apart.{Rules, rules_of}
 use Rattle.mgs_buffers.specs.Judging.{rules_kept}
 use Rattle.mgs_buffers.specs.MarkedBuffer.{HasBuffer, MarkedBuffer}
@@ -10,6 +12,7 @@ use Rattle.mgs_journal.specs.Kept.{is_of}
 use Rattle.mgs_journal.specs.Texts.{KeptText}
 use Rattle.mgs_resume.specs.Contents.{AddsConfigured, Contents, StartsWith, buffer_configured, buffer_kept, buffer_with, buffers_kept, contents_at_start}
 use Rattle.mgs_resume.specs.Joined.{has_name}
+use Rattle.mgs_resume.specs.Refusing.{AreUsers}
 use Rattle.mgs_resume.proofs.Walks.{has_kept, longer, taken_all}
 
 -- ONE BUFFER MORE
@@ -97,3 +100,10 @@ adds_both config ks ls ms first then_so =
 pub starts_with : (taken : List ℕ → Bool) (config : List MarkedBuffer) (rs : List Rules) (ts : List (Option KeptText)) (ks ls : List MarkedBuffer)
     → ks ≡ buffers_kept taken config rs ts → AddsConfigured config ks ls → StartsWith taken config rs ts ls
 starts_with taken config rs ts ks ls first others = subst (λ xs. AddsConfigured config xs ls) first others
+
+-- the owners of those that were added are users
+pub users_more : (d : Directory) (taken : List ℕ → Bool) (config ks ls : List MarkedBuffer) (r : Rules) (text : Option KeptText) → ls ≡ ks ++ buffer_kept taken config r text ∷ []
+    → is_among r.owners.owner d.users ≡ true → AreUsers d (rules_kept ks) → AreUsers d (rules_kept ls)
+users_more d taken config ks ls r text e is all =
+    subst (λ (rs : List Rules). AreUsers d rs) (sym (rules_more taken config ks ls r text e))
+    (All-push (λ (x : Rules). is_among x.owners.owner d.users ≡ true) (rules_kept ks) r all is)

@@ -1,11 +1,13 @@
 // The buffers of a start.
-ghost use Rattle.std.specs.Prelude.{◌≡◌, ◌∷◌, ◌++◌, [], IfOk, None, OnOk, get_or, length};
+ghost use Rattle.std.specs.Prelude.{◌≡◌, ◌∷◌, ◌++◌, [], IfErr, IfOk, None, OnOk, get_or, length};
 ghost use Rattle.std.specs.Str.{chars};
 ghost use Rattle.mgs_buffers.specs.Adding.{kept_buffer};
 ghost use Rattle.mgs_buffers.specs.Judging.{rules_kept};
 ghost use Rattle.mgs_buffers.specs.MarkedBuffer.{AreUnmarked, HasBuffer, marked_at};
+ghost use Rattle.mgs_journal.specs.Rows.{rules_in_rows};
 ghost use Rattle.mgs_resume.specs.Contents.{AddsConfigured, StartsWith, buffer_configured, buffer_kept, buffer_with, buffers_kept, contents_kept, contents_resumed};
 ghost use Rattle.mgs_resume.specs.Joined.{AddsOther, with_others};
+ghost use Rattle.mgs_resume.specs.Refusing.{AreUsers, IsCause, NamesNoOwner};
 
 use mgs_buffers::{AddFault, Buffers, Rights};
 use mgs_journal::{Journal, Snapshot};
@@ -63,7 +65,9 @@ impl fmt::Display for ResumeFault {
 
 impl std::error::Error for ResumeFault {}
 
-fn fault_at(name: &Name, fault: AddFault) -> ResumeFault {
+fn fault_at(name: &Name, fault: AddFault) -> ResumeFault
+    ensures { NamesNoOwner result }
+{
     match fault {
         AddFault::Full => ResumeFault::Full(*name),
         AddFault::Long => ResumeFault::Long(*name),
@@ -89,6 +93,7 @@ fn add<T: Marked + Drop>(
 ) -> Result<(), ResumeFault>
     ensures ok { OnOk result (joined.new ≡ joined.old ++ kept_buffer rights.now text.now has_file modified ∷ []) }
     ensures unmarked { AreUnmarked joined.old → AreUnmarked joined.new }
+    ensures fault { IfErr result NamesNoOwner }
 {
     match joined.restore(rights, text, has_file, modified) {
         Ok(()) => Ok(()),
@@ -106,6 +111,7 @@ fn add_body<T: Marked + Drop>(
 ) -> Result<(), ResumeFault>
     ensures ok { OnOk result (joined.new ≡ joined.old ++ kept_buffer rights.now (chars body.now) has_file modified ∷ []) }
     ensures unmarked { AreUnmarked joined.old → AreUnmarked joined.new }
+    ensures fault { IfErr result NamesNoOwner }
 {
     let text = match chars_of(joined.alloc(), body) {
         Ok(text) => text,
@@ -122,6 +128,7 @@ fn add_own<T: Marked + Drop>(
 ) -> Result<(), ResumeFault>
     ensures ok { OnOk result (joined.new ≡ joined.old ++ buffer_with rights.now (contents_kept kept.now) ∷ []) }
     ensures unmarked { AreUnmarked joined.old → AreUnmarked joined.new }
+    ensures fault { IfErr result NamesNoOwner }
 {
     match kept {
         Some(text) => add_body(joined, rights, text.body, false, text.modified),
@@ -138,6 +145,7 @@ fn add_configured<T: Marked + Drop>(
     requires { HasBuffer rights.now.name config.now }
     ensures ok { OnOk result (joined.new ≡ joined.old ++ buffer_configured config.now rights.now ∷ []) }
     ensures unmarked { AreUnmarked joined.old → AreUnmarked joined.new }
+    ensures fault { IfErr result NamesNoOwner }
 {
     let buffer = config.find(rights.name);
     let text = match buffer.text().copy(0, buffer.text_len()) {
@@ -157,6 +165,7 @@ fn add_resumed<T: Marked + Drop>(
     requires { HasBuffer rights.now.name config.now }
     ensures ok { OnOk result (joined.new ≡ joined.old ++ buffer_with rights.now (contents_resumed (marked_at rights.now.name config.now) kept.now) ∷ []) }
     ensures unmarked { AreUnmarked joined.old → AreUnmarked joined.new }
+    ensures fault { IfErr result NamesNoOwner }
 {
     match kept {
         Some(text) => {
@@ -181,6 +190,7 @@ fn add_next<T: Marked + Drop, J: Journal>(
     ensures ok { OnOk result (joined.new
         ≡ joined.old ++ buffer_kept (J.taken journal.now) config.now rights.now (get_or (J.texts journal.now) (length joined.old) None) ∷ []) }
     ensures unmarked { AreUnmarked joined.old → AreUnmarked joined.new }
+    ensures fault { IfErr result NamesNoOwner }
 {
     let kept = journal.text(joined.len());
     if journal.is_taken(rights.name) || !config.has(rights.name) {
@@ -197,8 +207,10 @@ fn add_kept<T: Marked + Drop, J: Journal>(
     journal: &J,
 ) -> Result<(), ResumeFault>
     requires { joined.old ≡ [] }
-    ensures ok { OnOk result (rules_kept joined.new ≡ J.kept journal.now) }
-    ensures texts { OnOk result (joined.new ≡ buffers_kept (J.taken journal.now) config.now (J.kept journal.now) (J.texts journal.now)) }
+    ensures ok { OnOk result (rules_kept joined.new ≡ rules_in_rows (J.rows journal.now)) }
+    ensures texts { OnOk result (joined.new ≡ buffers_kept (J.taken journal.now) config.now (rules_in_rows (J.rows journal.now)) (J.texts journal.now)) }
+    ensures owners { OnOk result (AreUsers directory.now (rules_in_rows (J.rows journal.now))) }
+    ensures fault { IfErr result (IsCause directory.now (rules_in_rows (J.rows journal.now))) }
     ensures unmarked { AreUnmarked joined.old → AreUnmarked joined.new }
 {
     while let Some(rights) = journal.rights(joined.len()) {
@@ -221,6 +233,7 @@ fn add_other<T: Marked + Drop, J: Journal>(
     ensures ok { OnOk result (AddsOther (J.taken journal.now) i (rules_kept config.now) (rules_kept joined.old) (rules_kept joined.new)) }
     ensures texts { OnOk result (AddsConfigured config.now joined.old joined.new) }
     ensures unmarked { AreUnmarked joined.old → AreUnmarked joined.new }
+    ensures fault { IfErr result NamesNoOwner }
 {
     let Some(rights) = config.rights(i) else {
         return Ok(());
@@ -245,6 +258,7 @@ fn add_others<T: Marked + Drop, J: Journal>(
     ensures ok { OnOk result (rules_kept joined.new ≡ with_others (J.taken journal.now) (rules_kept joined.old) (rules_kept config.now)) }
     ensures texts { OnOk result (AddsConfigured config.now joined.old joined.new) }
     ensures unmarked { AreUnmarked joined.old → AreUnmarked joined.new }
+    ensures fault { IfErr result NamesNoOwner }
 {
     for i in 0..config.len() {
         add_other(joined, config, journal, i)?;
@@ -274,8 +288,10 @@ pub fn join<T: Marked + Drop, J: Journal>(
     config: &Buffers<T>,
     journal: &J,
 ) -> Result<Buffers<T>, ResumeFault>
-    ensures rules { IfOk result (λ buffers. rules_kept buffers ≡ with_others (J.taken journal.now) (J.kept journal.now) (rules_kept config.now)) }
-    ensures texts { IfOk result (StartsWith (J.taken journal.now) config.now (J.kept journal.now) (J.texts journal.now)) }
+    ensures rules { IfOk result (λ buffers. rules_kept buffers ≡ with_others (J.taken journal.now) (rules_in_rows (J.rows journal.now)) (rules_kept config.now)) }
+    ensures texts { IfOk result (StartsWith (J.taken journal.now) config.now (rules_in_rows (J.rows journal.now)) (J.texts journal.now)) }
+    ensures owners { OnOk result (AreUsers directory.now (rules_in_rows (J.rows journal.now))) }
+    ensures fault { IfErr result (IsCause directory.now (rules_in_rows (J.rows journal.now))) }
     ensures unmarked { IfOk result AreUnmarked }
 {
     let mut joined = Buffers::new(alloc);

@@ -2,7 +2,7 @@
 use Rattle.std.proofs.Common.{◌≡◌, List, [], ◌∷◌, map, Result, Ok, Err, refl, ap, ◌∙◌}
 use Rattle.std.specs.Prelude.{IfOk}
 use Rattle.mgs_model.specs.World.{World, Session}
-use Rattle.mgs_store.specs.Stores.{StoreTold}
+use Rattle.mgs_births.specs.Telling.{StoreTold}
 use Rattle.mgs_core.specs.Kept.{Kept, kept}
 use Rattle.mgs_engine.specs.Queues.{Queue, queue_id}
 use Rattle.mgs_engine.specs.Serving.{Serving, queue_ids}

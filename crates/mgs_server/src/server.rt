@@ -1,7 +1,7 @@
 // The server.
 ghost use Rattle.std.specs.Prelude.{◌≡◌, ◌≢◌, [], IfOk, OnOk, OnErr};
 ghost use Rattle.mgs_buffers.specs.MarkedBuffer.{AreUnmarked};
-ghost use Rattle.mgs_store.specs.Stores.{store_told};
+ghost use Rattle.mgs_births.specs.Telling.{first_told};
 ghost use Rattle.mgs_server.specs.Listening.{at_first, first_world};
 ghost use Rattle.mgs_server.specs.Turns.{Turns};
 
@@ -54,7 +54,7 @@ fn engine_of<S: Store + Drop>(
     store: S,
 ) -> Result<Engine<GapText, S>, Short>
     requires { AreUnmarked buffers }
-    ensures { IfOk result (λ e. e ≡ at_first (first_world directory buffers) (store_told S.failed S.accepted store)) }
+    ensures { IfOk result (λ e. e ≡ at_first (first_world directory buffers) (first_told S.failed S.accepted store)) }
 {
     let core = Core::new(alloc, directory, buffers, store)?;
     Engine::new(alloc, core)
@@ -75,7 +75,7 @@ impl<S: Store + Drop, C: Clock + Drop> Server<Engine<GapText, S>, C> {
         store: S,
         clock: C,
     ) -> Result<EngineServer<S, C>, ListenFault>
-        ensures serving { IfOk result (λ s. s.serving ≡ at_first (first_world config.directory config.buffers) (store_told S.failed S.accepted store)) }
+        ensures serving { IfOk result (λ s. s.serving ≡ at_first (first_world config.directory config.buffers) (first_told S.failed S.accepted store)) }
         ensures tickets { IfOk result (λ s. s.tickets ≡ config.tickets) }
         ensures peers { IfOk result (λ s. s.peers ≡ []) }
         ensures port { IfOk result (λ s. port ≢ 0 → s.port ≡ port) }

@@ -1,1 +1,2 @@
 mod Transactions
+mod LogFrames

@@ -1,5 +1,5 @@
 -- What a transaction leaves, from what each call in it tells.
-use Rattle.std.proofs.Common.{◌≡◌, ℕ, List, Ok, true, IsTrue, refl, arith}
+use Rattle.std.proofs.Common.{◌≡◌, ℕ, List, Ok, true, IsTrue, refl, subst, arith}
 use Rattle.sqlite.specs.Order.{Row}
 use Rattle.sqlite.specs.Store.{Ghosts}
 use Rattle.sqlite.specs.Effect.{Database}
@@ -8,6 +8,7 @@ use Rattle.sqlite.specs.Held.{Held, state}
 use Rattle.sqlite.proofs.StateLemmas.{survives_then}
 use Rattle.sqlite.proofs.Callers.{survives_begin}
 use Rattle.mgs_tables.specs.Both.{RanWith, Left}
+use Rattle.mgs_tables.specs.Changes.{RanChanges, RunChanges, Statement}
 use Rattle.mgs_tables.specs.Events.{RunAll}
 
 -- a crash leaves what was before, or what the transaction made
@@ -26,6 +27,16 @@ pub ran_with : {S : Type 0} (g : Ghosts S) (change : List ℕ) (of_change : Row)
 ran_with g change of_change events old begun mid last begins one all stays clean =
     let first = one (omega (arith, stays.clean)) (rw begins) in
     record { mid = mid; last = last; one = rw begins at first.0; all = all clean first.1.mode; is = refl }
+
+-- the changes and then the events make what is committed
+pub ran_changes : {S : Type 0} (g : Ghosts S) (changes : List Statement) (events : List Row) (old begun mid last : Held S) → begun ≡ record old { in_transaction = true }
+    → (HasCleanDisk (state g mid) → IsTrue (state g begun).in_transaction → RunChanges g changes begun mid)
+    → (HasCleanDisk (state g mid) → IsTrue (state g begun).in_transaction → IsTrue (state g mid).in_transaction)
+    → (HasCleanDisk (state g last) → IsTrue (state g mid).in_transaction → RunAll g events mid last)
+    → Survives (state g mid) (state g last) (λ _. ⊥) → HasCleanDisk (state g last) → RanChanges g changes events old (state g last).now
+ran_changes g changes events old begun mid last begins run within all stays clean =
+    let early : HasCleanDisk (state g mid) = omega (arith, stays.clean) in
+    record { mid = mid; last = last; changed = subst (λ h. RunChanges g changes h mid) begins (run early (rw begins)); all = all clean (within early (rw begins)); is = refl }
 
 -- what both calls of a transaction keep out of the store
 pub stays_within : {S : Type 0} (g : Ghosts S) (begun mid last : Held S) → Survives (state g begun) (state g mid) (λ _. ⊥) → Survives (state g mid) (state g last) (λ _. ⊥)

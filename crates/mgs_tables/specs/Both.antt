@@ -1,5 +1,5 @@
 -- A change of one row and its events in one transaction.
-use Rattle.std.specs.Prelude.{◌≡◌, ◌≢◌, ℕ, true, List, [], ◌∷◌, Ok}
+use Rattle.std.specs.Prelude.{◌≡◌, ◌≢◌, ℕ, true, List, Ok}
 use Rattle.sqlite.specs.Tree.{Trees}
 use Rattle.sqlite.specs.Order.{Row}
 use Rattle.sqlite.specs.Store.{Ghosts}
@@ -15,10 +15,6 @@ pub record RanWith {S : Type 0} (g : Ghosts S) (change : List ℕ) (of_change : 
   pub one : Executes change of_change (state g (record old { in_transaction = true })) (state g mid) (Ok 1)
   pub all : RunAll g events mid last
   pub is : db ≡ (state g last).now
-
--- and with one event
-abbrev pub RanBoth : {S : Type 0} → Ghosts S → List ℕ → Row → Row → Held S → Database → Type 0
-RanBoth g change of_change event old db = RanWith g change of_change (event ∷ []) old db
 
 -- a crash can leave the trees of a database that was made so
 abbrev pub Left : (Database → Type 0) → Trees → Type 0

@@ -1,5 +1,7 @@
 pub mod Both
+pub mod Changes
 pub mod Events
+pub mod LogCheck
 pub mod Making
 pub mod Opening
 pub mod Reading

@@ -13,7 +13,7 @@ use Rattle.sqlite.specs.Start.{FindsIn}
 use Rattle.mgs_tables.specs.declared.open_file.OpenFault.{OpenFault}
 use Rattle.mgs_tables.specs.declared.open_file.OpenFault.TheVariants as fault
 use Rattle.mgs_tables.specs.Texts.{select_version, count_objects, count_tables, table_texts}
-use Rattle.mgs_tables.specs.Making.{HasMade, HasGrown}
+use Rattle.mgs_tables.specs.Making.{HasMade, HasGrownTo2, HasGrownTo3}
 use Rattle.mgs_tables.specs.Reading.{ShowsNumber}
 
 -- an error of SQLite's own is one of the disk, the file or the memory, and any other tells of other tables
@@ -26,16 +26,24 @@ fault_of (SqliteFailure code.DiskFull) = fault.DiskFull
 fault_of (SqliteFailure _) = fault.System
 fault_of _ = fault.Foreign
 
--- the file has three of the four tables as they are made, and is given the last, which it did not have, with the version
-pub record HasGrownOnly {S : Type 0} (g : Ghosts S) (old new : Held S) : Type 0 where
+-- the file of version 2 has the four tables as they are made, and is given what version 3 has more
+pub record HasGrownFrom2 {S : Type 0} (g : Ghosts S) (old new : Held S) : Type 0 where
   pub mid : Held S
-  pub tables : ShowsNumber count_tables table_texts (state g old) (state g mid) (pos 3)
-  pub grown : HasGrown g mid (state g new).committed
+  pub tables : ShowsNumber count_tables table_texts (state g old) (state g mid) (pos 4)
+  pub grown : HasGrownTo3 g mid (state g new).committed
 
--- it has the four tables as they are made and says version 2, or it says version 1 and is made so
+-- the file of version 1 has three of the four tables as they are made, and is given the last, which it did not have, and then the rest
+pub record HasGrownFrom1 {S : Type 0} (g : Ghosts S) (old new : Held S) : Type 0 where
+  pub mid : Held S
+  pub second : Held S
+  pub tables : ShowsNumber count_tables table_texts (state g old) (state g mid) (pos 3)
+  pub texts : HasGrownTo2 g mid (state g second).committed
+  pub grown : HasGrownTo3 g second (state g new).committed
+
+-- it has the four tables as they are made and says version 3, or it says an earlier version and is made so
 abbrev pub HasTables : {S : Type 0} → Ghosts S → Held S → Held S → ℤ → Type 0
 HasTables g old new version =
-    ((version ≡ pos 2) × ShowsNumber count_tables table_texts (state g old) (state g new) (pos 4)) ⊎ ((version ≡ pos 1) × HasGrownOnly g old new)
+    ((version ≡ pos 3) × ShowsNumber count_tables table_texts (state g old) (state g new) (pos 4)) ⊎ (((version ≡ pos 2) × HasGrownFrom2 g old new) ⊎ ((version ≡ pos 1) × HasGrownFrom1 g old new))
 
 -- the version that the file says, and its tables
 pub record IsOurs {S : Type 0} (g : Ghosts S) (old new : Held S) : Type 0 where

@@ -60,8 +60,20 @@ table_texts = Text create_format ∷ Text create_buffer ∷ Text create_event �
 
 -- all statements that make the tables and say their version
 abbrev pub make_tables : List ℕ
-make_tables = create_format ++ codes "; " ++ create_buffer ++ codes "; " ++ create_event ++ codes "; " ++ create_text ++ codes "; INSERT INTO format (version) VALUES (2)"
+make_tables = create_format ++ codes "; " ++ create_buffer ++ codes "; " ++ create_event ++ codes "; " ++ create_text ++ codes "; INSERT INTO format (version) VALUES (3)"
 
 -- all statements that give the tables of version 1, which had no texts, what version 2 has more
-abbrev pub grow_tables : List ℕ
-grow_tables = create_text ++ codes "; UPDATE format SET version = 2"
+abbrev pub grow_to_2 : List ℕ
+grow_to_2 = create_text ++ codes "; UPDATE format SET version = 2"
+
+-- up to version 2 nobody was `-`, which can be a user's name
+abbrev pub clear_nobody : List ℕ
+clear_nobody = codes "UPDATE event SET user = '' WHERE user = '-'"
+
+-- an event for each buffer tells what its rights are, at the time of the newest event
+abbrev pub tell_rights : List ℕ
+tell_rights = codes "INSERT INTO event (at, user, what, buffer, detail) SELECT coalesce((SELECT at FROM event ORDER BY number DESC LIMIT 1), 0), '', 'is', name, owner || ':' || owning_group || ' ' || CASE entries WHEN '' THEN '-' ELSE replace(replace(entries || '.', '\n.', ''), '\n', '; ') END FROM buffer ORDER BY id"
+
+-- all statements that make the tables of version 2 ones of version 3
+abbrev pub grow_to_3 : List ℕ
+grow_to_3 = clear_nobody ++ codes "; " ++ tell_rights ++ codes "; UPDATE format SET version = 3"

@@ -4,7 +4,7 @@ ghost use Rattle.std.specs.Prelude.{◌≡◌, false, map, Ok, Err, OnOk, OnErr,
 ghost use Rattle.sqlite.specs.State.{HasCleanDisk, Survives, KeepsCommit, ExecutesInside};
 ghost use Rattle.sqlite.specs.Values.{bound};
 ghost use Rattle.sqlite.specs.Held.{state};
-ghost use Rattle.mgs_tables.specs.Both.{RanBoth, RanWith, Left, IsUndone, HasOtherCount, FindsNone};
+ghost use Rattle.mgs_tables.specs.Both.{RanWith, Left, IsUndone, HasOtherCount, FindsNone};
 ghost use Rattle.mgs_tables.specs.Rows.{event_values};
 
 use crate::event_table::put_all;
@@ -12,8 +12,8 @@ use crate::rows::{EventRow, Fault};
 use sqlite::{Alter, Connection, Error, ErrorCode, Transaction};
 use sqlite_value::value::ValueRef;
 
-// Makes the change within a transaction, which alone commits it, and refuses one that is not of one row.
-fn change_one<S: Alter>(
+/// Makes the change within a transaction, which alone commits it, and refuses one that is not of one row.
+pub(crate) fn change_one<S: Alter>(
     tx: &mut Transaction<'_, S>,
     change: &str,
     of_change: &[ValueRef<'_>],
@@ -59,24 +59,4 @@ pub(crate) fn write_with<S: Alter>(
     put_all(&mut tx, events)?;
     tx.commit()?;
     Ok(())
-}
-
-/// Makes the change of one row and adds the event, both or neither.
-pub(crate) fn write_both<S: Alter>(
-    conn: &mut Connection<S>,
-    change: &str,
-    of_change: &[ValueRef<'_>],
-    event: &EventRow<'_>,
-) -> Result<(), Fault>
-    ensures both { HasCleanDisk (state S.Store conn.new)
-        → OnOk result (RanBoth S.Store change.now (bound of_change.now) (event_values event.now) conn.old (state S.Store conn.new).committed) }
-    ensures neither { HasCleanDisk (state S.Store conn.new) → IsTrue (state S.Store conn.new).is_open
-        → OnErr result (IsUndone (state S.Store conn.old) (state S.Store conn.new)) }
-    ensures missing { HasCleanDisk (state S.Store conn.new) → result ≡ Err Fault.NoBuffer
-        → FindsNone S.Store change.now (bound of_change.now) conn.old }
-    ensures mode { (state S.Store conn.old).in_transaction ≡ false → (state S.Store conn.new).in_transaction ≡ false }
-    ensures crash { Survives (state S.Store conn.old) (state S.Store conn.new)
-        (Left (RanBoth S.Store change.now (bound of_change.now) (event_values event.now) conn.old)) }
-{
-    write_with(conn, change, of_change, &[*event])
 }

@@ -1,30 +1,15 @@
 //! The table of what happened.
 
-ghost use Rattle.std.specs.Prelude.{◌≡◌, false, [], ◌∷◌, map, IsTrue, IfOk, OnOk, OnErr};
-ghost use Rattle.sqlite.specs.State.{HasCleanDisk, Survives, KeepsCommit, Executes, ExecutesInside, CommitsBy, CommitsShowing};
+ghost use Rattle.std.specs.Prelude.{◌≡◌, [], map, IsTrue, IfOk, OnOk};
+ghost use Rattle.sqlite.specs.State.{HasCleanDisk, Survives, KeepsCommit, ExecutesInside, CommitsShowing};
 ghost use Rattle.sqlite.specs.Held.{state};
 ghost use Rattle.mgs_tables.specs.Texts.{insert_event, select_newest};
 ghost use Rattle.mgs_tables.specs.Rows.{event_values};
-ghost use Rattle.mgs_tables.specs.Both.{Left, IsUndone};
-ghost use Rattle.mgs_tables.specs.Events.{RunAll, RanAll};
+ghost use Rattle.mgs_tables.specs.Events.{RunAll};
 ghost use Rattle.mgs_tables.specs.Reading.{ShowsNumber};
 
 use crate::rows::EventRow;
-use sqlite::{Alter, Connection, Error, ErrorCode, Transaction, params};
-
-/// Adds an event, which gets the next number, and says how many rows that are: one. By itself it is a transaction of its own, and in one
-/// that is open a part of it. It is refused where SQLite refuses or fails, and then nothing is changed.
-pub fn put_event<S: Alter>(conn: &mut Connection<S>, event: &EventRow<'_>) -> Result<usize, Error>
-    ensures runs { HasCleanDisk (state S.Store conn.new)
-        → Executes insert_event (event_values event.now) (state S.Store conn.old) (state S.Store conn.new) result }
-    ensures survives { Survives (state S.Store conn.old) (state S.Store conn.new)
-        (CommitsBy insert_event (event_values event.now) (state S.Store conn.old)) }
-{
-    conn.execute(
-        "INSERT INTO event (at, user, what, buffer, detail) VALUES (?1, ?2, ?3, ?4, ?5)",
-        params![event.at, event.user, event.what, event.buffer, event.detail],
-    )
-}
+use sqlite::{Alter, Connection, Error, Transaction, params};
 
 // Adds an event within a transaction, which alone commits it.
 fn put_event_within<S: Alter>(
@@ -59,29 +44,6 @@ pub(crate) fn put_all<S: Alter>(
     for event in events {
         put_event_within(tx, event)?;
     }
-    Ok(())
-}
-
-/// Adds the events in their order, all of them or none, in one transaction.
-///
-/// # Errors
-///
-/// `TransactionState` where a transaction is open, and what SQLite refuses or fails by. Nothing is changed then.
-pub fn put_events<S: Alter>(conn: &mut Connection<S>, events: &[EventRow<'_>]) -> Result<(), Error>
-    ensures all { HasCleanDisk (state S.Store conn.new)
-        → OnOk result (RanAll S.Store (map event_values events.now) conn.old (state S.Store conn.new).committed) }
-    ensures none { HasCleanDisk (state S.Store conn.new) → IsTrue (state S.Store conn.new).is_open
-        → OnErr result (IsUndone (state S.Store conn.old) (state S.Store conn.new)) }
-    ensures mode { (state S.Store conn.old).in_transaction ≡ false → (state S.Store conn.new).in_transaction ≡ false }
-    ensures crash { Survives (state S.Store conn.old) (state S.Store conn.new)
-        (Left (RanAll S.Store (map event_values events.now) conn.old)) }
-{
-    if !conn.is_autocommit() {
-        return Err(Error::SqliteFailure(ErrorCode::TransactionState));
-    }
-    let mut tx = conn.transaction();
-    put_all(&mut tx, events)?;
-    tx.commit()?;
     Ok(())
 }
 

@@ -7,17 +7,21 @@
 
 mod both;
 mod contents;
+mod copied_file;
 mod event_table;
+mod log_check;
 mod open_file;
-mod rights_changes;
+mod row_changes;
 mod rows;
 mod schema;
 mod text_table;
 
 pub use contents::{read_events, read_rights};
-pub use event_table::{newest, put_event, put_events};
+pub use copied_file::open_copy;
+pub use event_table::newest;
+pub use log_check::test_log;
 pub use open_file::{OpenFault, open, open_over, prepare};
-pub use rights_changes::{add_buffer, drop_buffer, set_buffer};
-pub use rows::{Event, EventRow, Fault, Rights, RightsRow, Text, TextRow};
-pub use schema::{grow, make, version};
+pub use row_changes::put_changes;
+pub use rows::{Event, EventRow, Fault, Rights, RightsRow, RowChange, Text, TextRow};
+pub use schema::{grow_to_2, grow_to_3, make, version};
 pub use text_table::{put_text, read_texts};

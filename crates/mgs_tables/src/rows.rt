@@ -15,12 +15,23 @@ pub struct RightsRow<'a> {
     pub entries: &'a str,
 }
 
+/// A change of one row of the table of buffers.
+#[derive(Clone, Copy, Debug)]
+pub enum RowChange<'a> {
+    /// Adds a buffer.
+    Add(RightsRow<'a>),
+    /// Gives the buffer of the name another owner, owning group and list.
+    Set(RightsRow<'a>),
+    /// Removes the buffer of this name, with its text.
+    Drop(&'a str),
+}
+
 /// What happened, each part as a text.
 #[derive(Clone, Copy, Debug)]
 pub struct EventRow<'a> {
     /// The time, in seconds since 1970.
     pub at: i64,
-    /// The name of the user whose doing it was.
+    /// The name of the user who did it. It is empty if nobody did.
     pub user: &'a str,
     /// What was done, in a word.
     pub what: &'a str,
@@ -85,7 +96,7 @@ pub struct Event {
     pub number: i64,
     /// The time, in seconds since 1970.
     pub at: i64,
-    /// The name of the user whose doing it was.
+    /// The name of the user who did it. It is empty if nobody did.
     pub user: String,
     /// What was done, in a word.
     pub what: String,

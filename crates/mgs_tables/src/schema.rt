@@ -5,7 +5,7 @@ ghost use Rattle.sqlite.specs.State.{HasCleanDisk, Survives, CommitsShowing};
 ghost use Rattle.sqlite.specs.Held.{state};
 ghost use Rattle.mgs_tables.specs.Texts.{select_version, count_objects, count_tables, table_texts};
 ghost use Rattle.mgs_tables.specs.Both.{Left, IsUndone};
-ghost use Rattle.mgs_tables.specs.Making.{HasRun, HasMade, HasGrown};
+ghost use Rattle.mgs_tables.specs.Making.{HasRun, HasMade, HasGrownTo2, HasGrownTo3};
 ghost use Rattle.mgs_tables.specs.Reading.{ShowsNumber};
 
 use sqlite::{Alter, Connection, Error, ErrorCode, params};
@@ -28,7 +28,7 @@ fn run_all<S: Alter>(conn: &mut Connection<S>, statements: &str) -> Result<(), E
     Ok(())
 }
 
-/// Makes the tables in a new file, and says there that they are of version 2, all in one transaction: no crash leaves a part of them.
+/// Makes the tables in a new file, and says there that they are of version 3, all in one transaction: no crash leaves a part of them.
 ///
 /// # Errors
 ///
@@ -47,7 +47,7 @@ pub fn make<S: Alter>(conn: &mut Connection<S>) -> Result<(), Error>
          CREATE TABLE buffer (id INTEGER PRIMARY KEY, name TEXT NOT NULL UNIQUE, owner TEXT NOT NULL, owning_group TEXT NOT NULL, entries TEXT NOT NULL) STRICT; \
          CREATE TABLE event (number INTEGER PRIMARY KEY, at INTEGER NOT NULL, user TEXT NOT NULL, what TEXT NOT NULL, buffer TEXT NOT NULL, detail TEXT NOT NULL) STRICT; \
          CREATE TABLE text (buffer INTEGER PRIMARY KEY REFERENCES buffer (id) ON DELETE CASCADE, modified INTEGER NOT NULL, file INTEGER NOT NULL, body TEXT NOT NULL) STRICT; \
-         INSERT INTO format (version) VALUES (2)",
+         INSERT INTO format (version) VALUES (3)",
     )
 }
 
@@ -57,17 +57,38 @@ pub fn make<S: Alter>(conn: &mut Connection<S>) -> Result<(), Error>
 /// # Errors
 ///
 /// As `make`.
-pub fn grow<S: Alter>(conn: &mut Connection<S>) -> Result<(), Error>
-    ensures grown { HasCleanDisk (state S.Store conn.new) → OnOk result (HasGrown S.Store conn.old (state S.Store conn.new).committed) }
+pub fn grow_to_2<S: Alter>(conn: &mut Connection<S>) -> Result<(), Error>
+    ensures grown { HasCleanDisk (state S.Store conn.new) → OnOk result (HasGrownTo2 S.Store conn.old (state S.Store conn.new).committed) }
     ensures none { HasCleanDisk (state S.Store conn.new) → IsTrue (state S.Store conn.new).is_open
         → OnErr result (IsUndone (state S.Store conn.old) (state S.Store conn.new)) }
     ensures mode { (state S.Store conn.old).in_transaction ≡ false → (state S.Store conn.new).in_transaction ≡ false }
-    ensures crash { Survives (state S.Store conn.old) (state S.Store conn.new) (Left (HasGrown S.Store conn.old)) }
+    ensures crash { Survives (state S.Store conn.old) (state S.Store conn.new) (Left (HasGrownTo2 S.Store conn.old)) }
 {
     run_all(
         conn,
         "CREATE TABLE text (buffer INTEGER PRIMARY KEY REFERENCES buffer (id) ON DELETE CASCADE, modified INTEGER NOT NULL, file INTEGER NOT NULL, body TEXT NOT NULL) STRICT; \
          UPDATE format SET version = 2",
+    )
+}
+
+/// Makes the tables of version 2 ones of version 3, in one transaction. Nobody is no user's name any more, and an event for each buffer
+/// tells what its rights are.
+///
+/// # Errors
+///
+/// As `make`.
+pub fn grow_to_3<S: Alter>(conn: &mut Connection<S>) -> Result<(), Error>
+    ensures grown { HasCleanDisk (state S.Store conn.new) → OnOk result (HasGrownTo3 S.Store conn.old (state S.Store conn.new).committed) }
+    ensures none { HasCleanDisk (state S.Store conn.new) → IsTrue (state S.Store conn.new).is_open
+        → OnErr result (IsUndone (state S.Store conn.old) (state S.Store conn.new)) }
+    ensures mode { (state S.Store conn.old).in_transaction ≡ false → (state S.Store conn.new).in_transaction ≡ false }
+    ensures crash { Survives (state S.Store conn.old) (state S.Store conn.new) (Left (HasGrownTo3 S.Store conn.old)) }
+{
+    run_all(
+        conn,
+        "UPDATE event SET user = '' WHERE user = '-'; \
+         INSERT INTO event (at, user, what, buffer, detail) SELECT coalesce((SELECT at FROM event ORDER BY number DESC LIMIT 1), 0), '', 'is', name, owner || ':' || owning_group || ' ' || CASE entries WHEN '' THEN '-' ELSE replace(replace(entries || '.', '\n.', ''), '\n', '; ') END FROM buffer ORDER BY id; \
+         UPDATE format SET version = 3",
     )
 }
 

@@ -1,5 +1,5 @@
 // Calls that say nothing, so that the proof of a test does not carry the state of each.
-use mgs_tables::{EventRow, Fault, OpenFault, RightsRow, Text, TextRow};
+use mgs_tables::{EventRow, Fault, OpenFault, RightsRow, RowChange, Text, TextRow};
 use sqlite::{Alter, Connection, Error};
 use std::alloc::Global;
 
@@ -50,7 +50,11 @@ pub(crate) fn add<S: Alter>(
     name: &str,
     entries: &str,
 ) -> Result<(), Fault> {
-    mgs_tables::add_buffer(conn, &rights(name, entries), &event("create", name))
+    mgs_tables::put_changes(
+        conn,
+        &[RowChange::Add(rights(name, entries))],
+        &[event("create", name)],
+    )
 }
 
 /// Gives a buffer other entries, and adds an event `list`.
@@ -59,12 +63,16 @@ pub(crate) fn set<S: Alter>(
     name: &str,
     entries: &str,
 ) -> Result<(), Fault> {
-    mgs_tables::set_buffer(conn, &rights(name, entries), &event("list", name))
+    mgs_tables::put_changes(
+        conn,
+        &[RowChange::Set(rights(name, entries))],
+        &[event("list", name)],
+    )
 }
 
 /// Takes a buffer out, and adds an event `kill`.
 pub(crate) fn drop_one<S: Alter>(conn: &mut Connection<S>, name: &str) -> Result<(), Fault> {
-    mgs_tables::drop_buffer(conn, name, &event("kill", name))
+    mgs_tables::put_changes(conn, &[RowChange::Drop(name)], &[event("kill", name)])
 }
 
 /// Keeps a text of a buffer, and adds an event `login` and an event `end`.
@@ -120,9 +128,55 @@ pub(crate) fn all_texts<S: Alter>(
     Ok(all)
 }
 
+/// Gives a buffer another owner, owning group and entries, and adds an event `list` and an event `owner`.
+pub(crate) fn set_both<S: Alter>(
+    conn: &mut Connection<S>,
+    name: &str,
+    owner: &str,
+    entries: &str,
+) -> Result<(), Fault> {
+    let row = RightsRow {
+        name,
+        owner,
+        owning_group: "",
+        entries,
+    };
+    mgs_tables::put_changes(
+        conn,
+        &[RowChange::Set(row)],
+        &[event("list", name), event("owner", name)],
+    )
+}
+
+/// Takes a buffer out and adds another one of its name, with an event of each.
+pub(crate) fn replace<S: Alter>(
+    conn: &mut Connection<S>,
+    name: &str,
+    entries: &str,
+) -> Result<(), Fault> {
+    mgs_tables::put_changes(
+        conn,
+        &[RowChange::Drop(name), RowChange::Add(rights(name, entries))],
+        &[event("kill", name), event("create", name)],
+    )
+}
+
+/// Adds a buffer and takes another one out, with an event.
+pub(crate) fn add_and_drop<S: Alter>(
+    conn: &mut Connection<S>,
+    added: &str,
+    dropped: &str,
+) -> Result<(), Fault> {
+    mgs_tables::put_changes(
+        conn,
+        &[RowChange::Add(rights(added, "a")), RowChange::Drop(dropped)],
+        &[event("create", added)],
+    )
+}
+
 /// Adds an event by itself.
-pub(crate) fn put<S: Alter>(conn: &mut Connection<S>, what: &str) -> Result<usize, Error> {
-    mgs_tables::put_event(conn, &event(what, ""))
+pub(crate) fn put<S: Alter>(conn: &mut Connection<S>, what: &str) -> Result<(), Fault> {
+    mgs_tables::put_changes(conn, &[], &[event(what, "")])
 }
 
 /// Adds two events at once.
@@ -130,8 +184,8 @@ pub(crate) fn put_two<S: Alter>(
     conn: &mut Connection<S>,
     first: &str,
     second: &str,
-) -> Result<(), Error> {
-    mgs_tables::put_events(conn, &[event(first, ""), event(second, "")])
+) -> Result<(), Fault> {
+    mgs_tables::put_changes(conn, &[], &[event(first, ""), event(second, "")])
 }
 
 /// The newest event's number.
@@ -178,6 +232,28 @@ pub(crate) fn page<S: Alter>(
             event.number,
             event.what.as_str(),
             event.buffer.as_str()
+        )?;
+        text.push_str(line.as_str())?;
+    }
+    Ok(text)
+}
+
+/// The events after this number: of each its time, who did it, what was done, the buffer and the detail, with bars between and a line feed
+/// after each.
+pub(crate) fn told<S: Alter>(
+    conn: &mut Connection<S>,
+    alloc: Global,
+    after: i64,
+) -> Result<String, Error> {
+    let mut text = String::new(alloc);
+    for event in mgs_tables::read_events(conn, alloc, after, 99)? {
+        let line = format!(in alloc;
+            "{}|{}|{}|{}|{}\n",
+            event.at,
+            event.user.as_str(),
+            event.what.as_str(),
+            event.buffer.as_str(),
+            event.detail.as_str()
         )?;
         text.push_str(line.as_str())?;
     }

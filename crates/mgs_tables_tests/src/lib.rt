@@ -6,6 +6,8 @@ mod calls;
 #[cfg(test)]
 mod crash;
 #[cfg(test)]
+mod log_check;
+#[cfg(test)]
 mod memory;
 #[cfg(test)]
 mod texts;

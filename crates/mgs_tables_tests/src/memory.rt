@@ -1,6 +1,6 @@
 // What each call changes and refuses, over memory.
 use crate::calls::{
-    add, all_rights, drop_one, make, newest, page, put, put_two, run, set, version,
+    add, add_and_drop, all_rights, drop_one, make, newest, page, put, put_two, run, set, version,
 };
 use mgs_tables::Fault;
 use sqlite::{Connection, Constraint, Error, ErrorCode, MemStore};
@@ -16,7 +16,7 @@ fn open(alloc: Global) -> Result<Connection<MemStore>, AllocError> {
 fn a_change_is_read_back_with_its_event(rt: HostRuntime) -> Result<(), Fail> {
     let mut conn = open(rt.alloc())?;
     make(&mut conn)?;
-    assert_eq!(rt; version(&mut conn)?, 2);
+    assert_eq!(rt; version(&mut conn)?, 3);
     add(&mut conn, "notes", "ALLOW user ann READ")?;
     set(&mut conn, "notes", "DENY user bob READ")?;
     assert_eq!(rt;
@@ -73,6 +73,20 @@ fn a_change_of_no_buffer_is_refused_and_not_told(rt: HostRuntime) -> Result<(), 
     Ok(())
 }
 
+// A buffer that is added before the change that is refused is not there.
+#[test]
+fn changes_are_made_all_or_none(rt: HostRuntime) -> Result<(), Fail> {
+    let mut conn = open(rt.alloc())?;
+    make(&mut conn)?;
+    assert_eq!(rt;
+        add_and_drop(&mut conn, "notes", "plan"),
+        Err(Fault::NoBuffer)
+    );
+    assert_eq!(rt; all_rights(&mut conn, rt.alloc())?.as_str(), "");
+    assert_eq!(rt; newest(&mut conn)?, 0);
+    Ok(())
+}
+
 #[test]
 fn nothing_is_changed_within_a_transaction_of_others(rt: HostRuntime) -> Result<(), Fail> {
     let mut conn = open(rt.alloc())?;
@@ -80,7 +94,10 @@ fn nothing_is_changed_within_a_transaction_of_others(rt: HostRuntime) -> Result<
     run(&mut conn, "BEGIN")?;
     let refused = Error::SqliteFailure(ErrorCode::TransactionState);
     assert_eq!(rt; add(&mut conn, "notes", "a"), Err(Fault::Sqlite(refused)));
-    assert_eq!(rt; put_two(&mut conn, "login", "end"), Err(refused));
+    assert_eq!(rt;
+        put_two(&mut conn, "login", "end"),
+        Err(Fault::Sqlite(refused))
+    );
     assert_eq!(rt; make(&mut conn), Err(refused));
     run(&mut conn, "COMMIT")?;
     assert_eq!(rt; newest(&mut conn)?, 0);

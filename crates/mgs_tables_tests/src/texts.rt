@@ -1,5 +1,5 @@
 // What is kept of texts, over memory.
-use crate::calls::{add, all_texts, drop_one, make, newest, page, put_text, run, texts};
+use crate::calls::{add, all_texts, drop_one, make, newest, page, put_text, replace, run, texts};
 use mgs_tables::{Fault, Text};
 use sqlite::{Connection, MemStore};
 use std::alloc::Global;
@@ -45,6 +45,16 @@ fn a_text_goes_with_its_buffer(rt: HostRuntime) -> Result<(), Fail> {
     add(&mut conn, "other", "c")?;
     assert_eq!(rt; all_texts(&mut conn, rt.alloc())?.as_str(), "1 0 first/-/");
     assert_eq!(rt; run(&mut conn, "DELETE FROM text")?, 1);
+    Ok(())
+}
+
+#[test]
+fn a_buffer_that_comes_in_the_place_of_another_has_no_text(rt: HostRuntime) -> Result<(), Fail> {
+    let mut conn = begin(rt.alloc())?;
+    put_text(&mut conn, "plan", 1, 0, "secret")?;
+    replace(&mut conn, "plan", "c")?;
+    assert_eq!(rt; all_texts(&mut conn, rt.alloc())?.as_str(), "-/-/");
+    assert_eq!(rt; run(&mut conn, "DELETE FROM text")?, 0);
     Ok(())
 }
 

@@ -9,7 +9,7 @@ abbrev pub invariant-loop-id : goal.invariant-loop-id
 invariant-loop-id g l = record {
   engine : l.engine ≡ record l.initial.engine { ended = l.engine.ended };
   users : noted_left l.users l.engine.ended ≡ noted_left l.initial.users l.initial.engine.ended;
-  kept : l.failed ≡ false → g.J.Journal.kept l.journal ≡ g.J.Journal.kept l.initial.journal;
+  kept : l.failed ≡ false → g.J.Journal.rows l.journal ≡ g.J.Journal.rows l.initial.journal;
   journal : (told : List Told) × (told ++ ends_told l.users l.engine.ended ≡ ends_told l.initial.users l.initial.engine.ended)
       × OrFails g.J.Journal.fails (WereTold g.J.Journal.does told) l.initial.failed l.initial.journal l.failed l.journal;
 }

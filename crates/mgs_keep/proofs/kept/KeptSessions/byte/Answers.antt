@@ -9,7 +9,7 @@ returns g c =
     let old = c.self.inside in
     let now = c.byte_told-keyed in
     let last = c.keep_saved in
-    subst (λ (s : Held g.row.J.Denot). Keeps g.J.Journal.kept g.J.Journal.does g.J.Journal.fails s (Byte c.args.id c.args.byte now.result.0) (held now.new.self old.users last.new.journal last.new.failed)) c.self.view_is
-    (keeps_byte g.J.Journal.kept g.J.Journal.does g.J.Journal.fails c.args.id c.args.byte now.result.0 old.engine now.new.self old.users old.journal c.keep.new.journal c.tell.new.journal last.new.journal
+    subst (λ (s : Held g.row.J.Denot). Keeps g.J.Journal.rows g.J.Journal.texts g.J.Journal.does g.J.Journal.fails s (Byte c.args.id c.args.byte now.result.0) (held now.new.self old.users last.new.journal last.new.failed)) c.self.view_is
+    (keeps_byte g.J.Journal.rows g.J.Journal.texts g.J.Journal.does g.J.Journal.fails c.args.id c.args.byte now.result.0 old.engine now.new.self old.users old.journal c.keep.new.journal c.tell.new.journal last.new.journal
     old.failed c.keep.new.failed c.tell.new.failed last.new.failed c.user-user.result c.said_to-told.result (now.ensures.handles, now.ensures.painted) c.user-user.ensures c.said_to-told.ensures
     c.keep.ensures.kept c.keep.ensures.journal c.tell.ensures.kept c.tell.ensures.journal last.ensures.kept last.ensures.journal)

@@ -4,8 +4,11 @@ use Rattle.mgs_ledger.proofs.ledger.Ledger.resume.Goals as goal
 pub returns : goal.returns
 returns g c = record {
   mid = c.read_values.new.conn;
-  new = c.read_snapshots.new.conn;
+  later = c.read_snapshots.new.conn;
+  last = c.read_taken.new.conn;
   rights = c.in_ok-rows.ensures;
   texts = c.in_ok-texts.ensures.read;
   count = search rules;
+  names = c.in_ok-taken.ensures;
+  newest = c.in_ok-log.ensures;
 }

@@ -1,0 +1,9 @@
+use Rattle.std.proofs.Common.{arith}
+use Rattle.sqlite.specs.State.{HasCleanDisk}
+use Rattle.sqlite.specs.Held.{state}
+use Rattle.mgs_tables.proofs.open_file.bring_from_2.Goals as goal
+
+pub returns-clause-tables : goal.returns-clause-tables
+returns-clause-tables g c clean =
+    let early : HasCleanDisk (state g.S.Store c.test_count.new.conn) = omega (arith, c.grow_to_3.ensures.crash.clean) in
+    record { mid = c.test_count.new.conn; tables = c.in_ok-test_count.ensures.tables early; grown = c.in_ok-grow_to_3.ensures.grown clean }

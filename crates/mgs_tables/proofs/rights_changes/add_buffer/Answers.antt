@@ -1,7 +1,0 @@
-use Rattle.mgs_tables.proofs.rights_changes.add_buffer.Goals as goal
-
-pub returns-clause-both : goal.returns-clause-both
-returns-clause-both g c = rw (c.params-to_sql.ensures, c.params-to_sql-2.ensures, c.params-to_sql-3.ensures, c.params-to_sql-4.ensures) at c.write_both.ensures.both
-
-pub returns-clause-crash : goal.returns-clause-crash
-returns-clause-crash g c = rw (c.params-to_sql.ensures, c.params-to_sql-2.ensures, c.params-to_sql-3.ensures, c.params-to_sql-4.ensures) at c.write_both.ensures.crash
