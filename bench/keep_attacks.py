@@ -1,0 +1,628 @@
+"""Attacks on the journal of mgd-keep, as rows of try_keep.py: buffers that are killed and made again, names that look like nobody, damaged
+and exchanged files, forged tables, links, audits beside a server that writes, and files that go while it serves.
+
+Each attack takes whether it is to be long, and a seed. A start or an audit refuses by name: status 1, one line, and no byte of the folder is
+changed, but that an empty log may get another head beside a file that is damaged. What is not refused shows all rights that screens had shown
+before."""
+import fcntl, os, random, re, shutil, socket, sqlite3, stat, struct, subprocess, threading, time
+
+import keep_desk
+from keep_desk import (DENY_BOB, DROP_FIRST, Desk, LISTING, NONE, NOTES, OWNERS_LIST, PATIENCE, ROWS, SECRET, Server, State,
+                       Watch, buffer, changed_files, command, config, create_detail, expect, fields, file_buffer, go_to, listed, miss, seal, see,
+                       serving, shows, type_in)
+
+BASE, LOG = "journal.sqlite3", "journal.sqlite3-wal"
+RIGHTS = ("create", "kill", "list", "owner", "group", "is")
+EVERYBODY = ["ALLOW EVERYONE@ rwatdcCo"]
+# How long a screen is waited for that may never come.
+SOON = 5
+# The seconds until a server sees that its files are not where they were, on a busy machine.
+NOTICED = 4
+F_SETPIPE_SZ = 1031
+
+
+def is_named(status, words):
+    """Whether that is a refusal: status 1, and a line that says of what."""
+    return status == 1 and re.fullmatch(r"[^\n]+: [^\n]+\n", words) is not None
+
+
+def audit_of(desk):
+    """Status, lines and standard error of an audit, or that it does not end."""
+    try:
+        return desk.audit()
+    except subprocess.TimeoutExpired:
+        return None, "", "it does not end"
+
+
+def rights_lines(text):
+    """The lines about rights of an audit."""
+    return [line for line in text.splitlines() if line.split("\t")[3] in RIGHTS]
+
+
+def state_after_start(desk):
+    """The state that screens show after a start, or status and standard error of one that is refused."""
+    server = Server(desk)
+    if server.port is None:
+        return server.ended()
+    bob, listing = server.join("bob"), server.join("ann")
+    type_in(bob, go_to("notes"))
+    type_in(listing, LISTING)
+    bob.read_until(lambda one: shows(one, SECRET) or shows(one, "[no read"), SOON)
+    see(listing, " page ", SOON)
+    rows = listed(listing)
+    state = State(shows(bob, "[no read") and not shows(bob, SECRET), rows.get("page"), [name for name in rows if name.startswith("made")])
+    server.kill()
+    for one in (bob, listing):
+        one.close()
+    return state
+
+
+def attack_folder(desk, contents, shown, told, left):
+    """Whether a start refuses this folder, and what is wrong: an audit or a start that neither refuses nor has all that was shown, an audit that
+    changes a file, or a refusal that changes one of those that are to be left."""
+    desk.restore(contents)
+    wrong = []
+    status, text, words = audit_of(desk)
+    lines = rights_lines(text)
+    if not is_named(status, words) and (status != 0 or words or lines[:len(told)] != list(told)):
+        wrong.append(("audit", status, words, len(lines), len(told)))
+    after = desk.contents()
+    if after != contents:
+        wrong.append(("the audit wrote", changed_files(contents, after)))
+    desk.restore(contents)
+    found = state_after_start(desk)
+    if isinstance(found, State):
+        return False, wrong + ([] if found == shown else [("shown", found)])
+    if not is_named(*found):
+        wrong.append(("start", found))
+    changed = changed_files(contents, desk.contents())
+    if any(name in changed for name in left):
+        wrong.append(("the refused start wrote", changed))
+    return True, wrong
+
+
+def expect_attacks(what, desk, states, told=(), left=(BASE, LOG)):
+    """A row for many damaged folders, each with words that say what was done. An audit that is not refused has the lines that were told, and a
+    start that is refused leaves these files."""
+    wrong, refusals, count = [], 0, 0
+    for words, contents in states:
+        is_refused, found = attack_folder(desk, contents, SHOWN, told, left)
+        refusals += is_refused
+        count += 1
+        wrong += [(words, *one) for one in found]
+    expect(f"{count} {what}: {refusals} were refused by name, and over {count - refusals} all that was shown held", count and not wrong,
+           (len(wrong), wrong[:4]))
+
+
+SHOWN = State(True, ("cat", "desk"), ["made2"])
+
+
+def wait_for_state(watch, is_seen):
+    end = time.time() + PATIENCE
+    while not is_seen(watch.state()) and time.time() < end:
+        for one in (watch.bob, watch.list):
+            one.read(quiet=0.01)
+
+
+def make_changes(desk, times):
+    """Changes rights, each seen on a screen, until they are those of SHOWN, and kills the server."""
+    watch = Watch(desk)
+
+    def does(keys, is_seen):
+        type_in(watch.ann, keys)
+        wait_for_state(watch, is_seen)
+
+    state = watch.state()
+    if state.denied:
+        does(go_to("notes") + DROP_FIRST, lambda seen: not seen.denied)
+    for _ in range(times):
+        does(go_to("notes") + DENY_BOB, lambda seen: seen.denied)
+        does(go_to("notes") + DROP_FIRST, lambda seen: not seen.denied)
+    does(go_to("notes") + DENY_BOB, lambda seen: seen.denied)
+    does(go_to("page") + command("set-group", "desk"), lambda seen: seen.page[1] == "desk")
+    does(go_to("page") + command("set-owner", "cat"), lambda seen: seen.page[0] == "cat")
+    does(go_to("made1") + go_to("made2"), lambda seen: len(seen.made) == 2)
+    does("\x18kmade1\r", lambda seen: len(seen.made) == 1)
+    state = watch.kill(0)
+    expect("the changes are shown", state == SHOWN, state)
+
+
+# --- Buffers made again, and names that look like nobody ---------------------------------------------------------------------------
+
+# How a buffer is made again: what is recorded before, and what is typed. While `secr` is there, the TAB stays at it.
+REMADE = [
+    ("in one event", "\x18(\x18ksecr\t\r" + go_to("secret") + "\x18)", "\x18e"),
+    ("in two events", "", "\x18ksecret\r" + go_to("secret")),
+]
+
+
+def try_remade(long, seed):
+    """A buffer that is killed and made again under its name is another one: bob, who may not read it, makes it again."""
+    for how, recorded, played in REMADE:
+        for place in ("last", "first"):
+            with Desk() as desk:
+                remake(desk, f"a buffer that is {place}, made again {how}", place == "last", recorded, played)
+
+
+def remake(desk, what, is_last, recorded, played):
+    path = desk.at("secret.txt")
+    with open(path, "w") as file:
+        file.write(SECRET + "\n")
+    secret = file_buffer("secret", ["ALLOW cat rwatdcCo", "ALLOW bob td"], path, "cat")
+    notes = buffer("notes", NOTES, text="Notes.")
+    desk.write(config(*([notes, secret] if is_last else [secret, notes])))
+    server = serving(desk)
+    cat, bob = server.join("cat"), server.join("bob")
+    type_in(cat, go_to("secret") + "unsaved ")
+    see(cat, "unsaved The door")
+    type_in(bob, go_to("secr") + go_to("notes") + recorded)
+    see(bob, "[no read" if recorded else "Notes.")
+    time.sleep(1.5)
+    bodies = [body for body, in desk.ask("SELECT body FROM text")]
+    expect(f"{what}: its text is in the journal before", any(SECRET in body for body in bodies), bodies)
+    type_in(bob, played)
+    is_there = lambda one: one.shows(ROWS - 1).startswith("----secret") and not shows(one, "[no read")
+    expect(f"{what}: bob has it", is_there(bob.read_until(is_there, PATIENCE)), bob.shows(ROWS - 1))
+    server.kill()
+    told = desk.events("--buffer", "secret")
+    wanted = [("bob", "kill", "secret", NONE), ("bob", "create", "secret", create_detail([OWNERS_LIST], "bob"))]
+    expect(f"{what}: its end and its beginning are told", told[-2:] == wanted, told[-3:])
+    bodies = [body for body, in desk.ask("SELECT body FROM text")]
+    expect(f"{what}: the killed text is in no row", not any("door" in body for body in bodies), bodies)
+    server = serving(desk)
+    bob = server.join("bob")
+    type_in(bob, go_to("secret"))
+    see(bob, "--secret")
+    expect(f"{what}: after a start its text is empty", not shows(bob, "door") and bob.shows(1) == "", bob.shows(1))
+    type_in(bob, "of bob\x18\x13")
+    see(bob, "of bob")
+    bob.read(1)
+    with open(path) as file:
+        text = file.read()
+    expect(f"{what}: and it has no file", text == SECRET + "\n", (text, bob.shows(ROWS)))
+    server.kill()
+
+
+def answer_to_login(server, line):
+    """What is answered to a login line."""
+    with socket.create_connection(("127.0.0.1", server.port), PATIENCE) as one:
+        one.sendall(line)
+        return one.recv(64)
+
+
+def try_dashes(long, seed):
+    """A user, a group and a buffer named `-` are like any other, and nobody is none of them."""
+    names = ("notes", "page", "plan", "gone")
+    buffers = [buffer("notes", NOTES, text="Notes.")] + [buffer(name, EVERYBODY, text=f"The {name} of CONFIG.") for name in names[1:]]
+    with Desk(config(*buffers, users=("ann", "bob", "cat", "-"), groups=("staff", "desk", "-"))) as desk:
+        server = serving(desk)
+        ann, bob, dash = (server.join(name) for name in ("ann", "bob", "-"))
+        answer_to_login(server, b"hello\n")
+        type_in(ann, go_to("page") + command("set-group", "-") + LISTING)
+        expect("a group - is set", see(ann, " page ann:-"), listed(ann))
+        type_in(bob, go_to("-") + "text of bob " + command("acl-insert", "ALLOW ann rt"))
+        see(bob, "text of bob")
+        type_in(dash, "\x18kplan\r" + go_to("plan") + "\x18kgone\r")
+        expect("a user - kills what CONFIG has", miss(ann, " gone "), listed(ann))
+        time.sleep(1.5)
+        server.kill()
+        events = desk.events()
+        expect("a user - is told by that name", desk.events("--user", "-") == [
+            ("-", "login", NONE, NONE), ("-", "kill", "plan", NONE), ("-", "create", "plan", create_detail([OWNERS_LIST], "-")), ("-", "kill", "gone", NONE),
+        ], desk.events("--user", "-"))
+        expect("a group - too", ("ann", "group", "page", " -> -") in events, [line for line in events if line[1] == "group"])
+        expect("a buffer - too", desk.events("--buffer", "-") == [
+            ("bob", "create", "-", create_detail([OWNERS_LIST], "bob")), ("bob", "list", "-", f"{OWNERS_LIST} -> {OWNERS_LIST}; ALLOW ann rt"),
+        ], desk.events("--buffer", "-"))
+        nobody = [line for line in events if line[0] == NONE]
+        begun = [(NONE, "create", "notes", create_detail(NOTES))] + [(NONE, "create", name, create_detail(EVERYBODY)) for name in names[1:]]
+        expect("nobody is an empty field", nobody == begun + [(NONE, "refused", NONE, "no login line")], nobody)
+        server = serving(desk)
+        ann, cat, dash = (server.join(name) for name in ("ann", "cat", "-"))
+        type_in(ann, LISTING)
+        see(ann, " page ")
+        rows = listed(ann)
+        expect("after a start what a user - killed is gone", "gone" not in rows and rows.get("plan", ("",))[0] != "ann", rows)
+        expect("the group - owns its buffer", rows.get("page") == ("ann", "-"), rows)
+        type_in(dash, go_to("plan"))
+        see(dash, "--plan")
+        expect("what a user - made has no text of CONFIG", not shows(dash, "of CONFIG"), dash.shows(1))
+        type_in(ann, go_to("-"))
+        expect("a buffer - has its text and its list", see(ann, "text of bob"), ann.shows(1))
+        type_in(cat, go_to("-"))
+        expect("which lets no other user in", see(cat, "Denied") and not shows(cat, "text of bob"), cat.shows(1))
+        type_in(ann, go_to("page") + command("set-group", "") + LISTING)
+        is_taken = lambda one: listed(one).get("page") == ("ann", "")
+        expect("a group - is taken away", is_taken(ann.read_until(is_taken, PATIENCE)), listed(ann))
+        server.kill()
+        told = [line for line in desk.events("--buffer", "page") if line[1] == "group"]
+        expect("and that is told", told[-1:] == [("ann", "group", "page", "- -> ")], told)
+
+
+# --- Damage ------------------------------------------------------------------------------------------------------------------------
+
+def flip_bit(data, at, bit):
+    return data[:at] + bytes([data[at] ^ (1 << bit)]) + data[at + 1:]
+
+
+def try_changed_bits(long, seed):
+    """A bit of the log is changed, at each of its first 200 bytes and at 300 others, or at some of them."""
+    chance = random.Random(seed)
+    with Desk() as desk:
+        make_changes(desk, 4)
+        whole = desk.contents()
+        log = whole[LOG]
+        told = rights_lines(desk.audit()[1])
+        # Behind what is written the log has zeros.
+        used = len(log.rstrip(b"\0"))
+        expect("the log has commits", used > 4096, (used, len(log)))
+        first = list(range(200)) if long else sorted(chance.sample(range(200), 20))
+        others = [chance.randrange(200, used) for _ in range(300 if long else 20)]
+        bits = [(at, chance.randrange(8)) for at in first + others]
+        states = (((at, bit), {**whole, LOG: flip_bit(log, at, bit)}) for at, bit in bits)
+        expect_attacks("logs with a changed bit", desk, states, told)
+        if long:
+            states = (((at, bit), {**whole, LOG: flip_bit(log, at, bit)}) for at in range(100) for bit in range(8))
+            expect_attacks("logs with a changed bit of their first 100 bytes, each in turn", desk, states, told)
+
+
+def try_torn_end(long, seed):
+    """The torn end of a crash, a part of a commit that no screen has shown, is passed over: garbage is none of that, and may be refused."""
+    chance = random.Random(seed)
+    with Desk() as desk:
+        make_changes(desk, 1)
+        before = desk.contents()
+        told = rights_lines(desk.audit()[1])
+        server = serving(desk)
+        server.kill()
+        empty = desk.contents()
+        watch = Watch(desk)
+        type_in(watch.ann, go_to("notes") + DROP_FIRST)
+        wait_for_state(watch, lambda seen: not seen.denied)
+        watch.kill(0)
+        more = desk.contents()
+        expect("a start leaves a short log", len(empty[LOG]) < 200 and len(more[LOG]) > len(empty[LOG]), (len(before[LOG]), len(empty[LOG]), len(more[LOG])))
+        used = len(before[LOG].rstrip(b"\0"))
+        zeros = [(count, {**before, LOG: before[LOG] + bytes(count)}) for count in (1, 7, 41, 512, 4096, 9000)]
+        zeros += [(-count, {**before, LOG: before[LOG][:used] + bytes(count)}) for count in (16, 512, 5000) if used + count <= len(before[LOG])]
+        expect_attacks("logs with more or fewer zeros behind their end", desk, zeros, told)
+        garbage = ((count, {**before, LOG: before[LOG] + chance.randbytes(count)}) for count in (1, 40, 3000, 9000))
+        expect_attacks("logs with garbage behind their end", desk, garbage, told)
+
+
+def pages_of(data):
+    size = struct.unpack(">H", data[16:18])[0]
+    size = 65536 if size == 1 else size
+    return [data[at:at + size] for at in range(0, len(data), size)]
+
+
+def files_after_start(desk):
+    """The files after a start that nobody logged in to, which has taken the log over; where it has not, SQLite does."""
+    serving(desk).kill()
+    if os.path.getsize(os.path.join(desk.folder, LOG)) > 4096:
+        desk.settle()
+    return desk.contents()
+
+
+def try_changed_pages(long, seed):
+    """Each page of the file zeroed, put back from an earlier copy, and exchanged with another. An earlier page passes its sum, so an audit may
+    lack lines that a later one had; rights are not lost."""
+    chance = random.Random(seed)
+    with Desk() as desk:
+        serving(desk).kill()
+        make_changes(desk, 12)
+        earlier = []
+        for times in (1, 12):
+            earlier.append(pages_of(files_after_start(desk)[BASE]))
+            change_again(desk, times)
+        make_changes(desk, 2)
+        whole = files_after_start(desk)
+        pages = pages_of(whole[BASE])
+
+        def with_pages(some):
+            return {**whole, BASE: b"".join(some.get(at, page) for at, page in enumerate(pages))}
+
+        zeroed = ((("page", at), with_pages({at: bytes(len(page))})) for at, page in enumerate(pages))
+        expect_attacks("files with a page of zeros", desk, zeroed, left=[BASE])
+        older = [(("page", at, number), with_pages({at: old[at]})) for number, old in enumerate(earlier) for at in range(min(len(old), len(pages)))
+                 if old[at] != pages[at]]
+        expect_attacks("files with a page of an earlier copy", desk, older, left=[BASE])
+        pairs = [(at, (at + 1 + chance.randrange(len(pages) - 1)) % len(pages)) for at in range(len(pages))]
+        if long:
+            pairs = [(one, two) for two in range(len(pages)) for one in range(two)]
+        exchanged = ((("pages", one, two), with_pages({one: pages[two], two: pages[one]})) for one, two in pairs)
+        expect_attacks("files with two pages exchanged", desk, exchanged, left=[BASE])
+
+
+def change_again(desk, times):
+    """Gives bob his access back and takes it again, and the page to others."""
+    watch = Watch(desk)
+    type_in(watch.ann, go_to("page") + command("set-owner", "bob") + command("set-group", "staff"))
+    wait_for_state(watch, lambda seen: seen.page == ("bob", "staff"))
+    for _ in range(times):
+        type_in(watch.ann, go_to("notes") + DROP_FIRST)
+        wait_for_state(watch, lambda seen: not seen.denied)
+        type_in(watch.ann, DENY_BOB)
+        wait_for_state(watch, lambda seen: seen.denied)
+    watch.kill(0)
+
+
+def try_taken_over(long, seed):
+    """Each start takes the log over into the file: the file alone has all that was told before. An audit takes nothing over."""
+    with Desk() as desk:
+        make_changes(desk, 2)
+        paths = [os.path.join(desk.folder, name) for name in ("", BASE, LOG)]
+        times = lambda: [os.lstat(path).st_mtime_ns for path in paths]
+        before = desk.contents(), times()
+        text = desk.audit()[1]
+        expect("an audit of what a kill left writes nothing", (desk.contents(), times()) == before, changed_files(before[0], desk.contents()))
+        serving(desk).kill()
+        whole = desk.contents()
+        expect("after a start the log is short", len(whole[LOG]) < 200, len(whole[LOG]))
+        desk.restore({BASE: whole[BASE]})
+        rows = desk.ask("SELECT user, what, buffer, detail FROM event ORDER BY number")
+        expect("and the file alone has all events", rows == [fields(line) for line in text.splitlines()], rows[:2])
+
+
+def try_missing_files(long, seed):
+    """A file that is missing beside its log, or empty there, is refused, and no new journal begins."""
+    with Desk() as desk:
+        make_changes(desk, 1)
+        whole = desk.contents()
+        for what, contents in [("missing", {LOG: whole[LOG]}), ("empty", {BASE: b"", LOG: whole[LOG]})]:
+            for asked in ("an audit", "a start"):
+                desk.restore(contents)
+                got = audit_of(desk) if asked == "an audit" else state_after_start(desk)
+                is_refused = not isinstance(got, State) and is_named(got[0], got[-1])
+                expect(f"a file that is {what} beside its log is refused by {asked}", is_refused, got)
+                expect("and the log is left", desk.contents() == contents, changed_files(contents, desk.contents()))
+
+
+NOTES_ROW = "(SELECT id FROM buffer WHERE name = 'notes')"
+FORGED = [
+    ("an owner", "UPDATE buffer SET owner = 'bob' WHERE name = 'page'"),
+    ("an owning group", "UPDATE buffer SET owning_group = 'staff' WHERE name = 'page'"),
+    ("an owning group that is none", "UPDATE buffer SET owning_group = '' WHERE name = 'page'"),
+    ("a list", "UPDATE buffer SET entries = replace(entries, 'DENY', 'ALLOW') WHERE name = 'notes'"),
+    ("a list that is shorter", "UPDATE buffer SET entries = substr(entries, instr(entries, char(10)) + 1) WHERE name = 'notes'"),
+    ("a name", "UPDATE buffer SET name = 'other' WHERE name = 'made2'"),
+    ("a buffer more", "INSERT INTO buffer (name, owner, owning_group, entries) SELECT 'more', owner, '', entries FROM buffer WHERE name = 'page'"),
+    ("a buffer less", f"DELETE FROM text WHERE buffer = {NOTES_ROW}; DELETE FROM buffer WHERE name = 'notes'"),
+    ("the order of two", f"UPDATE text SET buffer = 1000 WHERE buffer = {NOTES_ROW}; UPDATE buffer SET id = 1000 WHERE name = 'notes'"),
+    ("an event less", "DELETE FROM event WHERE number = (SELECT max(number) FROM event WHERE what = 'list')"),
+    ("an event's words", "UPDATE event SET detail = replace(detail, 'DENY', 'ALLOW') WHERE number = (SELECT max(number) FROM event WHERE what = 'list')"),
+    ("an event more", "INSERT INTO event (at, user, what, buffer, detail) VALUES (0, 'ann', 'kill', 'notes', '')"),
+]
+
+
+def try_forged_tables(long, seed):
+    """Tables that differ from what the events say are refused, with page sums that are made again."""
+    with Desk() as desk:
+        make_changes(desk, 1)
+        whole = files_after_start(desk)
+        for what, sql in FORGED:
+            desk.restore({BASE: whole[BASE]})
+            base = sqlite3.connect(desk.base)
+            counts = [base.execute(one).rowcount for one in sql.split(";")]
+            base.commit()
+            base.execute("PRAGMA wal_checkpoint(TRUNCATE)").fetchall()
+            base.close()
+            seal(desk.base)
+            contents = {**whole, **desk.contents()}
+            desk.restore(contents)
+            got = audit_of(desk)
+            is_refused = is_named(got[0], got[2]) and desk.contents() == contents
+            expect(f"forged, {what}: an audit refuses", counts[-1] == 1 and is_refused, (counts, got[0], got[2]))
+            desk.restore(contents)
+            got = state_after_start(desk)
+            is_refused = not isinstance(got, State) and is_named(*got) and desk.contents() == contents
+            expect(f"forged, {what}: a start refuses", is_refused, (got, changed_files(contents, desk.contents())))
+
+
+def kind_of(path):
+    """What stands at a path: its kind, and the bytes or the path that it has."""
+    mode = os.lstat(path).st_mode
+    if stat.S_ISLNK(mode):
+        return "link", os.readlink(path)
+    if not stat.S_ISREG(mode):
+        return stat.S_IFMT(mode), None
+    with open(path, "rb") as file:
+        return "file", file.read()
+
+
+def try_other_kinds(long, seed):
+    """A link, a pipe or a folder in the place of a file is refused, and nothing is written through it."""
+    def put_link(desk, path):
+        os.rename(path, desk.at("moved"))
+        os.symlink(desk.at("moved"), path)
+
+    def put_dangling_link(desk, path):
+        os.remove(path)
+        os.symlink(desk.at("moved"), path)
+
+    def put_pipe(desk, path):
+        os.remove(path)
+        os.mkfifo(path, 0o600)
+
+    def put_folder(desk, path):
+        os.remove(path)
+        os.mkdir(path, 0o700)
+
+    for what, put in [("a link to the file", put_link), ("a link to nothing", put_dangling_link), ("a pipe", put_pipe), ("a folder", put_folder)]:
+        for name in (BASE, LOG):
+            for asked in ("an audit", "a start"):
+                with Desk() as desk:
+                    make_changes(desk, 0)
+                    put(desk, os.path.join(desk.folder, name))
+                    paths = [os.path.join(desk.folder, each) for each in (BASE, LOG)] + [desk.at("moved")]
+                    before = {path: kind_of(path) for path in paths if os.path.lexists(path)}
+                    got = audit_of(desk) if asked == "an audit" else refusal_of(desk)
+                    after = {path: kind_of(path) for path in paths if os.path.lexists(path)}
+                    expect(f"{what} in the place of {name} is refused by {asked}", is_named(got[0], got[-1]), got)
+                    expect("and nothing is written", after == before, [os.path.basename(path) for path in paths if after.get(path) != before.get(path)])
+
+
+def refusal_of(desk):
+    """Status and standard error of a start that is to be refused; one that serves is killed."""
+    server = Server(desk)
+    if server.port is None:
+        return server.ended(SOON)
+    server.kill()
+    return "serves", server.told()
+
+
+# --- Audits beside a server --------------------------------------------------------------------------------------------------------
+
+class Changes(threading.Thread):
+    """Somebody who changes the list of the notes fifty times a second, while another types into a long text."""
+
+    def __init__(self, server):
+        super().__init__(daemon=True)
+        self.ann, self.bob = server.join("ann"), server.join("bob")
+        type_in(self.bob, go_to("long") + "words and more words\r" * 50 + "\x18h\x1bw\x15200\x19")
+        self.is_over = threading.Event()
+
+    def run(self):
+        number = 0
+        while not self.is_over.wait(0.02):
+            type_in(self.ann, DROP_FIRST if number % 2 else DENY_BOB)
+            if number % 10 == 0:
+                type_in(self.bob, "x")
+            number += 1
+            for one in (self.ann, self.bob):
+                take_all(one)
+
+
+def take_all(one):
+    """Takes what has come, and paints nothing of it."""
+    one.socket.setblocking(False)
+    try:
+        while one.socket.recv(1 << 20):
+            pass
+    except OSError:
+        pass
+    one.socket.settimeout(PATIENCE)
+
+
+def try_audits_beside(long, seed):
+    """Audits beside a server that commits fifty changes a second, each whole up to its last line."""
+    count = 300 if long else 30
+    with Desk() as desk:
+        server = serving(desk)
+        changes = Changes(server)
+        changes.start()
+        time.sleep(1)
+        wrong, texts, seconds = [], [], []
+        for number in range(count):
+            before = server.lines()
+            begun = time.time()
+            status, text, words = audit_of(desk)
+            seconds.append(time.time() - begun)
+            lines = text.splitlines()
+            numbers = [int(line.split("\t")[1]) for line in lines]
+            if status != 0 or words or numbers != list(range(1, len(lines) + 1)) or not text.endswith("\n"):
+                wrong.append((number, status, words, len(lines)))
+            elif lines[:len(before)] != before:
+                wrong.append((number, "lines that were printed before are not there", len(before), len(lines)))
+            texts.append(lines)
+        names = sorted(os.listdir(desk.folder))
+        is_there = server.process.poll() is None
+        changes.is_over.set()
+        changes.join()
+        time.sleep(1.5)
+        printed = server.lines()
+        server.kill()
+        wrong += [(number, "a line is another than was printed") for number, lines in enumerate(texts) if printed[:len(lines)] != lines]
+        rate = (len(texts[-1]) - len(texts[0])) / max(sum(seconds), 0.001)
+        expect(f"{count} audits beside a server are whole, over {len(printed)} events", not wrong, (len(wrong), wrong[:4]))
+        expect("events came between them", len(texts[-1]) > len(texts[0]), (len(texts[0]), len(texts[-1])))
+        expect("the server goes on, and no file is made", is_there and names == [BASE, LOG], (server.told(), names))
+        seconds.sort()
+        print(f"      {rate:.0f} events a second; an audit took {1000 * seconds[len(seconds) // 2]:.0f} ms, at most {1000 * seconds[-1]:.0f}")
+
+
+def try_reader_stops(long, seed):
+    """An audit ends with 0 if its reader stops reading."""
+    with Desk() as desk:
+        server = serving(desk)
+        cat = server.join("cat")
+        for _ in range(4):
+            type_in(cat, go_to("page") + "x" * 100)
+            see(cat, "Denied")
+            time.sleep(0.5)
+        time.sleep(1.2)
+        server.kill()
+        whole = desk.audit()[1]
+        words = [keep_desk.program, "audit", desk.folder]
+        for taken in (0, 1):
+            out, into = os.pipe()
+            fcntl.fcntl(into, F_SETPIPE_SZ, 4096)
+            if not taken:
+                os.close(out)
+            done = subprocess.Popen(words, stdout=into, stderr=subprocess.PIPE, text=True)
+            os.close(into)
+            if taken:
+                line = os.read(out, 100)
+                os.close(out)
+                expect("head has a line", len(whole) > 10_000 and whole.encode().startswith(line), (len(whole), line))
+            told = done.stderr.read()
+            got = done.wait(PATIENCE), told
+            expect("an audit whose reader " + ("stops" if taken else "is not there") + " ends with 0", got == (0, ""), got)
+            done.stderr.close()
+
+
+# --- Files that go while it serves -------------------------------------------------------------------------------------------------
+
+def remove_file(desk):
+    os.remove(desk.base)
+
+
+def remove_log(desk):
+    os.remove(os.path.join(desk.folder, LOG))
+
+
+def move_folder(desk):
+    os.rename(desk.folder, desk.at("moved"))
+
+
+def replace_folder(desk):
+    move_folder(desk)
+    os.mkdir(desk.folder, 0o700)
+
+
+def copy_folder(desk):
+    move_folder(desk)
+    shutil.copytree(desk.at("moved"), desk.folder)
+
+
+def copy_file(desk):
+    shutil.copy(desk.base, desk.at("copy"))
+    os.rename(desk.at("copy"), desk.base)
+
+
+GONE = [("the file is removed", remove_file), ("the log is removed", remove_log), ("the folder is moved", move_folder),
+        ("the folder is moved, and an empty one is there", replace_folder), ("the folder is moved, and a copy is there", copy_folder),
+        ("a copy takes the place of the file", copy_file)]
+
+
+def try_gone(long, seed):
+    """Files that are removed or moved while it serves: `journal failed`, and status 4."""
+    for what, act in GONE:
+        with Desk() as desk:
+            server = serving(desk)
+            ann, bob = server.join("ann"), server.join("bob")
+            type_in(ann, DENY_BOB)
+            see(bob, "[no read")
+            begun = time.time()
+            act(desk)
+            got = server.ended(NOTICED)
+            expect(f"{what}: it ends with 4 within {NOTICED} seconds", got == (4, "journal failed\n"), (got, round(time.time() - begun, 1)))
+            bob.read_until(lambda one: one.ended, 1)
+            if os.path.isdir(desk.at("moved")):
+                desk.folder = desk.at("moved")
+                state = state_after_start(desk)
+                expect(f"{what}: where it is now, all that was shown holds", isinstance(state, State) and state.denied, state)
+
+
+ATTACKS = [try_remade, try_dashes, try_taken_over, try_missing_files, try_forged_tables, try_other_kinds, try_audits_beside, try_reader_stops, try_gone,
+           try_torn_end, try_changed_bits, try_changed_pages]
