@@ -1,8 +1,9 @@
 // A journal of tests: what it is told is written down in words, and after so many calls it fails.
-ghost use Rattle.std.specs.Prelude.{◌≡◌, ◌<◌, ◌∷◌, ◌++◌, [], IfSome, None, OnOk, length, remove};
+ghost use Rattle.std.specs.Prelude.{◌≡◌, ◌<◌, ◌∷◌, ◌++◌, [], IfSome, None, OnOk, length, position, remove};
 ghost use Rattle.mgs_journal.specs.Changes.{row_changed, rows_changed, text_changed, texts_changed};
 ghost use Rattle.mgs_journal.specs.Kept.{place_of};
 ghost use Rattle.mgs_journal.specs.Rows.{rules_in_rows};
+ghost use Rattle.mgs_ledger.specs.Keeping.{is_row_of};
 
 use mgs_acl::List;
 use mgs_buffers::Rights;
@@ -167,11 +168,19 @@ fn cause_of(cause: Refusal) -> &'static str {
 }
 
 // The place of the first row of this name.
+fn row_place(rows: &[Row], name: &Name) -> Option<usize>
+    ensures value { result ≡ position (is_row_of name.now) rows.now }
+    ensures within { IfSome result (λ i. i < length rows.now) }
+{
+    rows.iter().position(|row| *name == row.name)
+}
+
+// The place of the first of this name.
 fn first_of(rows: &[Row], name: &Name) -> Option<usize>
     ensures value { result ≡ place_of name.now (rules_in_rows rows.now) }
     ensures within { IfSome result (λ i. i < length rows.now) }
 {
-    rows.iter().position(|row| *name == row.name)
+    row_place(rows, name)
 }
 
 // The page of a text, lent.
@@ -250,6 +259,29 @@ fn make(
     }
 }
 
+// Makes these changes, one after another; more than two are too many for the tests.
+fn make_all(
+    rows: &mut Vec<Row>,
+    texts: &mut Vec<Option<Page>>,
+    words: &mut String,
+    left: &mut usize,
+    user: Option<&Name>,
+    changes: &[Change<'_>],
+) -> Result<(), JournalFault>
+    ensures rows { OnOk result (rows.new.items ≡ rows_changed changes.now rows.old.items) }
+    ensures texts { OnOk result (texts.new.items ≡ texts_changed changes.now texts.old.items) }
+{
+    match changes {
+        [] => Ok(()),
+        [one] => make(rows, texts, words, left, user, one),
+        [one, two] => {
+            make(rows, texts, words, left, user, one)?;
+            make(rows, texts, words, left, user, two)
+        }
+        _ => Err(JournalFault),
+    }
+}
+
 impl Journal for Book {
     ghost rows = { λ b. b.rows.items };
 
@@ -302,17 +334,14 @@ impl Journal for Book {
     }
 
     fn change(&mut self, user: Option<Name>, changes: &[Change<'_>]) -> Result<(), JournalFault> {
-        for change in changes {
-            make(
-                &mut self.rows,
-                &mut self.texts,
-                &mut self.words,
-                &mut self.left,
-                user.as_ref(),
-                change,
-            )?;
-        }
-        Ok(())
+        make_all(
+            &mut self.rows,
+            &mut self.texts,
+            &mut self.words,
+            &mut self.left,
+            user.as_ref(),
+            changes,
+        )
     }
 
     fn forget(&mut self, name: &Name) -> Result<(), JournalFault> {

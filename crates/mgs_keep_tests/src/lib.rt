@@ -11,8 +11,6 @@ mod keeping;
 #[cfg(test)]
 mod office;
 #[cfg(test)]
-mod real_tables;
-#[cfg(test)]
 mod room;
 #[cfg(test)]
 mod starting;
