@@ -120,7 +120,7 @@ pub enum Notice {
     MacroTooLong,
 }
 
-/// The text of each notice, in the code and in `specs/Messages.antt`.
+/// The text of each notice. `specs/Messages.antt` spells them as well, and a lemma proves the two equal.
 pub const NOTICES: &[(Notice, &[u8])] = &[
     (Notice::Silent, b""),
     (Notice::KeyNotBound, b"Key not bound"),
