@@ -1,12 +1,12 @@
 -- Where buffers are saved.
-use Rattle.std.specs.Prelude.{◌≡◌, ℕ, List, All, Option, Some, None, ⊤, string_bytes}
+use Rattle.std.specs.Prelude.{◌≡◌, ℕ, List, All, Option, Some, None, Result, ⊤, string_bytes}
 use Rattle.std.specs.Option.{option_map, option_and_then}
 use Rattle.std.specs.List.{find}
 use Rattle.std.specs.Path.{path_buf_bytes}
 use Rattle.std.specs.declared.path.PathBuf.{PathBuf}
 use Rattle.mgs_model.specs.Names.{same_name}
 use Rattle.mgs_config.specs.declared.config.BufferFile.{BufferFile}
-use Rattle.mgs_written.specs.Steps.{Step, told, saved, IsUnsaved}
+use Rattle.mgs_written.specs.Steps.{Step, told, saved, failed_after, IsUnsaved}
 use Rattle.mgs_disk.specs.declared.save_places.Place.{Place}
 
 -- the name of a buffer, and the path of its file
@@ -41,3 +41,8 @@ IsSavedAt (Some path) bytes old new = new ≡ told (saved path bytes) old
 abbrev pub IsKeptAt : Option (List ℕ) → List ℕ → Option (List Step) → Option (List Step) → Type 0
 IsKeptAt None bytes old new = new ≡ old
 IsKeptAt (Some path) bytes old new = IsUnsaved path bytes old new
+
+-- how many steps failed so far, after a save in the file at a path: one more if the save failed, and none where there is no file
+abbrev pub failed_at : {V E : Type 0} → Option (List ℕ) → Result V E → ℕ → ℕ
+failed_at None result failed = failed
+failed_at (Some path) result failed = failed_after result failed

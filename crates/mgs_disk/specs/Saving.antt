@@ -20,3 +20,7 @@ file_of name store = saved_at name (places_in store)
 -- the steps that were done on its disk, where they are told
 abbrev pub steps_of : {D : Type 0} → (D → Option (List Step)) → FileStore D → Option (List Step)
 steps_of done store = done store.disk
+
+-- how many steps failed there
+abbrev pub failures_of : {D : Type 0} → (D → ℕ) → FileStore D → ℕ
+failures_of failed store = failed store.disk

@@ -1,5 +1,6 @@
 // How the disk finds files, and puts new ones in their places.
-ghost use Rattle.std.specs.Prelude.{◌<◌, ◌↔◌, IsTrue};
+ghost use Rattle.std.specs.Prelude.{◌≡◌, ◌<◌, ◌↔◌, IsTrue};
+ghost use Rattle.mgs_written.specs.Steps.{failed_after};
 
 use crate::attributes::{Gives, give_group, give_mode, give_owner, may_be_replaced};
 use crate::folder::{create_beside, sync_names};
@@ -53,6 +54,7 @@ pub struct DiskFiles<'a, R: fs::Files> {
     beside: String,
     new: Option<R::File>,
     old: Option<Metadata>,
+    failed: u64,
 }
 
 impl<'a, R: fs::Files + AllocGlobal> DiskFiles<'a, R> {
@@ -63,6 +65,7 @@ impl<'a, R: fs::Files + AllocGlobal> DiskFiles<'a, R> {
             beside: String::with_capacity(rt.alloc(), PATH_ROOM)?,
             new: None,
             old: None,
+            failed: 0,
         })
     }
 }
@@ -86,15 +89,25 @@ fn none_made() -> io::Error {
     io::Error::from(ErrorKind::NotFound)
 }
 
-impl<'a, R: fs::Files + RandomSource> Replaces for DiskFiles<'a, R>
+// Counts a step, if it failed.
+fn count(failed: &mut u64, step: io::Result<()>) -> io::Result<()>
+    ensures same { result ≡ step }
+    ensures counted { failed.new ≡ failed_after step failed.old }
+{
+    if step.is_err() {
+        *failed = failed.saturating_add(1);
+    }
+    step
+}
+
+impl<'a, R: fs::Files + RandomSource> DiskFiles<'a, R>
 where
     R::File: Gives,
 {
-    ghost use Rattle.std.specs.Prelude.{None};
-
-    ghost done = { λ files. None };
-
-    fn create(&mut self, path: Path<'_>, len: usize) -> io::Result<()> {
+    // Makes an empty file beside the one at a path, for so many bytes.
+    fn make(&mut self, path: Path<'_>, len: usize) -> io::Result<()>
+        ensures { self.exit.now.failed ≡ self.entry.now.failed }
+    {
         self.old = file_at(self.rt, path)?;
         if is_past_limit(len as u64) {
             return Err(io::Error::from(ErrorKind::FileTooLarge));
@@ -103,11 +116,37 @@ where
         Ok(())
     }
 
+    // Puts the new file in the place of the one at a path.
+    fn put(&mut self, path: Path<'_>) -> io::Result<()>
+        ensures { self.exit.now.failed ≡ self.entry.now.failed }
+    {
+        fs::rename(self.rt, self.beside.as_str(), path)?;
+        self.new = None;
+        Ok(())
+    }
+}
+
+impl<'a, R: fs::Files + RandomSource> Replaces for DiskFiles<'a, R>
+where
+    R::File: Gives,
+{
+    ghost use Rattle.std.specs.Prelude.{None};
+
+    ghost done = { λ files. None };
+
+    ghost failed = { λ files. files.failed };
+
+    fn create(&mut self, path: Path<'_>, len: usize) -> io::Result<()> {
+        let made = self.make(path, len);
+        count(&mut self.failed, made)
+    }
+
     fn write(&mut self, room: &mut String, text: &[char]) -> io::Result<()> {
-        match &mut self.new {
+        let written = match &mut self.new {
             Some(new) => write_text(new, room, text),
             None => Err(none_made()),
-        }
+        };
+        count(&mut self.failed, written)
     }
 
     fn give_group(&mut self) {
@@ -115,10 +154,11 @@ where
     }
 
     fn give_mode(&mut self) -> io::Result<()> {
-        match &self.new {
+        let given = match &self.new {
             Some(new) => give_mode(new, self.old.as_ref()),
             None => Err(none_made()),
-        }
+        };
+        count(&mut self.failed, given)
     }
 
     fn give_owner(&mut self) {
@@ -126,16 +166,16 @@ where
     }
 
     fn sync(&mut self) -> io::Result<()> {
-        match &self.new {
+        let synced = match &self.new {
             Some(new) => new.sync_all(),
             None => Err(none_made()),
-        }
+        };
+        count(&mut self.failed, synced)
     }
 
     fn rename(&mut self, path: Path<'_>) -> io::Result<()> {
-        fs::rename(self.rt, self.beside.as_str(), path)?;
-        self.new = None;
-        Ok(())
+        let renamed = self.put(path);
+        count(&mut self.failed, renamed)
     }
 
     fn sync_folder(&mut self, folder: Path<'_>) {

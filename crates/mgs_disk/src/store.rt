@@ -3,8 +3,8 @@ ghost use Rattle.std.specs.Prelude.{◌≡◌, ◌≤◌, IfOk, OnOk, OnErr, str
 ghost use Rattle.std.specs.Str.{encode_utf8_all};
 ghost use Rattle.mgs_config.specs.World.{paths_of};
 ghost use Rattle.mgs_store.specs.Stores.{IsCounted};
-ghost use Rattle.mgs_disk.specs.Places.{AreFound, IsKeptAt, IsSavedAt, saved_at};
-ghost use Rattle.mgs_disk.specs.Saving.{places_in, rows_in, steps_of, file_of};
+ghost use Rattle.mgs_disk.specs.Places.{AreFound, IsKeptAt, IsSavedAt, failed_at, saved_at};
+ghost use Rattle.mgs_disk.specs.Saving.{places_in, rows_in, steps_of, failures_of, file_of};
 
 use crate::file_store::FileStore;
 use crate::save_places::{Finds, Place, path_of, places_of};
@@ -28,6 +28,7 @@ fn save_in_file<D: Replaces>(
     ensures room { string_capacity room.old ≤ string_capacity room.new }
     ensures ok { OnOk result (IsSavedAt (saved_at name.now places.now) (encode_utf8_all text.now) (D.done disk.old) (D.done disk.new)) }
     ensures err { OnErr result (IsKeptAt (saved_at name.now places.now) (encode_utf8_all text.now) (D.done disk.old) (D.done disk.new)) }
+    ensures failed { D.failed disk.new ≡ failed_at (saved_at name.now places.now) result (D.failed disk.old) }
 {
     let Some(path) = path_of(places, name) else {
         return Err(StoreFault);
@@ -46,6 +47,7 @@ impl<D: Finds + Replaces + Drop> FileStore<D> {
         ensures named { IfOk result (λ store. rows_in store ≡ paths_of files.items) }
         ensures found { IfOk result (λ store. AreFound (D.leads disk) (places_in store)) }
         ensures none { IfOk result (λ store. steps_of D.done store ≡ D.done disk) }
+        ensures unfailed { IfOk result (λ store. failures_of D.failed store ≡ D.failed disk) }
     {
         let places = places_of(&disk, alloc, files)?;
         let room = String::with_capacity(alloc, ROOM)?;
@@ -62,21 +64,22 @@ impl<D: Finds + Replaces + Drop> Store for FileStore<D> {
     ghost use Rattle.std.specs.Prelude.{◌≡◌, [], None, OnOk, OnErr};
     ghost use Rattle.std.specs.Str.{encode_utf8_all};
     ghost use Rattle.mgs_store.specs.Stores.{IsCounted, saved_of, told_more};
-    ghost use Rattle.mgs_disk.specs.Places.{IsKeptAt, IsSavedAt};
-    ghost use Rattle.mgs_disk.specs.Saving.{places_in, steps_of, file_of};
+    ghost use Rattle.mgs_disk.specs.Places.{IsKeptAt, IsSavedAt, failed_at};
+    ghost use Rattle.mgs_disk.specs.Saving.{places_in, steps_of, failures_of, file_of};
 
     ghost failed = { λ store. store.faults };
 
     ghost accepted = { λ store. None };
 
-    /// Saves the text of a buffer in its file. `StoreFault`: it has none, or a step failed; then the old text stands there, no new file
-    /// is left, and the fault is counted.
+    /// Saves the text of a buffer in its file. `StoreFault` exactly if it has none, or one step failed; then the old text stands there, no
+    /// new file is left, and the fault is counted.
     fn save(&mut self, name: &str, text: &[char]) -> Result<(), StoreFault>
         ensures ok { OnOk result (None ≡ told_more (saved_of name.now text.now) None) }
         ensures err { OnErr result (None ≡ told_more [] None) }
         ensures counted { OnErr result (IsCounted self.old.faults self.new.faults) }
         ensures saved { OnOk result (IsSavedAt (file_of name.now self.old) (encode_utf8_all text.now) (steps_of D.done self.old) (steps_of D.done self.new)) }
         ensures kept { OnErr result (IsKeptAt (file_of name.now self.old) (encode_utf8_all text.now) (steps_of D.done self.old) (steps_of D.done self.new)) }
+        ensures failed { failures_of D.failed self.new ≡ failed_at (file_of name.now self.old) result (failures_of D.failed self.old) }
         ensures same { places_in self.new ≡ places_in self.old }
     {
         let saved = save_in_file(&mut self.disk, &self.places, &mut self.room, name, text);

@@ -1,4 +1,7 @@
 // A disk of tests, which tells its steps and fails at one of them.
+ghost use Rattle.std.specs.Prelude.{◌≡◌, ◌+◌, ◌-◌, ◌^◌, min};
+ghost use Rattle.mgs_written.specs.Steps.{failed_after};
+
 use mgs_disk::Finds;
 use mgs_written::Replaces;
 use std::alloc::{AllocError, Global};
@@ -12,12 +15,18 @@ pub(crate) struct StandIn<'a> {
     alloc: Global,
     told: &'a RefCell<String>,
     left: usize,
+    failed: u64,
 }
 
 impl<'a> StandIn<'a> {
     /// A disk whose steps are told here.
     pub(crate) fn new(alloc: Global, told: &'a RefCell<String>, left: usize) -> StandIn<'a> {
-        StandIn { alloc, told, left }
+        StandIn {
+            alloc,
+            told,
+            left,
+            failed: 0,
+        }
     }
 
     // Tells a step, and what it is about.
@@ -29,15 +38,34 @@ impl<'a> StandIn<'a> {
         }
     }
 
-    // A step that may fail: then it is not told.
-    fn try_step(&mut self, step: &str, about: &str) -> io::Result<()> {
+    // Counts a step that failed.
+    fn count_failure(&mut self)
+        ensures { self.new.failed ≡ min (self.old.failed + 1) (2 ^ 64 - 1) }
+    {
+        self.failed = self.failed.saturating_add(1);
+    }
+
+    // A step that may fail: then it is not told, and is counted.
+    fn try_step(&mut self, step: &str, about: &str) -> io::Result<()>
+        ensures { self.new.failed ≡ failed_after result self.old.failed }
+    {
         if self.left == 0 {
+            self.count_failure();
             return Err(io::Error::from(ErrorKind::PermissionDenied));
         }
         self.left -= 1;
         self.tell(step, about);
         Ok(())
     }
+}
+
+// A text of these characters.
+fn spell(alloc: Global, text: &[char]) -> io::Result<String> {
+    let mut spelled = String::new(alloc);
+    for c in text {
+        spelled.push(*c)?;
+    }
+    Ok(spelled)
 }
 
 impl<'a> Finds for StandIn<'a> {
@@ -55,16 +83,20 @@ impl<'a> Replaces for StandIn<'a> {
 
     ghost done = { λ disk. None };
 
+    ghost failed = { λ disk. disk.failed };
+
     fn create(&mut self, path: Path<'_>, _len: usize) -> io::Result<()> {
         self.try_step("create ", path.as_str())
     }
 
     fn write(&mut self, _room: &mut String, text: &[char]) -> io::Result<()> {
-        let mut written = String::new(self.alloc);
-        for c in text {
-            written.push(*c)?;
+        match spell(self.alloc, text) {
+            Ok(written) => self.try_step("write ", written.as_str()),
+            Err(error) => {
+                self.count_failure();
+                Err(error)
+            }
         }
-        self.try_step("write ", written.as_str())
     }
 
     fn give_group(&mut self) {

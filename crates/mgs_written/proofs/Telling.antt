@@ -71,19 +71,26 @@ pub folder_none : {A : Type 0} (to : A → List ℕ) (found : Option A) (parent 
     → k1 ≡ k0 → k1 ≡ told (folder_synced parent) k0
 folder_none to found parent k0 k1 is none p = p ∙ sym (told_nothing k0) ∙ ap (λ f. told (folder_synced f) k0) (sym (ap (option_map to) none) ∙ is)
 
-pub saved_so : (path bytes : List ℕ) (k0 k1 k2 k3 : Option (List Step)) → k1 ≡ told (Created path ∷ []) k0 → k2 ≡ told (placed path bytes) k1
-    → k3 ≡ told (folder_synced (path_parent path)) k2 → k3 ≡ told (saved path bytes) k0
-saved_so path bytes k0 k1 k2 k3 p q r =
-    told_more k0 k2 k3 (put path bytes) (folder_synced (path_parent path)) (told_more k0 k1 k2 (Created path ∷ []) (placed path bytes) p q) r
+-- the new file was begun for all bytes
+begun_for : (path bytes : List ℕ) (size : ℕ) (k0 k1 : Option (List Step)) → size ≡ length bytes → k1 ≡ told (Created path size ∷ []) k0 → k1 ≡ told (Created path (length bytes) ∷ []) k0
+begun_for path bytes size k0 k1 all p = p ∙ ap (λ n. told (Created path n ∷ []) k0) all
+
+pub saved_so : (path bytes : List ℕ) (size : ℕ) (k0 k1 k2 k3 : Option (List Step)) → size ≡ length bytes → k1 ≡ told (Created path size ∷ []) k0
+    → k2 ≡ told (placed path bytes) k1 → k3 ≡ told (folder_synced (path_parent path)) k2 → k3 ≡ told (saved path bytes) k0
+saved_so path bytes size k0 k1 k2 k3 all p q r =
+    let begun = begun_for path bytes size k0 k1 all p in
+    told_more k0 k2 k3 (put path bytes) (folder_synced (path_parent path)) (told_more k0 k1 k2 (Created path (length bytes) ∷ []) (placed path bytes) begun q) r
 
 pub unsaved_none : (path bytes : List ℕ) (k0 k1 : Option (List Step)) → k1 ≡ k0 → IsUnsaved path bytes k0 k1
 unsaved_none path bytes k0 k1 same = record { count = 0; few = omega arith; done = same ∙ sym (told_nothing k0) }
 
-pub unsaved_part : (path bytes : List ℕ) (k0 k1 k2 k3 : Option (List Step)) → k1 ≡ told (Created path ∷ []) k0 → IsPart (placed path bytes) k1 k2
-    → k3 ≡ told (Discarded ∷ []) k2 → IsUnsaved path bytes k0 k3
-unsaved_part path bytes k0 k1 k2 k3 p part r =
-    let begun = take part.count (placed path bytes) in record {
+pub unsaved_part : (path bytes : List ℕ) (size : ℕ) (k0 k1 k2 k3 : Option (List Step)) → size ≡ length bytes → k1 ≡ told (Created path size ∷ []) k0
+    → IsPart (placed path bytes) k1 k2 → k3 ≡ told (Discarded ∷ []) k2 → IsUnsaved path bytes k0 k3
+unsaved_part path bytes size k0 k1 k2 k3 all p part r =
+    let first = Created path (length bytes) in
+    let done = take part.count (placed path bytes) in
+    let begun = begun_for path bytes size k0 k1 all p in record {
       count = suc part.count;
       few = let n = part.few in omega (arith, n);
-      done = told_more k0 k2 k3 (Created path ∷ begun) (Discarded ∷ []) (told_more k0 k1 k2 (Created path ∷ []) begun p part.done) r;
+      done = told_more k0 k2 k3 (first ∷ done) (Discarded ∷ []) (told_more k0 k1 k2 (first ∷ []) done begun part.done) r;
     }

@@ -1,12 +1,12 @@
 -- The steps of a save.
-use Rattle.std.specs.Prelude.{◌≡◌, ◌<◌, ℕ, List, [], ◌∷◌, ◌++◌, length, take, Option, None, Some}
+use Rattle.std.specs.Prelude.{◌≡◌, ◌<◌, ◌+◌, ◌-◌, ◌^◌, min, ℕ, List, [], ◌∷◌, ◌++◌, length, take, Option, None, Some, Result, Ok, Err}
 use Rattle.std.specs.Option.{option_map}
 use Rattle.std.specs.Path.{path_parent}
 
--- a new file beside the one at a path, its bytes, its group, mode and owner, that the disk has it, that it stands at the path, that
--- the disk has the names of a folder, and that the new file was removed
+-- a new file beside the one at a path, for so many bytes, its bytes, its group, mode and owner, that the disk has it, that it stands at
+-- the path, that the disk has the names of a folder, and that the new file was removed
 pub data Step : Type 0 where
-  Created : (path : List ℕ) → Step
+  Created : (path : List ℕ) → (size : ℕ) → Step
   Wrote : (bytes : List ℕ) → Step
   Grouped : Step
   Moded : Step
@@ -20,6 +20,11 @@ pub data Step : Type 0 where
 abbrev pub told : List Step → Option (List Step) → Option (List Step)
 told more done = option_map (λ steps. steps ++ more) done
 
+-- how many steps failed so far, after one that may fail: one more if it failed, up to the last u64
+abbrev pub failed_after : {V E : Type 0} → Result V E → ℕ → ℕ
+failed_after (Ok value) failed = failed
+failed_after (Err error) failed = min (failed + 1) (2 ^ 64 - 1)
+
 -- a new file has these bytes, and the disk has them
 abbrev pub filled : List ℕ → List Step
 filled bytes = Wrote bytes ∷ Grouped ∷ Moded ∷ Owned ∷ Synced ∷ []
@@ -29,7 +34,7 @@ abbrev pub placed : List ℕ → List ℕ → List Step
 placed path bytes = filled bytes ++ Renamed path ∷ []
 
 abbrev pub put : List ℕ → List ℕ → List Step
-put path bytes = Created path ∷ placed path bytes
+put path bytes = Created path (length bytes) ∷ placed path bytes
 
 -- the disk has the names of the folder, where there is one
 abbrev pub folder_synced : Option (List ℕ) → List Step
