@@ -5,7 +5,7 @@ use Rattle.toml.specs.Data.{Data}
 use Rattle.mgs_model.specs.Access.{Directory}
 use Rattle.mgs_config.specs.Faults.{first_fault, user_of, user_refused, names_of, group_of, group_refused}
 use Rattle.mgs_config.specs.Buffers.{name_of, path_of}
-use Rattle.mgs_config.specs.Files.{Tells, table_refused, IsBufferFault}
+use Rattle.mgs_config.specs.Files.{Tells, Gives, table_refused, IsBufferFault}
 use Rattle.mgs_config.specs.Document.{is_configuration, rows_at}
 use Rattle.mgs_config.specs.declared.config.BufferFile.{BufferFile}
 use Rattle.mgs_config.specs.declared.config_fault.TableFault.{TableFault}
@@ -64,11 +64,11 @@ abbrev pub buffers_fault : Tells → Data → Option (ℕ × TableFault)
 buffers_fault tells d = first_fault (table_refused tells (directory_in d)) [] (buffer_rows d)
 
 -- the fault that is due before the buffers, or else the first of theirs
-abbrev pub IsLaterFault : Option ConfigFault → Tells → Data → ConfigFault → Type 0
-IsLaterFault (Some due) tells d e = due ≡ e
-IsLaterFault None tells d e = (e.table ≡ Buffer) × IsBufferFault tells (directory_in d) (buffer_rows d) (e.index, e.fault)
+abbrev pub IsLaterFault : Option ConfigFault → Tells → Gives → Data → ConfigFault → Type 0
+IsLaterFault (Some due) tells gives d e = due ≡ e
+IsLaterFault None tells gives d e = (e.table ≡ Buffer) × IsBufferFault tells gives (directory_in d) (buffer_rows d) (e.index, e.fault)
 
 -- why a document, or what is none, is refused
-abbrev pub IsConfigFault : Option Data → Tells → ConfigFault → Type 0
-IsConfigFault None tells e = e ≡ fault_of Top (0, Toml)
-IsConfigFault (Some d) tells e = IsLaterFault (people_refused d) tells d e
+abbrev pub IsConfigFault : Option Data → Tells → Gives → ConfigFault → Type 0
+IsConfigFault None tells gives e = e ≡ fault_of Top (0, Toml)
+IsConfigFault (Some d) tells gives e = IsLaterFault (people_refused d) tells gives d e

@@ -3,7 +3,7 @@ ghost use Rattle.std.specs.Prelude.{◌≡◌, ◌≢◌, [], ◌∷◌, ◌++�
 ghost use Rattle.toml.specs.View.{view};
 ghost use Rattle.mgs_config.specs.Document.{document_in, rows_at};
 ghost use Rattle.mgs_buffers.specs.MarkedBuffer.{AreUnmarked};
-ghost use Rattle.mgs_config.specs.Files.{AreBuffers, IsCounted};
+ghost use Rattle.mgs_config.specs.Files.{AreBuffers, GivesNoMore, IsCounted};
 ghost use Rattle.mgs_config.specs.World.{fault_of, users_in, directory_in, people_refused, buffer_rows, files_in, paths_in, paths_of};
 ghost use Rattle.mgs_config.specs.World.{buffers_fault, IsLaterFault, IsConfigFault};
 ghost use Rattle.mgs_config.specs.declared.config_fault.TableFault.TheVariants.{Short};
@@ -129,12 +129,13 @@ fn configure<F: Files>(
     ensures none { OnOk result (buffers_fault (F.tells files.old) (view document.now) ≡ None) }
     ensures directory { IfOk result (λ c. c.directory ≡ directory_in (view document.now)) }
     ensures tickets { IfOk result (λ c. c.tickets ≡ users_in (view document.now)) }
-    ensures buffers { IfOk result (λ c. AreBuffers (F.tells files.old) (buffer_rows (view document.now)) c.buffers) }
+    ensures buffers { IfOk result (λ c. AreBuffers (F.tells files.old) (F.gives files.old) (buffer_rows (view document.now)) c.buffers) }
     ensures unmarked { IfOk result (λ c. AreUnmarked c.buffers) }
     ensures files { IfOk result (λ c. paths_of c.files.items ≡ files_in (view document.now)) }
-    ensures err { IfErr result (λ e. e.fault ≢ Short → IsLaterFault (people_refused (view document.now)) (F.tells files.old) (view document.now) e) }
+    ensures err { IfErr result (λ e. e.fault ≢ Short → IsLaterFault (people_refused (view document.now)) (F.tells files.old) (F.gives files.old) (view document.now) e) }
     ensures short { IfErr result (λ e. e.fault ≡ Short → e ≡ fault_of Top (0, Short)) }
     ensures same { F.tells files.new ≡ F.tells files.old }
+    ensures kept { GivesNoMore (F.gives files.new) (F.gives files.old) }
     ensures read { OnOk result (F.count files.new ≡ F.count files.old) }
     ensures count { IfErr result (λ e. IsCounted e.fault (F.count files.old) (F.count files.new)) }
 {
@@ -175,12 +176,13 @@ pub fn read_config<F: Files>(
     ensures none { OnOk result (IfSome (document_in text.now) (λ d. buffers_fault (F.tells files.old) d ≡ None)) }
     ensures directory { IfOk result (λ c. Some c.directory ≡ option_map directory_in (document_in text.now)) }
     ensures tickets { IfOk result (λ c. Some c.tickets ≡ option_map users_in (document_in text.now)) }
-    ensures buffers { IfOk result (λ c. IfSome (document_in text.now) (λ d. AreBuffers (F.tells files.old) (buffer_rows d) c.buffers)) }
+    ensures buffers { IfOk result (λ c. IfSome (document_in text.now) (λ d. AreBuffers (F.tells files.old) (F.gives files.old) (buffer_rows d) c.buffers)) }
     ensures unmarked { IfOk result (λ c. AreUnmarked c.buffers) }
     ensures files { IfOk result (λ c. Some (paths_of c.files.items) ≡ option_map files_in (document_in text.now)) }
-    ensures err { IfErr result (λ e. e.fault ≢ Short → IsConfigFault (document_in text.now) (F.tells files.old) e) }
+    ensures err { IfErr result (λ e. e.fault ≢ Short → IsConfigFault (document_in text.now) (F.tells files.old) (F.gives files.old) e) }
     ensures short { IfErr result (λ e. e.fault ≡ Short → e ≡ fault_of Top (0, Short)) }
     ensures same { F.tells files.new ≡ F.tells files.old }
+    ensures kept { GivesNoMore (F.gives files.new) (F.gives files.old) }
     ensures read { OnOk result (F.count files.new ≡ F.count files.old) }
     ensures count { IfErr result (λ e. IsCounted e.fault (F.count files.old) (F.count files.new)) }
 {

@@ -4,7 +4,7 @@ ghost use Rattle.toml.specs.View.{view};
 ghost use Rattle.mgs_buffers.specs.MarkedBuffer.{AreUnmarked};
 ghost use Rattle.mgs_config.specs.Buffers.{listed, path_of, has_file, refused_beside};
 ghost use Rattle.mgs_config.specs.Faults.{first_fault};
-ghost use Rattle.mgs_config.specs.Files.{IsTold, told_fault, file_fault, table_refused, IsFileFault, IsFaultAt, IsTextOf, IsCounted, buffer_of};
+ghost use Rattle.mgs_config.specs.Files.{told_fault, file_fault, table_refused, GivesNoMore, IsPathFault, IsFaultAt, IsTextAt, IsTextOf, IsCounted, buffer_of};
 ghost use Rattle.mgs_config.specs.Files.{IsAdded, AreBuffers, IsRowFault, IsBufferFault};
 ghost use Rattle.mgs_config.specs.declared.config_fault.TableFault.TheVariants.{Short};
 
@@ -21,10 +21,11 @@ use toml::Value;
 
 // The text of the file at a path, where a server keeps it.
 fn file_text<F: Files>(files: &mut F, path: &str) -> Result<Vec<char>, TableFault>
-    ensures text { IfOk result (λ text. IsTold (F.tells files.old path.now) (Some text.items)) }
+    ensures text { IfOk result (λ text. IsTextAt (F.tells files.old) (F.gives files.old) path.now text.items) }
     ensures none { OnOk result (told_fault (F.tells files.old path.now) ≡ None) }
-    ensures err { IfErr result (λ f. f ≢ Short → IsFileFault (F.tells files.old path.now) f) }
+    ensures err { IfErr result (λ f. f ≢ Short → IsPathFault (F.tells files.old) (F.gives files.old) path.now f) }
     ensures same { F.tells files.new ≡ F.tells files.old }
+    ensures kept { GivesNoMore (F.gives files.new) (F.gives files.old) }
     ensures read { OnOk result (F.count files.new ≡ F.count files.old) }
     ensures count { IfErr result (λ f. IsCounted f (F.count files.old) (F.count files.new)) }
 {
@@ -41,10 +42,11 @@ fn file_text<F: Files>(files: &mut F, path: &str) -> Result<Vec<char>, TableFaul
 
 // The text of a table: that of its file, where it has one.
 fn row_text<F: Files>(alloc: Global, files: &mut F, row: &Value) -> Result<Vec<char>, TableFault>
-    ensures text { IfOk result (λ text. IsTextOf (F.tells files.old) (view row.now) text.items) }
+    ensures text { IfOk result (λ text. IsTextOf (F.tells files.old) (F.gives files.old) (view row.now) text.items) }
     ensures none { OnOk result (file_fault (F.tells files.old) (path_of (view row.now)) ≡ None) }
-    ensures err { IfErr result (λ f. f ≢ Short → IsFaultAt (F.tells files.old) (path_of (view row.now)) f) }
+    ensures err { IfErr result (λ f. f ≢ Short → IsFaultAt (F.tells files.old) (F.gives files.old) (path_of (view row.now)) f) }
     ensures same { F.tells files.new ≡ F.tells files.old }
+    ensures kept { GivesNoMore (F.gives files.new) (F.gives files.old) }
     ensures read { OnOk result (F.count files.new ≡ F.count files.old) }
     ensures count { IfErr result (λ f. IsCounted f (F.count files.old) (F.count files.new)) }
 {
@@ -91,10 +93,11 @@ fn add_buffer<F: Files>(
 ) -> Result<(), TableFault>
     ensures due { OnOk result (refused_beside buffers.old directory.now (view row.now) ≡ None) }
     ensures none { OnOk result (file_fault (F.tells files.old) (path_of (view row.now)) ≡ None) }
-    ensures added { OnOk result (IsAdded (F.tells files.old) (view row.now) buffers.old buffers.new) }
+    ensures added { OnOk result (IsAdded (F.tells files.old) (F.gives files.old) (view row.now) buffers.old buffers.new) }
     ensures unmarked { AreUnmarked buffers.old → AreUnmarked buffers.new }
-    ensures err { IfErr result (λ f. f ≢ Short → IsRowFault (F.tells files.old) buffers.old directory.now (view row.now) f) }
+    ensures err { IfErr result (λ f. f ≢ Short → IsRowFault (F.tells files.old) (F.gives files.old) buffers.old directory.now (view row.now) f) }
     ensures same { F.tells files.new ≡ F.tells files.old }
+    ensures kept { GivesNoMore (F.gives files.new) (F.gives files.old) }
     ensures read { OnOk result (F.count files.new ≡ F.count files.old) }
     ensures count { IfErr result (λ f. IsCounted f (F.count files.old) (F.count files.new)) }
 {
@@ -116,10 +119,11 @@ pub(crate) fn read_buffers<F: Files>(
     rows: &[Value],
 ) -> Result<Buffers<GapText>, (usize, TableFault)>
     ensures none { OnOk result (first_fault (table_refused (F.tells files.old) directory.now) [] (map view rows.now) ≡ None) }
-    ensures buffers { IfOk result (λ buffers. AreBuffers (F.tells files.old) (map view rows.now) buffers) }
+    ensures buffers { IfOk result (λ buffers. AreBuffers (F.tells files.old) (F.gives files.old) (map view rows.now) buffers) }
     ensures unmarked { IfOk result (λ buffers. AreUnmarked buffers) }
-    ensures err { IfErr result (λ f. f.1 ≢ Short → IsBufferFault (F.tells files.old) directory.now (map view rows.now) f) }
+    ensures err { IfErr result (λ f. f.1 ≢ Short → IsBufferFault (F.tells files.old) (F.gives files.old) directory.now (map view rows.now) f) }
     ensures same { F.tells files.new ≡ F.tells files.old }
+    ensures kept { GivesNoMore (F.gives files.new) (F.gives files.old) }
     ensures read { OnOk result (F.count files.new ≡ F.count files.old) }
     ensures count { IfErr result (λ f. IsCounted f.1 (F.count files.old) (F.count files.new)) }
 {

@@ -1,6 +1,6 @@
 // The files that a configuration names.
 ghost use Rattle.std.specs.Prelude.{◌≡◌, ◌≤◌, ℕ, List, Option, None, Some, IfOk, IsErrOf, OnOk};
-ghost use Rattle.mgs_config.specs.Files.{IsTold, HasRisen};
+ghost use Rattle.mgs_config.specs.Files.{IsTold, HasRisen, GivesNoMore};
 ghost use Rattle.mgs_config.specs.declared.named_files.FilesFault.TheVariants.{Unreadable};
 
 use thiserror::Error;
@@ -22,6 +22,9 @@ pub trait Files {
     /// program nothing is known.
     ghost tells: { Self → List ℕ → Option (Option (List ℕ)) };
 
+    /// What the file at a path may give as its text, if it can be read. By default anything.
+    ghost gives: { Self → List ℕ → List ℕ → Type 0 } = { λ files path text. Unit {0} };
+
     /// The count of faults.
     ghost count: { Self → ℕ };
 
@@ -31,8 +34,10 @@ pub trait Files {
     /// file whose text is known is never `Unreadable`, and one of which is known that it cannot be read is never read.
     fn read(&mut self, path: &str) -> Result<Vec<char>, FilesFault>
         ensures text { IfOk result (λ text. IsTold (tells self.old path.now) (Some text.items)) }
+        ensures given { IfOk result (λ text. gives self.old path.now text.items) }
         ensures unreadable { IsErrOf result Unreadable → IsTold (tells self.old path.now) None }
         ensures same { tells self.new ≡ tells self.old }
+        ensures kept { GivesNoMore (gives self.new) (gives self.old) }
         ensures ok { OnOk result (count self.new ≡ count self.old) }
         ensures count { count self.old ≤ count self.new }
         ensures fault { IsErrOf result Unreadable → HasRisen (count self.old) (count self.new) };
