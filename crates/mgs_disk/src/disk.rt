@@ -1,8 +1,10 @@
 // The files that a configuration names.
-ghost use Rattle.std.specs.Prelude.{◌≡◌, ◌<◌, ◌≤◌, ◌+◌, ◌*◌, length, false, IsSome, IfSome, IfOk, IsErrOf};
+ghost use Rattle.std.specs.Prelude.{◌≡◌, ◌≢◌, ◌<◌, ◌≤◌, ◌+◌, ◌*◌, length, false, IsSome, IfSome, IfOk, IsErrOf};
+ghost use Rattle.std.specs.IoError.{error_kind};
 ghost use Rattle.std.specs.Str.{chars, IsUtf8};
-ghost use Rattle.mgs_config.specs.declared.named_files.FilesFault.TheVariants.{Unreadable};
-ghost use Rattle.mgs_disk.specs.Reading.{IsTextIn};
+ghost use Rattle.std.specs.declared.io.ErrorKind.TheVariants.{OutOfMemory};
+ghost use Rattle.mgs_config.specs.declared.named_files.FilesFault.TheVariants.{Short, Unreadable};
+ghost use Rattle.mgs_disk.specs.Reading.{GivesText, IsTextIn};
 
 use mgs_config::{Files, FilesFault};
 use mgs_model::TEXT_LIMIT;
@@ -55,7 +57,10 @@ fn text_of(alloc: Global, bytes: &[u8]) -> Result<Vec<char>, FilesFault>
 }
 
 // Why nothing was read.
-pub(crate) fn fault_of(error: io::Error) -> FilesFault {
+pub(crate) fn cause_of(error: io::Error) -> FilesFault
+    ensures short { error_kind error ≡ OutOfMemory → result ≡ Short }
+    ensures other { error_kind error ≢ OutOfMemory → result ≡ Unreadable }
+{
     match error.kind() {
         ErrorKind::OutOfMemory => FilesFault::Short,
         _ => FilesFault::Unreadable,
@@ -64,11 +69,11 @@ pub(crate) fn fault_of(error: io::Error) -> FilesFault {
 
 // The characters of the file at a path: all of them, or more than a text may have.
 fn read_text<O: Opens>(opens: &O, alloc: Global, path: &str) -> Result<Vec<char>, FilesFault>
-    ensures { IfOk result (λ text. IfSome (O.holds opens.now path.now) (λ bytes. IsTextIn bytes text.items)) }
+    ensures { IfOk result (λ text. GivesText (O.holds opens.now) path.now text.items) }
 {
     match read_start_at(opens, alloc, path, READ_LIMIT as u64) {
         Ok(bytes) => text_of(alloc, &bytes),
-        Err(error) => Err(fault_of(error)),
+        Err(error) => Err(cause_of(error)),
     }
 }
 
@@ -83,7 +88,8 @@ pub struct Disk<'a, O> {
 impl<'a, O: Opens> Disk<'a, O> {
     /// These files, without a fault so far.
     pub fn new(alloc: Global, opens: &'a O) -> Disk<'a, O>
-        ensures { ⟦<Disk<'a, O> as Files>⟧.count result ≡ 0 }
+        ensures count { ⟦<Disk<'a, O> as Files>⟧.count result ≡ 0 }
+        ensures over { result.opens.now ≡ opens.now }
     {
         Disk {
             opens,
@@ -95,8 +101,11 @@ impl<'a, O: Opens> Disk<'a, O> {
 
 impl<'a, O: Opens> Files for Disk<'a, O> {
     ghost use Rattle.std.specs.Prelude.{None};
+    ghost use Rattle.mgs_disk.specs.Reading.{GivesText};
 
     ghost tells = { λ disk path. None };
+
+    ghost gives = { λ disk. GivesText (O.holds disk.opens.now) };
 
     ghost count = { λ disk. disk.faults };
 
