@@ -155,15 +155,23 @@ pub record Due : Type 0 where
   pub key : ℕ
 
 module _ {E S : Type 0} (does : E → Call → E → Type 0) (live : ℕ → E → Bool) (pending : ℕ → E → List ℕ) (answers : S → List ℕ → Result ℕ Error → S → Type 0) where
-  -- what waits for a connection is written, as far as its stream takes it; where its session is not open nothing waits
-  pub record WritesConn (conn : Connection) (old : E) (next : Connection) (new : E) : Type 0 where
+  -- what waits for a connection is written to a stream, as far as that takes it; where its session is not open nothing waits
+  pub record WritesTo (conn : Connection) (old : E) (before : S) (next : Connection) (new : E) (after : S) : Type 0 where
     pub mid : Connection
     pub reading : is_reading live conn old ≡ true → mid ≡ conn
     pub stopped : is_reading live conn old ≡ false → mid ≡ stopped conn
     pub answer : PumpedOut
+    pub put : PutsOut does pending answers answer mid old before next new after
+
+  -- to its own stream, to which nothing else is written
+  abbrev pub WritesPeer : Peer S → E → Peer S → E → Type 0
+  WritesPeer peer old next new = WritesTo peer.conn old peer.stream next.conn new next.stream
+
+  -- so of a connection whose stream is not told
+  pub record WritesConn (conn : Connection) (old : E) (next : Connection) (new : E) : Type 0 where
     pub before : S
     pub after : S
-    pub put : PutsOut does pending answers answer mid old before next new after
+    pub written : WritesTo conn old before next new after
 
   -- so the connection under a key, if there is one; it may be over then
   abbrev pub WritesOpen : Option Connection → ℕ → Bool → ServerState E → ServerState E → Type 0

@@ -3,7 +3,7 @@ ghost use Rattle.std.specs.Prelude.{◌≡◌, ◌<◌, ℕ, [], true, false, Li
 ghost use Rattle.mgs_wire.specs.Connections.{Breaks, Logging_in, is_logging_in, is_over, is_reading};
 ghost use Rattle.mgs_wire.specs.Pumps.{Finishes};
 ghost use Rattle.mgs_server.specs.declared.peer.TheConstants.{BYTES_AT_ONCE};
-ghost use Rattle.mgs_server.specs.Peers.{IsUnread, ReadsPeer, Stepped, WritesConn, is_closing, is_conn_of, is_taking};
+ghost use Rattle.mgs_server.specs.Peers.{IsUnread, ReadsPeer, Stepped, WritesPeer, is_closing, is_conn_of, is_taking};
 
 use crate::accept::both_ways;
 use mgs_model::{SessionId, Short, Tickets};
@@ -37,7 +37,7 @@ pub(crate) struct Peer<S: Drop> {
     came: Option<Instant>,
 }
 
-impl<S: Read + Stream + Drop> Peer<S> {
+impl<S: Drop> Peer<S> {
     /// A connection of which nothing was read. `Short`: memory was refused, and the stream is dropped.
     pub(crate) fn new(alloc: Global, stream: S) -> Result<Peer<S>, Short>
         ensures { IfOk result (λ p. p.conn ≡ Logging_in []) }
@@ -49,23 +49,29 @@ impl<S: Read + Stream + Drop> Peer<S> {
             came: None,
         })
     }
+}
 
+// What reads a stream writes nothing to it, and what writes to it reads nothing: neither has a call for the other.
+impl<S: Read + Drop> Peer<S> {
     /// Reads its stream once, at most `BYTES_AT_ONCE` bytes, and hands them on, as `pump_in` does.
     pub(crate) fn read<E: Sessions>(&mut self, engine: &mut E, tickets: &Tickets) -> PumpedIn
         ensures read { ReadsPeer E.does E.live S.remaining tickets.now result self.old engine.old self.new engine.new }
         ensures finished { Finishes E.live result self.old.conn engine.old self.new.conn engine.new }
         ensures steps { Stepped E.does E.live E.pending tickets.now self.old.conn engine.old self.new.conn engine.new }
+        ensures still { is_reading E.live self.old.conn engine.old ≡ false → self.new.stream ≡ self.old.stream }
         ensures unread { is_taking result ≡ false → IsUnread self.old.conn engine.old self.new.conn engine.new }
     {
         let mut buf = [0u8; BYTES_AT_ONCE];
         pump_in_by(&mut self.conn, engine, tickets, &mut self.stream, &mut buf)
     }
+}
 
+impl<S: Stream + Drop> Peer<S> {
     /// Writes what waits for its stream, as far as that takes it. True: the connection is over, and its stream can be closed. That is
     /// so where its session is not open, where the line of its refusal was written, and where writing failed.
     pub(crate) fn write<E: Sessions>(&mut self, engine: &mut E) -> bool
         ensures steps { (tickets : List (List ℕ × List ℕ)) → Stepped E.does E.live E.pending tickets self.old.conn engine.old self.new.conn engine.new }
-        ensures written { WritesConn E.does E.live E.pending S.answers self.old.conn engine.old self.new.conn engine.new }
+        ensures written { WritesPeer E.does E.live E.pending S.answers self.old engine.old self.new engine.new }
         ensures over { result ≡ is_over self.new.conn }
         ensures closing { is_reading E.live self.old.conn engine.old ≡ false → is_closing self.new.conn ≡ true }
     {

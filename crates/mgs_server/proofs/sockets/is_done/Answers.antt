@@ -19,4 +19,4 @@ returns-in-Some-clause-over g c = λ done. record {
 pub returns-in-Some-clause-written : goal.returns-in-Some-clause-written
 returns-in-Some-clause-written g c =
     open_at g.E.Sessions.does g.E.Sessions.live g.E.Sessions.pending g.S.Stream.answers (peers_of c.args.peers.now c.args.key) c.in-Some.peer.now.conn c.write.new.self.conn c.args.key c.write.result _ _ (found_at c.args.peers.now c.args.key c.in-Some.peer.now c.in-Some.ensures.value)
-    c.write.ensures.written (changed_at c.args.peers.now c.args.key c.in-Some.peer.now c.write.new.self c.in-Some.ensures.value) c.write.ensures.over
+    (record { before = c.in-Some.peer.now.stream; after = c.write.new.self.stream; written = c.write.ensures.written }) (changed_at c.args.peers.now c.args.key c.in-Some.peer.now c.write.new.self c.in-Some.ensures.value) c.write.ensures.over
