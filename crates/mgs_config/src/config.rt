@@ -5,7 +5,7 @@ ghost use Rattle.mgs_config.specs.Document.{document_in, rows_at};
 ghost use Rattle.mgs_buffers.specs.MarkedBuffer.{AreUnmarked};
 ghost use Rattle.mgs_config.specs.Files.{AreBuffers, GivesNoMore, IsCounted};
 ghost use Rattle.mgs_config.specs.World.{fault_of, users_in, directory_in, people_refused, buffer_rows, files_in, paths_in, paths_of};
-ghost use Rattle.mgs_config.specs.World.{buffers_fault, IsLaterFault, IsConfigFault};
+ghost use Rattle.mgs_config.specs.World.{buffers_fault, IsConfigFault};
 ghost use Rattle.mgs_config.specs.declared.config_fault.TableFault.TheVariants.{Short};
 ghost use Rattle.mgs_config.specs.declared.config_fault.ConfigTable.TheVariants.{Top};
 
@@ -132,7 +132,7 @@ fn configure<F: Files>(
     ensures buffers { IfOk result (λ c. AreBuffers (F.tells files.old) (F.gives files.old) (buffer_rows (view document.now)) c.buffers) }
     ensures unmarked { IfOk result (λ c. AreUnmarked c.buffers) }
     ensures files { IfOk result (λ c. paths_of c.files.items ≡ files_in (view document.now)) }
-    ensures err { IfErr result (λ e. e.fault ≢ Short → IsLaterFault (people_refused (view document.now)) (F.tells files.old) (F.gives files.old) (view document.now) e) }
+    ensures err { IfErr result (λ e. e.fault ≢ Short → IsConfigFault (Some (view document.now)) (F.tells files.old) (F.gives files.old) e) }
     ensures short { IfErr result (λ e. e.fault ≡ Short → e ≡ fault_of Top (0, Short)) }
     ensures same { F.tells files.new ≡ F.tells files.old }
     ensures kept { GivesNoMore (F.gives files.new) (F.gives files.old) }
