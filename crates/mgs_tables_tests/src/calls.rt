@@ -128,23 +128,26 @@ pub(crate) fn all_texts<S: Alter>(
     Ok(all)
 }
 
-/// Gives a buffer another owner, owning group and entries, and adds an event `list` and an event `owner`.
+/// Gives a buffer another owner and owning group and then other entries, with an event `owner` and an event `list`.
 pub(crate) fn set_both<S: Alter>(
     conn: &mut Connection<S>,
     name: &str,
     owner: &str,
     entries: &str,
 ) -> Result<(), Fault> {
-    let row = RightsRow {
+    let given = RightsRow {
         name,
         owner,
         owning_group: "",
-        entries,
+        entries: "a",
     };
     mgs_tables::put_changes(
         conn,
-        &[RowChange::Set(row)],
-        &[event("list", name), event("owner", name)],
+        &[
+            RowChange::Set(given),
+            RowChange::Set(RightsRow { entries, ..given }),
+        ],
+        &[event("owner", name), event("list", name)],
     )
 }
 

@@ -3,6 +3,8 @@ ghost use Rattle.std.specs.Prelude.{IfOk, IsTrue};
 ghost use Rattle.sqlite_disk.specs.Memory.{memory_is_usable};
 
 use crate::calls::{add, all_rights, all_texts, make, page, put_text, set_both};
+use crate::log_check::{FRAME_LEN, HEADER_LEN};
+use mgs_tables::open_copy;
 use sqlite::{Alter, Connection, FileStore, Files, Options};
 use sqlite_disk::{Disk, Memory};
 use std::alloc::Global;
@@ -94,7 +96,7 @@ fn a_crash_leaves_the_old_text_or_the_new_one(rt: HostRuntime) -> Result<(), Fai
     Ok(())
 }
 
-// Makes tables with a buffer, and gives it another owner and another list at once where that is asked.
+// Makes tables with a buffer, and changes its owner and its list by two changes of one event if that is asked.
 fn fill_rights<S: Alter>(conn: &mut Connection<S>, is_set: bool) -> Result<(), Fail> {
     make(conn)?;
     add(conn, "notes", "a")?;
@@ -111,54 +113,194 @@ fn written_rights(alloc: Global, is_set: bool) -> Result<Files<Memory>, Fail> {
     Ok(conn.into_store().close())
 }
 
-// Whether the tables are as after the change, with its events, or, unless it is whole, as before it, without one.
-fn is_before_or_after<S: Alter>(
-    conn: &mut Connection<S>,
-    alloc: Global,
-    is_whole: bool,
-) -> Result<bool, Fail> {
+// What the tables hold: the rights and the events from before the event, those from after it, or anything else.
+#[derive(Clone, Copy, PartialEq)]
+enum Found {
+    Before,
+    After,
+    Between,
+}
+
+// Reads the rights and the events after the first one.
+fn find<S: Alter>(conn: &mut Connection<S>, alloc: Global) -> Result<Found, Fail> {
     let rights = all_rights(conn, alloc)?;
     let events = page(conn, alloc, 1, 9)?;
-    let is_after = rights.as_str() == "notes/bob//b/"
-        && events.as_str() == "2 list notes/3 owner notes/";
-    let is_before = rights.as_str() == "notes/ann/staff/a/" && events.is_empty();
-    Ok(is_after || !is_whole && is_before)
+    if rights.as_str() == "notes/ann/staff/a/" && events.is_empty() {
+        return Ok(Found::Before);
+    }
+    if rights.as_str() == "notes/bob//b/" && events.as_str() == "2 owner notes/3 list notes/" {
+        return Ok(Found::After);
+    }
+    Ok(Found::Between)
 }
 
-// Whether files whose log is cut there have the tables before the change, or after it if it is whole.
-fn is_whole_at(
+// What SQLite recovers from these files.
+fn found_in(alloc: Global, log: Memory, db: &[u8]) -> Result<Found, Fail>
+    requires { IsTrue (memory_is_usable log) }
+{
+    let mut conn = open(alloc, log, file_of(alloc, db)?)?;
+    find(&mut conn, alloc)
+}
+
+// What is found in these files if they are tested and opened as at a start. It fails if they are refused.
+fn found_at_start(alloc: Global, log: &[u8], db: &[u8]) -> Result<Found, Fail> {
+    let mut conn = open_copy(alloc, log, db)?;
+    find(&mut conn, alloc)
+}
+
+// The offset after the last byte by which two files differ.
+fn end_of_change(a: &[u8], b: &[u8]) -> usize {
+    let (mut at, mut end) = (0usize, 0usize);
+    for (x, y) in a.iter().zip(b) {
+        at = at.saturating_add(1);
+        if x != y {
+            end = at;
+        }
+    }
+    end
+}
+
+// The offset of the gate of the frame in which this byte is. The gate is written last.
+fn gate_at(at: usize) -> usize {
+    let frame = at.saturating_sub(HEADER_LEN) / FRAME_LEN;
+    HEADER_LEN
+        .saturating_add(frame.saturating_mul(FRAME_LEN))
+        .saturating_add(8)
+}
+
+// The first bytes of a log.
+fn cut_log(alloc: Global, new: &[u8], cut: usize) -> Result<Memory, Fail>
+    ensures { IfOk result (λ log. IsTrue (memory_is_usable log)) }
+{
+    let (written, _) = new.split_at(new.len().min(cut));
+    file_of(alloc, written)
+}
+
+// The first bytes of the new log, and after them those of the old one.
+fn torn_log(alloc: Global, old: &[u8], new: &[u8], cut: usize) -> Result<Memory, Fail>
+    ensures { IfOk result (λ log. IsTrue (memory_is_usable log)) }
+{
+    let (written, _) = new.split_at(new.len().min(cut));
+    let mut log = file_of(alloc, old)?;
+    log.write_at(0, written)?;
+    Ok(log)
+}
+
+// The logs before and after the event, and the file beside both.
+#[derive(Clone, Copy)]
+struct Logs<'a> {
+    old: &'a [u8],
+    new: &'a [u8],
+    db: &'a [u8],
+}
+
+// What is found if the log ends here.
+fn found_if_cut(alloc: Global, logs: &Logs<'_>, cut: usize) -> Result<Found, Fail> {
+    found_in(alloc, cut_log(alloc, logs.new, cut)?, logs.db)
+}
+
+// What is found if the log is written up to here, and the rest of it is as before.
+fn found_if_torn(alloc: Global, logs: &Logs<'_>, cut: usize) -> Result<Found, Fail> {
+    found_in(alloc, torn_log(alloc, logs.old, logs.new, cut)?, logs.db)
+}
+
+// What is found at a start if the log is written up to here, but for the gate.
+fn found_before_gate(
     alloc: Global,
-    old: &Files<Memory>,
-    new: &Files<Memory>,
+    logs: &Logs<'_>,
     cut: usize,
-) -> Result<bool, Fail> {
-    let mut log = file_of(alloc, old.log.bytes())?;
-    let end = new.log.bytes().len();
-    let cut = cut.min(end);
-    log.write_at(0, &new.log.bytes()[..cut])?;
-    let mut conn = open(alloc, log, file_of(alloc, old.db.bytes())?)?;
-    is_before_or_after(&mut conn, alloc, cut == end)
+    gate: usize,
+) -> Result<Found, Fail> {
+    let mut log = torn_log(alloc, logs.old, logs.new, cut)?;
+    log.write_at(gate, &[0])?;
+    found_at_start(alloc, log.bytes(), logs.db)
 }
 
-// Whether that is so at each of some cuts, of which the last leave one byte out and none.
-fn is_whole_at_all(alloc: Global, old: &Files<Memory>, new: &Files<Memory>) -> Result<bool, Fail> {
-    let start = alike(old.log.bytes(), new.log.bytes());
-    let end = new.log.bytes().len();
-    let apart = end.saturating_sub(start) / 8;
-    for part in [0, 1, 2, 3, 4, 5, 6, 7] {
-        let cut = start.saturating_add(apart.saturating_mul(part));
-        if !is_whole_at(alloc, old, new, cut)? {
+// Whether the tables are as before the event at each end of the log from `start` up to `end`.
+fn is_before_if_cut(
+    alloc: Global,
+    logs: &Logs<'_>,
+    start: usize,
+    end: usize,
+) -> Result<bool, Fail> {
+    for cut in start..end {
+        if found_if_cut(alloc, logs, cut)? != Found::Before {
             return Ok(false);
         }
     }
-    Ok(is_whole_at(alloc, old, new, end.saturating_sub(1))? && is_whole_at(alloc, old, new, end)?)
+    Ok(true)
 }
 
-// A list and an owner that are changed at once: wherever the log is cut, both are there or neither.
+// Whether two files have the same byte here, so that a log that is written up to it is the same as one that is written after it.
+fn is_same_byte(logs: &Logs<'_>, at: usize) -> bool {
+    logs.old.get(at) == logs.new.get(at)
+}
+
+// Whether the tables are as before the event if the log is torn here, with its gate and without it.
+fn is_before_if_torn_at(
+    alloc: Global,
+    logs: &Logs<'_>,
+    cut: usize,
+    gate: usize,
+) -> Result<bool, Fail> {
+    if is_same_byte(logs, cut) {
+        return Ok(true);
+    }
+    Ok(
+        found_if_torn(alloc, logs, cut)? == Found::Before
+            && found_before_gate(alloc, logs, cut, gate)? == Found::Before,
+    )
+}
+
+// Whether that is so at each place from `start` up to `end`.
+fn is_before_if_torn(
+    alloc: Global,
+    logs: &Logs<'_>,
+    start: usize,
+    end: usize,
+) -> Result<bool, Fail> {
+    for cut in start..end {
+        if !is_before_if_torn_at(alloc, logs, cut, gate_at(start))? {
+            return Ok(false);
+        }
+    }
+    Ok(true)
+}
+
+// Whether the tables are as after the event once its bytes are written: if the log ends with them, and at a start, but for the gate.
+fn is_after_at_end(alloc: Global, logs: &Logs<'_>, end: usize, gate: usize) -> Result<bool, Fail> {
+    Ok(
+        found_if_cut(alloc, logs, end)? == Found::After
+            && found_before_gate(alloc, logs, end, gate)? == Found::Before
+            && found_at_start(alloc, logs.new, logs.db)? == Found::After,
+    )
+}
+
+// Whether the event is there with its last byte, and no part of it before that. It has more than one frame.
+fn is_all_or_none(alloc: Global, logs: &Logs<'_>) -> Result<bool, Fail> {
+    let start = alike(logs.old, logs.new);
+    let end = end_of_change(logs.old, logs.new);
+    if end <= start.saturating_add(FRAME_LEN) {
+        return Ok(false);
+    }
+    Ok(
+        is_before_if_cut(alloc, logs, start, end)?
+            && is_before_if_torn(alloc, logs, start, end)?
+            && is_after_at_end(alloc, logs, end, gate_at(start))?,
+    )
+}
+
+// An owner and a list that are changed in one event, with its two events: the log is cut at every byte of that transaction. The bytes
+// after the cut are missing, or they are as before.
 #[test]
 fn a_crash_never_parts_a_list_from_its_owner(rt: HostRuntime) -> Result<(), Fail> {
     let old = written_rights(rt.alloc(), false)?;
     let new = written_rights(rt.alloc(), true)?;
-    assert!(rt; is_whole_at_all(rt.alloc(), &old, &new)?);
+    let logs = Logs {
+        old: old.log.bytes(),
+        new: new.log.bytes(),
+        db: old.db.bytes(),
+    };
+    assert!(&rt; is_all_or_none(rt.alloc(), &logs)?);
     Ok(())
 }

@@ -7,10 +7,10 @@ use sqlite_disk::{Disk, Memory};
 use std::alloc::Global;
 use std::test::Fail;
 
-// The length of a frame, and of the header before the frames.
-const FRAME_LEN: usize = 4120;
+/// The length of a frame, and of the header before the frames.
+pub(crate) const FRAME_LEN: usize = 4120;
 
-const HEADER_LEN: usize = 32;
+pub(crate) const HEADER_LEN: usize = 32;
 
 // Makes the tables if there are none, and changes rights and a text.
 fn fill<S: Alter>(conn: &mut Connection<S>, name: &str) -> Result<(), Fault> {
