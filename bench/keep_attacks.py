@@ -4,21 +4,29 @@ and exchanged files, forged tables, links, audits beside a server that writes, a
 Each attack takes whether it is to be long, and a seed. A start or an audit refuses by name: status 1, one line, and no byte of the folder is
 changed, but that an empty log may get another head beside a file that is damaged. What is not refused shows all rights that screens had shown
 before."""
-import fcntl, os, random, re, shutil, socket, sqlite3, stat, struct, subprocess, threading, time
+import concurrent.futures, fcntl, functools, itertools, multiprocessing, os, random, re, shutil, socket, sqlite3, stat, struct, subprocess, threading, time
 
 import keep_desk
-from keep_desk import (DENY_BOB, DROP_FIRST, Desk, LISTING, NONE, NOTES, OWNERS_LIST, PATIENCE, ROWS, SECRET, Server, State,
-                       Watch, buffer, changed_files, command, config, create_detail, expect, fields, file_buffer, go_to, listed, miss, seal, see,
+from keep_desk import (DENY_BOB, DROP_FIRST, Desk, IS_ROOT, LISTING, NOBODY, NONE, NOTES, OWNERS_LIST, PATIENCE, ROWS, SECRET, Server,
+                       State, Watch, buffer, changed_files, command, config, create_detail, expect, fields, file_buffer, go_to, listed, miss, seal, see,
                        serving, shows, type_in)
 
 BASE, LOG = "journal.sqlite3", "journal.sqlite3-wal"
 RIGHTS = ("create", "kill", "list", "owner", "group", "is")
 EVERYBODY = ["ALLOW EVERYONE@ rwatdcCo"]
+# How many damaged folders are tried at a time.
+WORKERS = os.cpu_count() or 1
 # How long a screen is waited for that may never come.
 SOON = 5
 # The seconds until a server sees that its files are not where they were, on a busy machine.
 NOTICED = 4
 F_SETPIPE_SZ = 1031
+
+
+@functools.cache
+def workers():
+    """The processes that try damaged folders."""
+    return concurrent.futures.ProcessPoolExecutor(WORKERS, multiprocessing.get_context("fork"))
 
 
 def is_named(status, words):
@@ -57,9 +65,9 @@ def state_after_start(desk):
     return state
 
 
-def attack_folder(desk, contents, shown, told, left):
+def attack_folder(desk, contents, admitted, told, left):
     """Whether a start refuses this folder, and what is wrong: an audit or a start that neither refuses nor has all that was shown, an audit that
-    changes a file, or a refusal that changes one of those that are to be left."""
+    changes a file, or a refusal that changes one of those that are to be left. What was shown is one of the states that are admitted."""
     desk.restore(contents)
     wrong = []
     status, text, words = audit_of(desk)
@@ -72,7 +80,7 @@ def attack_folder(desk, contents, shown, told, left):
     desk.restore(contents)
     found = state_after_start(desk)
     if isinstance(found, State):
-        return False, wrong + ([] if found == shown else [("shown", found)])
+        return False, wrong + ([] if found in admitted else [("shown", found)])
     if not is_named(*found):
         wrong.append(("start", found))
     changed = changed_files(contents, desk.contents())
@@ -81,20 +89,31 @@ def attack_folder(desk, contents, shown, told, left):
     return True, wrong
 
 
-def expect_attacks(what, desk, states, told=(), left=(BASE, LOG)):
+def attack_copy(text, contents, *how):
+    """The same over a folder of its own, with a configuration of this text."""
+    with Desk(text) as desk:
+        return attack_folder(desk, contents, *how)
+
+
+def expect_attacks(what, desk, states, told=(), left=(BASE, LOG), admitted=None):
     """A row for many damaged folders, each with words that say what was done. An audit that is not refused has the lines that were told, and a
     start that is refused leaves these files."""
-    wrong, refusals, count = [], 0, 0
-    for words, contents in states:
-        is_refused, found = attack_folder(desk, contents, SHOWN, told, left)
-        refusals += is_refused
-        count += 1
-        wrong += [(words, *one) for one in found]
+    wrong, refusals, count, states = [], 0, 0, iter(states)
+    with open(desk.at("served.toml")) as file:
+        text = file.read()
+    while some := list(itertools.islice(states, 8 * WORKERS)):
+        work = [(words, workers().submit(attack_copy, text, contents, admitted or [SHOWN], told, left)) for words, contents in some]
+        for words, one in work:
+            is_refused, found = one.result()
+            refusals += is_refused
+            count += 1
+            wrong += [(words, *fault) for fault in found]
     expect(f"{count} {what}: {refusals} were refused by name, and over {count - refusals} all that was shown held", count and not wrong,
            (len(wrong), wrong[:4]))
 
 
-SHOWN = State(True, ("cat", "desk"), ["made2"])
+# The rights before make_changes, after it, and after change_again.
+BEGUN, SHOWN, AGAIN = State(False, ("ann", ""), []), State(True, ("cat", "desk"), ["made2"]), State(True, ("bob", "staff"), ["made2"])
 
 
 def wait_for_state(watch, is_seen):
@@ -133,6 +152,7 @@ def make_changes(desk, times):
 REMADE = [
     ("in one event", "\x18(\x18ksecr\t\r" + go_to("secret") + "\x18)", "\x18e"),
     ("in two events", "", "\x18ksecret\r" + go_to("secret")),
+    ("three times in one event", "\x18(\x18ksecr\t\r" + go_to("secret") + "\x18)", "\x153\x18e"),
 ]
 
 
@@ -181,6 +201,100 @@ def remake(desk, what, is_last, recorded, played):
         text = file.read()
     expect(f"{what}: and it has no file", text == SECRET + "\n", (text, bob.shows(ROWS)))
     server.kill()
+
+
+def try_remade_rights(long, seed):
+    """One key makes a buffer again, and gives it another list, group and owner: all of that is one event, and the text is gone."""
+    entries = [OWNERS_LIST, "ALLOW bob rwatdcCo"]
+    steps = "\x18kmine\r" + go_to("mine") + command("acl-insert", entries[1]) + command("set-group", "staff") + command("set-owner", "ann")
+    for times in ("", "\x153"):
+        with Desk() as desk:
+            server = serving(desk)
+            bob, ann = server.join("bob"), server.join("ann")
+            type_in(bob, go_to("mine") + "\x18(" + steps + "\x18)unsaved ")
+            see(bob, "unsaved")
+            time.sleep(1.5)
+            expect("its text is in the journal before", text_of(desk, "mine") == "unsaved ", text_of(desk, "mine"))
+            type_in(bob, f"{times}\x18e")
+            expect("a buffer made again with other rights is empty", miss(bob, "unsaved"), bob.shows(1))
+            server.kill()
+            told = desk.events("--buffer", "mine")
+            wanted = [("bob", "kill", "mine", NONE), ("bob", "create", "mine", create_detail(entries, "ann", "staff"))]
+            expect("its end and its beginning are told, with these rights", told[-2:] == wanted, told[-3:])
+            expect("the killed text is in no row", text_of(desk, "mine") == "", text_of(desk, "mine"))
+            server = serving(desk)
+            bob, ann = server.join("bob"), server.join("ann")
+            type_in(ann, LISTING)
+            expect("after a start it has these rights", see(ann, " mine ann:staff"), listed(ann))
+            type_in(bob, go_to("mine"))
+            see(bob, "-mine")
+            expect("and its text is empty", bob.shows(1) == "", bob.shows(1))
+            server.kill()
+
+
+def text_of(desk, name):
+    """The text that the journal has under a name. It is empty if there is none."""
+    return "".join(body for body, in desk.ask(f"SELECT body FROM text JOIN buffer ON buffer.id = text.buffer WHERE name = '{name}'"))
+
+
+def try_name_of_killed(long, seed):
+    """A name that bob killed and ann types is that of ann's buffer, also after a start."""
+    page = buffer("page", EVERYBODY, text="The page of CONFIG.")
+    with Desk(config(buffer("notes", NOTES, text="Notes."), page)) as desk:
+        server = serving(desk)
+        ann, bob = server.join("ann"), server.join("bob")
+        type_in(bob, "\x18kpage\r" + LISTING)
+        expect("bob kills it", see(bob, "-Buffers") and miss(bob, " page "), listed(bob))
+        type_in(ann, go_to("page") + "of ann")
+        see(ann, "of ann")
+        time.sleep(1.5)
+        server.kill()
+        told = desk.events("--buffer", "page")
+        expect("his end and her beginning are told", told[1:] == [("bob", "kill", "page", NONE), ("ann", "create", "page", create_detail([OWNERS_LIST]))], told)
+        for _ in range(2):
+            server = serving(desk)
+            expect("a start says that CONFIG's is not taken", server.told() == "buffer page: a user made or killed it, so CONFIG's is not taken\n", server.told())
+            ann, bob = server.join("ann"), server.join("bob")
+            type_in(ann, go_to("page"))
+            expect("and has hers", see(ann, "of ann") and not shows(ann, "CONFIG"), ann.shows(1))
+            type_in(bob, go_to("page"))
+            expect("which lets him in no more", see(bob, "Denied") and not shows(bob, "of ann"), bob.shows(1))
+            server.kill()
+
+
+# Names of buffers that are something else to a program that reads them carelessly.
+ODD_NAMES = ["7", "-7", "007", "0", "'", '"', "a;b", "->", "NULL", "%s", "~", "\\t", "../x", "ALLOW", "--user", "x" * 32]
+
+
+def try_odd_names(long, seed):
+    """A buffer may be named by any characters from `!` to `~`."""
+    with Desk() as desk:
+        server = serving(desk)
+        bob, ann = server.join("bob"), server.join("ann")
+        for number, name in enumerate(ODD_NAMES):
+            type_in(bob, go_to(name) + f"text {number}.")
+            see(bob, f"text {number}.")
+        time.sleep(3)
+        server.kill()
+        wrong = []
+        for name in ODD_NAMES:
+            told = desk.events("--buffer", name)
+            if told != [("bob", "create", name, create_detail([OWNERS_LIST], "bob"))]:
+                wrong.append((name, told))
+        expect(f"{len(ODD_NAMES)} buffers with odd names are told", not wrong, wrong)
+        server = serving(desk)
+        bob, cat = server.join("bob"), server.join("cat")
+        for number, name in enumerate(ODD_NAMES):
+            type_in(bob, go_to(name))
+            if not see(bob, f"text {number}.", SOON):
+                wrong.append((name, bob.shows(1)))
+            type_in(cat, go_to(name))
+            if not see(cat, "Denied", SOON) or shows(cat, "text"):
+                wrong.append((name, cat.shows(1)))
+            type_in(cat, "\x07")
+            see(cat, "Quit")
+        expect("and are there after a start, with their texts and lists", not wrong, wrong)
+        server.kill()
 
 
 def answer_to_login(server, line):
@@ -290,6 +404,87 @@ def try_torn_end(long, seed):
         expect_attacks("logs with garbage behind their end", desk, garbage, told)
 
 
+def frames_of(log):
+    """The head of a log, its frames, and what stands behind them."""
+    size = 24 + struct.unpack(">I", log[8:12])[0]
+    count = -(-(len(log.rstrip(b"\0")) - 32) // size)
+    end = 32 + count * size
+    return log[:32], [log[at:at + size] for at in range(32, end, size)], log[end:]
+
+
+def try_changed_frames(long, seed):
+    """Frames of the log are exchanged, repeated and left out, and the log is cut off. Where it ends with its last commit but one, that is a
+    log of an earlier moment, which nothing tells from a crash."""
+    chance = random.Random(seed)
+    with Desk() as desk:
+        make_changes(desk, 2)
+        whole = desk.contents()
+        told = rights_lines(desk.audit()[1])
+        head, frames, rest = frames_of(whole[LOG])
+        count = len(frames)
+        expect("the log has frames", count > 10, count)
+
+        def log_of(*parts):
+            return {**whole, LOG: head + b"".join(frame for part in parts for frame in part) + rest}
+
+        def exchanged(one, two):
+            some = list(frames)
+            some[one], some[two] = some[two], some[one]
+            return log_of(some)
+
+        pairs = [(at, at + 1) for at in range(count - 1)] + [tuple(sorted(chance.sample(range(count), 2))) for _ in range(300 if long else 10)]
+        if not long:
+            pairs = chance.sample(pairs, 20)
+        expect_attacks("logs with two frames exchanged", desk, [(pair, exchanged(*pair)) for pair in pairs], told)
+        some = range(count) if long else chance.sample(range(count), 10)
+        expect_attacks("logs with a frame repeated", desk, [(at, log_of(frames[:at + 1], frames[at:])) for at in some], told)
+        expect_attacks("logs with a frame over the next one", desk, [(at, log_of(frames[:at + 1], [frames[at]], frames[at + 2:])) for at in some if at + 1 < count], told)
+        expect_attacks("logs without one frame", desk, [(at, log_of(frames[:at], frames[at + 1:])) for at in some if at + 1 < count], told)
+        lengths = [*range(1, 64), *(32 + len(frames[0]) * at + more for at in range(count + 1) for more in (-1, 0, 1, 8, 24))]
+        if not long:
+            lengths = chance.sample(lengths, 30)
+        expect_attacks("logs that are cut off", desk, [(length, {**whole, LOG: whole[LOG][:length]}) for length in lengths], told)
+
+
+def try_other_moments(long, seed):
+    """The log of one moment beside the file of another one: it is refused, or the rights are those of one moment, and no mixture."""
+    with Desk() as desk:
+        make_changes(desk, 2)
+        first = desk.contents()
+        second = files_after_start(desk)
+        change_again(desk, 3)
+        third = desk.contents()
+        fourth = files_after_start(desk)
+        moments = {"first": first, "second": second, "third": third, "fourth": fourth}
+        states = [((of_file, of_log), {BASE: moments[of_file][BASE], LOG: moments[of_log][LOG]}) for of_file in moments for of_log in moments]
+        expect_attacks("files beside the log of another moment", desk, states, left=[BASE], admitted=[BEGUN, SHOWN, AGAIN])
+
+
+def rollback_journal(old, new):
+    """A rollback journal of SQLite, by which sqlite3 would put the pages of an older copy back."""
+    size = len(new[0])
+    changed = [at for at in range(min(len(old), len(new))) if old[at] != new[at]]
+    record = lambda at: struct.pack(">I", at + 1) + old[at] + struct.pack(">I", sum(old[at][size - 200:0:-200]))
+    head = bytes.fromhex("d9d505f920a163d7") + struct.pack(">5I", len(changed), 0, len(old), 512, size)
+    return head.ljust(512, b"\0") + b"".join(map(record, changed))
+
+
+def try_files_beside(long, seed):
+    """Other files beside the journal, which SQLite would read: nothing is taken from them."""
+    chance = random.Random(seed)
+    with Desk() as desk:
+        serving(desk).kill()
+        old = pages_of(files_after_start(desk)[BASE])
+        make_changes(desk, 2)
+        for words, whole in (("with a log", desk.contents()), ("with an empty log", files_after_start(desk))):
+            told = rights_lines(desk.audit()[1])
+            journal = rollback_journal(old, pages_of(whole[BASE]))
+            beside = [("-journal", journal), ("-journal", chance.randbytes(9000)), ("-journal", b""), ("-shm", bytes(32768)), ("-shm", chance.randbytes(32768)),
+                      ("-wal2", whole[LOG]), (".bak", b"of others")]
+            states = [((words, name, len(data)), {**whole, BASE + name: data}) for name, data in beside]
+            expect_attacks(f"journals {words} and a file beside them", desk, states, told)
+
+
 def pages_of(data):
     size = struct.unpack(">H", data[16:18])[0]
     size = 65536 if size == 1 else size
@@ -379,44 +574,116 @@ def try_missing_files(long, seed):
 
 
 NOTES_ROW = "(SELECT id FROM buffer WHERE name = 'notes')"
+LIST_AT = "number = (SELECT {}(number) FROM event WHERE what = 'list')".format
+FIRST_LIST, LAST_LIST = LIST_AT("min"), LIST_AT("max")
+EVENT_MORE = "INSERT INTO event (at, user, what, buffer, detail) VALUES (0, '{}', '{}', '{}', '{}')".format
+OF_BOB = "bob: ALLOW OWNER@ rwatdcCo"
+
+
+def exchange(one, two):
+    """Exchanges the numbers of two events."""
+    def act(base):
+        first, second = (base.execute(f"SELECT number FROM event WHERE {where}").fetchone()[0] for where in (one, two))
+        for old, new in ((first, -1), (second, first), (-1, second)):
+            base.execute("UPDATE event SET number = ? WHERE number = ?", (new, old))
+    return act
+
+
+def close_gaps(base):
+    """Numbers the events from 1 again."""
+    for new, (old,) in enumerate(base.execute("SELECT number FROM event ORDER BY number").fetchall(), 1):
+        base.execute("UPDATE event SET number = ? WHERE number = ?", (new, old))
+
+
+# What is done to the tables: each statement changes a row.
 FORGED = [
     ("an owner", "UPDATE buffer SET owner = 'bob' WHERE name = 'page'"),
     ("an owning group", "UPDATE buffer SET owning_group = 'staff' WHERE name = 'page'"),
     ("an owning group that is none", "UPDATE buffer SET owning_group = '' WHERE name = 'page'"),
     ("a list", "UPDATE buffer SET entries = replace(entries, 'DENY', 'ALLOW') WHERE name = 'notes'"),
     ("a list that is shorter", "UPDATE buffer SET entries = substr(entries, instr(entries, char(10)) + 1) WHERE name = 'notes'"),
+    ("a list with its first entry last", "UPDATE buffer SET entries = substr(entries, instr(entries, char(10)) + 1) || 'DENY bob rwa' || char(10) WHERE name = 'notes'"),
     ("a name", "UPDATE buffer SET name = 'other' WHERE name = 'made2'"),
+    ("two names exchanged", "UPDATE buffer SET name = '' WHERE name = 'notes'", "UPDATE buffer SET name = 'notes' WHERE name = 'page'", "UPDATE buffer SET name = 'page' WHERE name = ''"),
     ("a buffer more", "INSERT INTO buffer (name, owner, owning_group, entries) SELECT 'more', owner, '', entries FROM buffer WHERE name = 'page'"),
-    ("a buffer less", f"DELETE FROM text WHERE buffer = {NOTES_ROW}; DELETE FROM buffer WHERE name = 'notes'"),
-    ("the order of two", f"UPDATE text SET buffer = 1000 WHERE buffer = {NOTES_ROW}; UPDATE buffer SET id = 1000 WHERE name = 'notes'"),
-    ("an event less", "DELETE FROM event WHERE number = (SELECT max(number) FROM event WHERE what = 'list')"),
-    ("an event's words", "UPDATE event SET detail = replace(detail, 'DENY', 'ALLOW') WHERE number = (SELECT max(number) FROM event WHERE what = 'list')"),
-    ("an event more", "INSERT INTO event (at, user, what, buffer, detail) VALUES (0, 'ann', 'kill', 'notes', '')"),
+    ("a buffer less", f"DELETE FROM text WHERE buffer = {NOTES_ROW}", "DELETE FROM buffer WHERE name = 'notes'"),
+    ("the order of two", f"UPDATE text SET buffer = 1000 WHERE buffer = {NOTES_ROW}", "UPDATE buffer SET id = 1000 WHERE name = 'notes'"),
+    ("an event less", f"DELETE FROM event WHERE {LAST_LIST}"),
+    ("an event less, and no gap", f"DELETE FROM event WHERE {LAST_LIST}", close_gaps),
+    ("a buffer's beginning less, and no gap", "DELETE FROM event WHERE what = 'create' AND buffer = 'made2'", close_gaps),
+    ("a buffer's end less, and no gap", "DELETE FROM event WHERE what = 'kill'", close_gaps),
+    ("a gap between the numbers", "DELETE FROM event WHERE number = (SELECT min(number) FROM event WHERE what = 'login')"),
+    ("a first number of 2", "UPDATE event SET number = -number", "UPDATE event SET number = 1 - number"),
+    ("a first number of 0", "UPDATE event SET number = 0 WHERE number = 1"),
+    ("an event's words", f"UPDATE event SET detail = replace(detail, 'DENY', 'ALLOW') WHERE {LAST_LIST}"),
+    ("an earlier event's words", f"UPDATE event SET detail = replace(detail, 'bob rwa', 'bob r') WHERE {FIRST_LIST}"),
+    ("an event's words, spelled otherwise", f"UPDATE event SET detail = replace(detail, 'bob rwa', 'bob awr') WHERE {LAST_LIST}"),
+    ("an event's words and a space", "UPDATE event SET detail = detail || ' ' WHERE what = 'owner'"),
+    ("what an owner was before", "UPDATE event SET detail = 'bob -> cat' WHERE what = 'owner'"),
+    ("what a group was before", "UPDATE event SET detail = 'staff -> desk' WHERE what = 'group'"),
+    ("what a list was before", f"UPDATE event SET detail = 'DENY cat r; ' || detail WHERE {LAST_LIST}"),
+    ("an event's buffer", f"UPDATE event SET buffer = 'page' WHERE {LAST_LIST}"),
+    ("an event's buffer that is none", f"UPDATE event SET buffer = '' WHERE {LAST_LIST}"),
+    ("a list that is a denial", f"UPDATE event SET what = 'denied' WHERE {LAST_LIST}"),
+    ("an owner that is a group", "UPDATE event SET what = 'group' WHERE what = 'owner'"),
+    ("an end that is a login", "UPDATE event SET what = 'login' WHERE what = 'kill'"),
+    ("a beginning without words", "UPDATE event SET detail = '' WHERE what = 'create' AND buffer = 'page'"),
+    ("a beginning of another owner", "UPDATE event SET detail = 'bob' || substr(detail, 4) WHERE what = 'create' AND buffer = 'page'"),
+    ("the order of two lists", exchange(FIRST_LIST, "what = 'list' AND detail LIKE 'DENY%'")),
+    ("a list before its buffer", exchange(FIRST_LIST, "what = 'create' AND buffer = 'notes'")),
+    ("an end before its beginning", exchange("what = 'kill'", "what = 'create' AND buffer = 'made1'")),
+    ("an end more", EVENT_MORE("ann", "kill", "notes", "")),
+    ("a beginning more", EVENT_MORE("ann", "create", "more", OF_BOB)),
+    ("a second beginning", EVENT_MORE("ann", "create", "page", OF_BOB)),
+    ("an end and a beginning more", EVENT_MORE("bob", "kill", "page", ""), EVENT_MORE("bob", "create", "page", OF_BOB)),
+    ("an owner more", EVENT_MORE("ann", "owner", "page", "cat -> bob")),
+    ("rights of an older version more", EVENT_MORE("", "is", "page", OF_BOB)),
 ]
+# What gives nobody a right: it is refused, or all that was shown holds.
+HARMLESS = [
+    ("a text of a buffer that is none", "INSERT INTO text (buffer, modified, file, body) VALUES (1000, 1, 0, 'The text of none.')"),
+    ("an event of number 0", "INSERT INTO event (number, at, user, what, buffer, detail) VALUES (0, 0, 'ann', 'kill', 'notes', '')"),
+    ("an event of a number below 0", "INSERT INTO event (number, at, user, what, buffer, detail) VALUES (-7, 0, 'ann', 'kill', 'notes', '')"),
+    ("an end of a buffer that is none", EVENT_MORE("ann", "kill", "none", "")),
+    ("an event of no word", EVENT_MORE("ann", "", "page", OF_BOB)),
+    ("a second version", "INSERT INTO format (version) VALUES (3)"),
+    ("another table", "CREATE TABLE more (owner TEXT)"),
+    ("a trigger", "CREATE TRIGGER more AFTER INSERT ON event BEGIN UPDATE buffer SET owner = 'bob'; END"),
+    ("a view", "CREATE VIEW more AS SELECT * FROM buffer"),
+]
+
+
+def forge(desk, whole, steps):
+    """The files once this was done to the tables, with page sums that are made again, and whether each step changed a row."""
+    desk.restore({BASE: whole[BASE]})
+    base = sqlite3.connect(desk.base)
+    done = [step(base) if callable(step) else base.execute(step).rowcount for step in steps]
+    base.commit()
+    base.execute("PRAGMA wal_checkpoint(TRUNCATE)").fetchall()
+    base.close()
+    seal(desk.base)
+    return {**whole, **desk.contents()}, 0 not in done
 
 
 def try_forged_tables(long, seed):
     """Tables that differ from what the events say are refused, with page sums that are made again."""
     with Desk() as desk:
         make_changes(desk, 1)
+        told = rights_lines(desk.audit()[1])
         whole = files_after_start(desk)
-        for what, sql in FORGED:
-            desk.restore({BASE: whole[BASE]})
-            base = sqlite3.connect(desk.base)
-            counts = [base.execute(one).rowcount for one in sql.split(";")]
-            base.commit()
-            base.execute("PRAGMA wal_checkpoint(TRUNCATE)").fetchall()
-            base.close()
-            seal(desk.base)
-            contents = {**whole, **desk.contents()}
+        for what, *steps in FORGED:
+            contents, is_done = forge(desk, whole, steps)
             desk.restore(contents)
             got = audit_of(desk)
             is_refused = is_named(got[0], got[2]) and desk.contents() == contents
-            expect(f"forged, {what}: an audit refuses", counts[-1] == 1 and is_refused, (counts, got[0], got[2]))
+            expect(f"forged, {what}: an audit refuses", is_done and is_refused, (is_done, got[0], got[2]))
             desk.restore(contents)
             got = state_after_start(desk)
             is_refused = not isinstance(got, State) and is_named(*got) and desk.contents() == contents
             expect(f"forged, {what}: a start refuses", is_refused, (got, changed_files(contents, desk.contents())))
+        states = [(what, *forge(desk, whole, steps)) for what, *steps in HARMLESS]
+        expect("each of the others is done", all(is_done for _, _, is_done in states), [what for what, _, is_done in states if not is_done])
+        expect_attacks("other forgeries", desk, [(what, contents) for what, contents, _ in states], told)
 
 
 def kind_of(path):
@@ -460,6 +727,52 @@ def try_other_kinds(long, seed):
                     after = {path: kind_of(path) for path in paths if os.path.lexists(path)}
                     expect(f"{what} in the place of {name} is refused by {asked}", is_named(got[0], got[-1]), got)
                     expect("and nothing is written", after == before, [os.path.basename(path) for path in paths if after.get(path) != before.get(path)])
+
+
+def try_two_names(long, seed):
+    """A file that has another name too, in another folder: no second server has it at the same time."""
+    with Desk() as desk:
+        make_changes(desk, 0)
+        server = serving(desk)
+        here, other = desk.folder, desk.at("other")
+        os.mkdir(other, 0o700)
+        os.link(desk.base, os.path.join(other, BASE))
+        desk.folder = other
+        got = refusal_of(desk)
+        expect("a second server, on another name of the file, is refused", got[0] in (1, 5) and is_named(1, got[1]), got)
+        desk.folder = here
+        ann, bob = server.join("ann"), server.join("bob")
+        type_in(ann, go_to("page") + command("set-group", "staff") + LISTING)
+        expect("the first one goes on", see(ann, " page cat:staff"), listed(ann))
+        server.kill()
+        state = state_after_start(desk)
+        expect("and what it showed holds", isinstance(state, State) and state.page == ("cat", "staff"), state)
+
+
+def try_reader_alone(long, seed):
+    """An audit by somebody who may read the folder and not write there."""
+    with Desk() as desk:
+        make_changes(desk, 1)
+        whole = desk.contents()
+        text = desk.audit()[1]
+        for mode, files, is_read in ((0o500, 0o400, True), (0o500, 0o000, False), (0o400, 0o400, False)):
+            os.chmod(desk.folder, 0o700)
+            desk.restore(whole)
+            for name in whole:
+                os.chmod(os.path.join(desk.folder, name), files)
+                os.chown(os.path.join(desk.folder, name), *([NOBODY, NOBODY] if IS_ROOT else [-1, -1]))
+            os.chown(desk.folder, *([NOBODY, NOBODY] if IS_ROOT else [-1, -1]))
+            os.chmod(desk.folder, mode)
+            done = subprocess.run([keep_desk.program, "audit", desk.folder], capture_output=True, text=True, timeout=PATIENCE, **({"user": NOBODY} if IS_ROOT else {}))
+            got = done.returncode, done.stdout, done.stderr
+            if is_read:
+                expect("an audit by who may only read is whole", got == (0, text, ""), (got[0], len(got[1]), got[2]))
+            else:
+                expect(f"an audit of a folder of mode {mode:o} with files of mode {files:o} is refused", is_named(got[0], got[2]) and got[1] == "", got)
+            os.chmod(desk.folder, 0o700)
+            for name in whole:
+                os.chmod(os.path.join(desk.folder, name), 0o600)
+            expect("and nothing is changed", desk.contents() == whole, changed_files(whole, desk.contents()))
 
 
 def refusal_of(desk):
@@ -624,5 +937,6 @@ def try_gone(long, seed):
                 expect(f"{what}: where it is now, all that was shown holds", isinstance(state, State) and state.denied, state)
 
 
-ATTACKS = [try_remade, try_dashes, try_taken_over, try_missing_files, try_forged_tables, try_other_kinds, try_audits_beside, try_reader_stops, try_gone,
-           try_torn_end, try_changed_bits, try_changed_pages]
+ATTACKS = [try_remade, try_remade_rights, try_name_of_killed, try_odd_names, try_dashes, try_taken_over, try_missing_files, try_forged_tables,
+           try_other_kinds, try_two_names, try_reader_alone, try_files_beside, try_audits_beside, try_reader_stops, try_gone, try_torn_end,
+           try_changed_bits, try_changed_frames, try_other_moments, try_changed_pages]

@@ -120,12 +120,14 @@ class Desk:
 
     def ask(self, sql):
         """What SQLite answers over a copy."""
+        return self.answers(sql)[0]
+
+    def answers(self, *queries):
+        """What SQLite answers to each query over one copy: rows, or the words of an error."""
         to = self.copy()
         base = sqlite3.connect(os.path.join(to, "journal.sqlite3"))
         try:
-            return base.execute(sql).fetchall()
-        except sqlite3.Error as error:
-            return str(error)
+            return [answer_of(base, sql) for sql in queries]
         finally:
             base.close()
             shutil.rmtree(to)
@@ -169,6 +171,13 @@ class Desk:
     def events(self, *words):
         """What an audit prints, without times and numbers."""
         return [fields(line) for line in self.audit(*words)[1].splitlines()]
+
+
+def answer_of(base, sql):
+    try:
+        return base.execute(sql).fetchall()
+    except sqlite3.Error as error:
+        return str(error)
 
 
 def fields(line):

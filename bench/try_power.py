@@ -1,13 +1,14 @@
 #!/usr/bin/env python3
-"""Cuts the power of a server that keeps a journal: python3 bench/try_power.py [--cuts N] [--plays N] [--seed N] [--seconds N] [PROGRAM]
+"""Cuts the power of a server that keeps a journal: python3 bench/try_power.py [--cuts N] [--plays N] [--workers N] [--seed N] [--seconds N] [PROGRAM]
 
-It records each write, sync and send of the program (record_calls.c, which `cc` compiles) while people play macros that change the lists, owners
-and groups of several buffers, kill buffers and make them, all in one key. Then it makes the folder what a power cut at N points of that record
-can leave (200): of what was not synced any sectors of 512 bytes are lost, older, torn, or garbage where a file grew. It starts the program over
-each, and looks at its screens, at what `audit` prints, and at the tables. Rights are those before or after an event, and never between; what a
-screen had shown is there. A row of its own counts no fdatasync, and is to find faults. It ends with status 0 if all is as it should be.
+It records each write, sync and send of the program (record_calls.c, which `cc` compiles) while people play macros of two scripts, which change
+the lists, owners and groups of several buffers, kill buffers and make them, all in one key. Then it makes the folder what a power cut at N points
+of these records can leave (2,000): of what was not synced any sectors of 512 bytes are lost, older, torn, or garbage where a file grew. It starts
+the program over each, in some folders at a time, and looks at its screens, at what `audit` prints, and at the tables. Rights are those before or
+after an event, and never between; what a screen had shown is there. Some cuts come after a start over what another cut left. A row of its own
+counts no fdatasync, and is to find faults. It ends with status 0 if all is as it should be.
 """
-import argparse, bisect, collections, copy, os, random, struct, subprocess, sys, time
+import argparse, bisect, collections, concurrent.futures, copy, multiprocessing, os, random, struct, subprocess, sys, tempfile, time
 
 import keep_desk
 from keep_desk import (DENY_BOB, DROP_FIRST, Desk, LISTING, NOTES, OWNERS_LIST, PAGE, SECRET, Server, TOP, buffer, command, config, create_detail,
@@ -24,6 +25,8 @@ LONG = 900_000
 # How long a screen is waited for that may never come.
 SOON = 5
 RUNS = 3
+# Where the folders are, if it is there: what a sync does is recorded, and its time is not asked for.
+IN_MEMORY = "/dev/shm"
 # How what was not synced is left: nothing of it, any sectors of it, these with parts of sectors, garbage where a file grew, all of it.
 WAYS = {"nothing": 4, "sectors": 8, "torn": 4, "garbage": 2, "all": 1}
 
@@ -223,6 +226,8 @@ def tear_sector(new, old, chance):
 
 DENIED = ["DENY bob rwa"] + NOTES
 ROOM = [OWNERS_LIST, "ALLOW bob rt"]
+FOR_ANN = "ALLOW ann rwatdcCo"
+NO_WRITING = "DENY EVERYONE@ w"
 
 
 class Rights:
@@ -269,6 +274,8 @@ TO_CAT = (go_to("page") + command("set-owner", "cat"), lambda rights: rights.cha
 TO_ANN = (go_to("page") + command("set-owner", "ann"), lambda rights: rights.change("page", owner="ann"))
 TO_DESK = (go_to("page") + command("set-group", "desk"), lambda rights: rights.change("page", owning="desk"))
 TO_NONE = (go_to("page") + command("set-group", ""), lambda rights: rights.change("page", owning=""))
+PAGE_SHUT = (go_to("page") + command("acl-insert", NO_WRITING, 1), lambda rights: rights.change("page", entries=[NO_WRITING] + PAGE))
+PAGE_OPEN = (go_to("page") + DROP_FIRST, lambda rights: rights.change("page", entries=PAGE))
 
 
 def kill(name):
@@ -279,21 +286,43 @@ def make(name):
     return go_to(name), lambda rights: rights.make(name)
 
 
+def of_each(*acts):
+    """One key that does each of these acts. What is made again is told as one end and one beginning."""
+    return lambda rights: [line for act in acts for line in act(rights)]
+
+
+def remake(name, owner, entries):
+    def act(rights):
+        lines = rights.kill(name)
+        rights.rows[name] = (owner, "", entries)
+        return lines + [("create", name, create_detail(entries, owner))]
+    return act
+
+
+class Script:
+    """What each of three people records, and what one key of it does: the state before and after, and never one between."""
+
+    def __init__(self, words, macros, played):
+        self.words, self.macros, self.played = words, macros, played
+
+
 LET_IN = (command("acl-insert", "ALLOW bob rt"), lambda rights: rights.change("room", entries=ROOM))
+LET_ANN = (command("acl-insert", FOR_ANN), lambda rights: rights.change("room", entries=[OWNERS_LIST, FOR_ANN]))
+ROOM_TO_BOB = (command("set-owner", "bob"), lambda rights: rights.change("room", owner="bob"))
 BEGUN = [make("room"), make("made1")]
-# What each of three people records, and what one key of it does: the state before and after, and never one between.
-MACROS = [[SHUT, TO_CAT, TO_DESK, kill("made1"), make("made2")],
-          [OPEN, TO_ANN, TO_NONE, kill("made2"), make("made1")],
-          [kill("room"), make("room"), LET_IN]]
-
-
-def remake_room(rights):
-    return rights.kill("room") + rights.make("room", ROOM)
-
-
-PLAYED = [lambda rights: [line for _, act in MACROS[0] for line in act(rights)],
-          lambda rights: [line for _, act in MACROS[1] for line in act(rights)],
-          remake_room]
+TO_OTHERS, BACK = [SHUT, TO_CAT, TO_DESK], [OPEN, TO_ANN, TO_NONE]
+THREE_TIMES = [kill("made1"), make("made1")] * 3
+acts_of = lambda steps: [act for _, act in steps]
+SCRIPTS = [
+    Script("one buffer is killed and another is made",
+           [TO_OTHERS + [kill("made1"), make("made2")], BACK + [kill("made2"), make("made1")], [kill("room"), make("room"), LET_IN]],
+           [of_each(*acts_of(TO_OTHERS), *acts_of([kill("made1"), make("made2")])), of_each(*acts_of(BACK), *acts_of([kill("made2"), make("made1")])),
+            remake("room", "ann", ROOM)]),
+    Script("a buffer is killed and made three times, and one made again is given away",
+           [TO_OTHERS + [PAGE_SHUT] + THREE_TIMES, BACK + [PAGE_OPEN] + THREE_TIMES[:2], [kill("room"), make("room"), LET_ANN, ROOM_TO_BOB]],
+           [of_each(*acts_of(TO_OTHERS), PAGE_SHUT[1], remake("made1", "ann", [OWNERS_LIST])),
+            of_each(*acts_of(BACK), PAGE_OPEN[1], remake("made1", "ann", [OWNERS_LIST])), remake("room", "bob", [OWNERS_LIST, FOR_ANN])]),
+]
 
 
 class Event:
@@ -317,9 +346,9 @@ class People:
 
     def __init__(self, server, run, scene):
         self.run, self.scene = run, scene
-        self.typists = [server.join("ann") for _ in MACROS]
+        self.typists = [server.join("ann") for _ in scene.script.macros]
         self.cat, self.other, self.bob, self.list = (server.join(name) for name in ("cat", "cat", "bob", "ann"))
-        self.counts = [len(f"login ann {keep_desk.TICKETS['ann']} {keep_desk.ROWS} {keep_desk.COLS}\n")] * len(MACROS)
+        self.counts = [len(f"login ann {keep_desk.TICKETS['ann']} {keep_desk.ROWS} {keep_desk.COLS}\n")] * len(self.typists)
         type_in(self.bob, go_to("notes"))
         type_in(self.list, LISTING)
         type_in(self.cat, go_to("pad") + "\x1b>")
@@ -365,7 +394,7 @@ class People:
     def record(self, typist):
         self.type(typist, "\x18(")
         self.counts[typist] += 2
-        for keys, act in MACROS[typist]:
+        for keys, act in self.scene.script.macros[typist]:
             self.type(typist, self.does(typist, keys, act))
             self.wait()
         self.type(typist, "\x18)")
@@ -373,7 +402,7 @@ class People:
         self.settle(typist)
 
     def play(self, typist, times=1):
-        self.type(typist, "".join(self.does(typist, "\x18e", PLAYED[typist]) for _ in range(times)))
+        self.type(typist, "".join(self.does(typist, "\x18e", self.scene.script.played[typist]) for _ in range(times)))
         self.settle(typist)
         if times > 1:
             for event in self.scene.events[-times:]:
@@ -388,12 +417,17 @@ def state_shown(bob, listing):
 class Scene:
     """What people did over a server whose calls are recorded: the events, the rights before and after them, and what cat typed."""
 
-    def __init__(self, desk, library):
+    def __init__(self, desk, library, number):
+        self.number, self.folder = number, desk.folder
         self.rights, self.events, self.typed = Rights(), [], ""
         self.begun = self.rights.copy()
         self.record = desk.at("calls")
         self.surroundings = {**os.environ, "LD_PRELOAD": library, "RECORD_TO": self.record}
         self.library = library
+
+    @property
+    def script(self):
+        return SCRIPTS[self.number]
 
     def played(self, desk, plays, chance):
         """This scene once its people have played macros in three runs, each over what a kill of the one before left."""
@@ -403,7 +437,7 @@ class Scene:
 
     def continued(self, desk, count, chance):
         """A scene that goes on over a folder in which there are this many of the events."""
-        other = Scene(desk, self.library)
+        other = Scene(desk, self.library, self.number)
         other.typed, other.events, other.rights = self.typed, [event.earlier() for event in self.events[:count]], self.rights_after(count).copy()
         other.serve(desk, 0, lambda people: other.toggle(people, chance))
         return other.placed()
@@ -434,7 +468,7 @@ class Scene:
             for keys, act in BEGUN:
                 people.type(2, people.does(2, keys, act))
                 people.settle(2)
-        for typist in range(len(MACROS)):
+        for typist in range(len(self.script.macros)):
             people.record(typist)
             people.letters(chance)
         for number in range(2 * plays):
@@ -518,10 +552,10 @@ class Found:
         self.look(desk)
 
     def look(self, desk):
-        self.is_sound = desk.ask("PRAGMA integrity_check") == [("ok",)]
-        rows = desk.ask("SELECT name, owner, owning_group, entries FROM buffer")
+        sound, rows, self.text = desk.answers("PRAGMA integrity_check", "SELECT name, owner, owning_group, entries FROM buffer",
+                                              "SELECT body FROM text JOIN buffer ON buffer.id = text.buffer WHERE name = 'pad'")
+        self.is_sound = sound == [("ok",)]
         self.rows = rows if isinstance(rows, str) else {name: (owner, owning, entries.split("\n")[:-1]) for name, owner, owning, entries in rows}
-        self.text = desk.ask("SELECT body FROM text JOIN buffer ON buffer.id = text.buffer WHERE name = 'pad'")
 
 
 def faults(scene, found, point):
@@ -587,7 +621,13 @@ class Cuts:
         self.wrong += bool(found)
         self.kinds.update(found)
         if found and len(self.examples) < 3:
-            self.examples.append((point, scene.calls[point].kind, way, found))
+            self.examples.append((scene.script.words, point, scene.calls[point].kind, way, found))
+
+    def add(self, other):
+        self.done += other.done
+        self.wrong += other.wrong
+        self.kinds.update(other.kinds)
+        self.examples = (self.examples + other.examples)[:3]
 
     def seen(self):
         return self.wrong, dict(self.kinds), self.examples
@@ -607,7 +647,7 @@ def files_after_cuts(scene, disk, count, chance):
 def cut(scene, desk, count, chance, end, uncounted=()):
     """Starts the program over what cuts leave."""
     cuts = Cuts()
-    for point, way, files in files_after_cuts(scene, Disk(desk.folder, uncounted), count, chance):
+    for point, way, files in files_after_cuts(scene, Disk(scene.folder, uncounted), count, chance):
         if time.time() > end:
             break
         desk.restore(files)
@@ -618,7 +658,7 @@ def cut(scene, desk, count, chance, end, uncounted=()):
 def cut_twice(scene, desk, count, chance, end):
     """Goes on over what cuts leave, and cuts the power in that five times."""
     cuts = Cuts()
-    for point, way, files in files_after_cuts(scene, Disk(desk.folder), count, chance):
+    for point, way, files in files_after_cuts(scene, Disk(scene.folder), count, chance):
         if time.time() > end:
             break
         desk.restore(files)
@@ -631,9 +671,26 @@ def cut_twice(scene, desk, count, chance, end):
         there = next(number for number in range(low, high + 1) if has_lines(scene.events[:number], found.lines))
         desk.restore(files)
         other = scene.continued(desk, there, chance)
-        for point, way, files in files_after_cuts(other, Disk(desk.folder, files=files), 5, chance):
+        for point, way, files in files_after_cuts(other, Disk(other.folder, files=files), 5, chance):
             desk.restore(files)
             cuts.note(other, point, way, faults(other, Found(desk), point))
+    return cuts
+
+
+def cut_share(how, scene, text, count, seed, *rest):
+    """One worker's share of the cuts of a record, over a folder of its own."""
+    with Desk(text) as desk:
+        return how(scene, desk, count, random.Random(seed), *rest)
+
+
+def cut_all(pool, workers, how, scenes, text, count, chance, *rest):
+    """Has the workers cut the power so often, each record as often as the others."""
+    shares = len(scenes) * workers
+    work = [pool.submit(cut_share, how, scenes[at % len(scenes)], text, count // shares + (at < count % shares), chance.random(), *rest)
+            for at in range(shares)]
+    cuts = Cuts()
+    for share in work:
+        cuts.add(share.result())
     return cuts
 
 
@@ -651,33 +708,48 @@ def library_of(folder):
     return library
 
 
+def record(desk, number, options, library, chance):
+    """A scene of the script of this number, recorded."""
+    scene = Scene(desk, library, number).played(desk, options.plays, chance)
+    if not scene.is_taken_over():
+        print("the log was not taken over while they typed: a longer record (--plays) has that")
+    expect(f"{scene.script.words}: the record of {len(scene.calls)} calls and {len(scene.events)} events makes the files",
+           is_whole(scene, desk.folder, desk.contents()))
+    return scene
+
+
 def main():
     parser = argparse.ArgumentParser(description=__doc__.splitlines()[0])
-    parser.add_argument("--cuts", type=int, default=200, help="how often the power is cut")
+    parser.add_argument("--cuts", type=int, default=2000, help="how often the power is cut")
     parser.add_argument("--plays", type=int, default=4, help="how often each macro is played in each of the runs that are recorded")
     parser.add_argument("--seed", type=int, default=random.randrange(1 << 30), help="what is drawn from")
     parser.add_argument("--seconds", type=int, default=3600, help="after which no more cuts are made")
+    parser.add_argument("--workers", type=int, default=2 * (os.cpu_count() or 1), help="how many folders are cut at a time")
     parser.add_argument("program", nargs="?", default=keep_desk.program)
     options = parser.parse_args()
     if not keep_desk.use(options.program):
         return 1
-    print(f"seed {options.seed}")
+    print(f"seed {options.seed}", flush=True)
+    if os.access(IN_MEMORY, os.W_OK):
+        tempfile.tempdir = IN_MEMORY
     chance, end = random.Random(options.seed), time.time() + options.seconds
-    with Desk() as desk:
-        with open(desk.at("long.txt"), "w") as file:
+    with Desk() as common, concurrent.futures.ProcessPoolExecutor(options.workers, multiprocessing.get_context("fork")) as pool:
+        with open(common.at("long.txt"), "w") as file:
             file.write("words and more words and a few of them\n" * (LONG // 39))
-        desk.write(config(buffer("notes", NOTES, text=SECRET), buffer("page", PAGE, text="A page."), buffer("pad", PAD, owner="cat", text="pad"),
-                          file_buffer("long", PAD, desk.at("long.txt"), "cat")))
-        scene = Scene(desk, library_of(desk.path)).played(desk, options.plays, chance)
-        if not scene.is_taken_over():
-            print("the log was not taken over while they typed: a longer record (--plays) has that")
-        expect(f"the record of {len(scene.calls)} calls and {len(scene.events)} events makes the files", is_whole(scene, desk.folder, desk.contents()))
-        cuts = cut(scene, desk, options.cuts, chance, end)
+        text = config(buffer("notes", NOTES, text=SECRET), buffer("page", PAGE, text="A page."), buffer("pad", PAD, owner="cat", text="pad"),
+                      file_buffer("long", PAD, common.at("long.txt"), "cat"))
+        library = library_of(common.path)
+        scenes = []
+        for number in range(len(SCRIPTS)):
+            with Desk(text) as desk:
+                scenes.append(record(desk, number, options, library, chance))
+        cuts = cut_all(pool, options.workers, cut, scenes, text, options.cuts, chance, end)
         expect(f"after {cuts.done} of {options.cuts} power cuts rights are those before or after an event, and all that was shown is there",
                cuts.done == options.cuts and cuts.wrong == 0, cuts.seen())
-        cuts = cut_twice(scene, desk, options.cuts // 20, chance, end)
-        expect(f"so they are after {cuts.done} second ones, over what a cut left", cuts.done >= options.cuts // 20 and cuts.wrong == 0, cuts.seen())
-        cuts = cut(scene, desk, 40, chance, end + 600, ("FDATASYNC",))
+        wanted = max(len(scenes) * options.workers, options.cuts // 40)
+        cuts = cut_all(pool, options.workers, cut_twice, scenes, text, wanted, chance, end)
+        expect(f"so they are after {cuts.done} second ones, over what a cut left", cuts.done >= wanted and cuts.wrong == 0, cuts.seen())
+        cuts = cut_all(pool, options.workers, cut, scenes, text, 80, chance, end + 600, ("FDATASYNC",))
         expect(f"where fdatasync counts for nothing, that is seen: {cuts.wrong} of {cuts.done} are wrong", cuts.wrong > cuts.done // 4, cuts.seen())
     return finish()
 
