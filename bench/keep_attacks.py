@@ -2,8 +2,7 @@
 and exchanged files, forged tables, links, audits beside a server that writes, and files that go while it serves.
 
 Each attack takes whether it is to be long, and a seed. A start or an audit refuses by name: status 1, one line, and no byte of the folder is
-changed, but that an empty log may get another head beside a file that is damaged. What is not refused shows all rights that screens had shown
-before."""
+changed, but that a start may give an empty log another head. What is not refused shows all rights that screens had shown before."""
 import concurrent.futures, fcntl, functools, itertools, multiprocessing, os, random, re, shutil, socket, sqlite3, stat, struct, subprocess, threading, time
 
 import keep_desk
@@ -12,6 +11,8 @@ from keep_desk import (DENY_BOB, DROP_FIRST, Desk, IS_ROOT, LISTING, NOBODY, NON
                        serving, shows, type_in)
 
 BASE, LOG = "journal.sqlite3", "journal.sqlite3-wal"
+# The bytes of a log that has nothing: its head, and the next frame's as far as its gate.
+EMPTY_LOG = 41
 RIGHTS = ("create", "kill", "list", "owner", "group", "is")
 EVERYBODY = ["ALLOW EVERYONE@ rwatdcCo"]
 # How many damaged folders are tried at a time.
@@ -65,9 +66,15 @@ def state_after_start(desk):
     return state
 
 
-def attack_folder(desk, contents, admitted, told, left):
+def changed_by_start(before, after):
+    """The files that a refused start has changed, but for the head of an empty log."""
+    is_empty = len(before.get(LOG, b"")) == EMPTY_LOG == len(after.get(LOG, b""))
+    return changed_files(before, {**after, LOG: before[LOG]} if is_empty else after)
+
+
+def attack_folder(desk, contents, admitted, told):
     """Whether a start refuses this folder, and what is wrong: an audit or a start that neither refuses nor has all that was shown, an audit that
-    changes a file, or a refusal that changes one of those that are to be left. What was shown is one of the states that are admitted."""
+    changes a file, or a refusal that does. What was shown is one of the states that are admitted."""
     desk.restore(contents)
     wrong = []
     status, text, words = audit_of(desk)
@@ -83,8 +90,8 @@ def attack_folder(desk, contents, admitted, told, left):
         return False, wrong + ([] if found in admitted else [("shown", found)])
     if not is_named(*found):
         wrong.append(("start", found))
-    changed = changed_files(contents, desk.contents())
-    if any(name in changed for name in left):
+    changed = changed_by_start(contents, desk.contents())
+    if changed:
         wrong.append(("the refused start wrote", changed))
     return True, wrong
 
@@ -95,14 +102,13 @@ def attack_copy(text, contents, *how):
         return attack_folder(desk, contents, *how)
 
 
-def expect_attacks(what, desk, states, told=(), left=(BASE, LOG), admitted=None):
-    """A row for many damaged folders, each with words that say what was done. An audit that is not refused has the lines that were told, and a
-    start that is refused leaves these files."""
+def expect_attacks(what, desk, states, told=(), admitted=None):
+    """A row for many damaged folders, each with words that say what was done. An audit that is not refused has the lines that were told."""
     wrong, refusals, count, states = [], 0, 0, iter(states)
     with open(desk.at("served.toml")) as file:
         text = file.read()
     while some := list(itertools.islice(states, 8 * WORKERS)):
-        work = [(words, workers().submit(attack_copy, text, contents, admitted or [SHOWN], told, left)) for words, contents in some]
+        work = [(words, workers().submit(attack_copy, text, contents, admitted or [SHOWN], told)) for words, contents in some]
         for words, one in work:
             is_refused, found = one.result()
             refusals += is_refused
@@ -375,6 +381,8 @@ def try_changed_bits(long, seed):
         bits = [(at, chance.randrange(8)) for at in first + others]
         states = (((at, bit), {**whole, LOG: flip_bit(log, at, bit)}) for at, bit in bits)
         expect_attacks("logs with a changed bit", desk, states, told)
+        states = [((at, byte), {**whole, LOG: log[:at] + bytes([byte]) + log[at + 1:]}) for at in sorted({0, *first}) for byte in (0, 255) if log[at] != byte]
+        expect_attacks("logs with a byte of 0 or 255 among the first 200", desk, states, told)
         if long:
             states = (((at, bit), {**whole, LOG: flip_bit(log, at, bit)}) for at in range(100) for bit in range(8))
             expect_attacks("logs with a changed bit of their first 100 bytes, each in turn", desk, states, told)
@@ -395,7 +403,7 @@ def try_torn_end(long, seed):
         wait_for_state(watch, lambda seen: not seen.denied)
         watch.kill(0)
         more = desk.contents()
-        expect("a start leaves a short log", len(empty[LOG]) < 200 and len(more[LOG]) > len(empty[LOG]), (len(before[LOG]), len(empty[LOG]), len(more[LOG])))
+        expect("a start leaves a short log", len(empty[LOG]) == EMPTY_LOG and len(more[LOG]) > len(empty[LOG]), (len(before[LOG]), len(empty[LOG]), len(more[LOG])))
         used = len(before[LOG].rstrip(b"\0"))
         zeros = [(count, {**before, LOG: before[LOG] + bytes(count)}) for count in (1, 7, 41, 512, 4096, 9000)]
         zeros += [(-count, {**before, LOG: before[LOG][:used] + bytes(count)}) for count in (16, 512, 5000) if used + count <= len(before[LOG])]
@@ -457,7 +465,7 @@ def try_other_moments(long, seed):
         fourth = files_after_start(desk)
         moments = {"first": first, "second": second, "third": third, "fourth": fourth}
         states = [((of_file, of_log), {BASE: moments[of_file][BASE], LOG: moments[of_log][LOG]}) for of_file in moments for of_log in moments]
-        expect_attacks("files beside the log of another moment", desk, states, left=[BASE], admitted=[BEGUN, SHOWN, AGAIN])
+        expect_attacks("files beside the log of another moment", desk, states, admitted=[BEGUN, SHOWN, AGAIN])
 
 
 def rollback_journal(old, new):
@@ -518,15 +526,15 @@ def try_changed_pages(long, seed):
             return {**whole, BASE: b"".join(some.get(at, page) for at, page in enumerate(pages))}
 
         zeroed = ((("page", at), with_pages({at: bytes(len(page))})) for at, page in enumerate(pages))
-        expect_attacks("files with a page of zeros", desk, zeroed, left=[BASE])
+        expect_attacks("files with a page of zeros", desk, zeroed)
         older = [(("page", at, number), with_pages({at: old[at]})) for number, old in enumerate(earlier) for at in range(min(len(old), len(pages)))
                  if old[at] != pages[at]]
-        expect_attacks("files with a page of an earlier copy", desk, older, left=[BASE])
+        expect_attacks("files with a page of an earlier copy", desk, older)
         pairs = [(at, (at + 1 + chance.randrange(len(pages) - 1)) % len(pages)) for at in range(len(pages))]
         if long:
             pairs = [(one, two) for two in range(len(pages)) for one in range(two)]
         exchanged = ((("pages", one, two), with_pages({one: pages[two], two: pages[one]})) for one, two in pairs)
-        expect_attacks("files with two pages exchanged", desk, exchanged, left=[BASE])
+        expect_attacks("files with two pages exchanged", desk, exchanged)
 
 
 def change_again(desk, times):
@@ -553,7 +561,7 @@ def try_taken_over(long, seed):
         expect("an audit of what a kill left writes nothing", (desk.contents(), times()) == before, changed_files(before[0], desk.contents()))
         serving(desk).kill()
         whole = desk.contents()
-        expect("after a start the log is short", len(whole[LOG]) < 200, len(whole[LOG]))
+        expect("after a start the log is short", len(whole[LOG]) == EMPTY_LOG, len(whole[LOG]))
         desk.restore({BASE: whole[BASE]})
         rows = desk.ask("SELECT user, what, buffer, detail FROM event ORDER BY number")
         expect("and the file alone has all events", rows == [fields(line) for line in text.splitlines()], rows[:2])
@@ -642,6 +650,7 @@ FORGED = [
 # What gives nobody a right: it is refused, or all that was shown holds.
 HARMLESS = [
     ("a text of a buffer that is none", "INSERT INTO text (buffer, modified, file, body) VALUES (1000, 1, 0, 'The text of none.')"),
+    ("the text of another buffer", f"UPDATE text SET modified = 1, body = (SELECT body FROM text WHERE buffer = {NOTES_ROW}) WHERE buffer <> {NOTES_ROW}"),
     ("an event of number 0", "INSERT INTO event (number, at, user, what, buffer, detail) VALUES (0, 0, 'ann', 'kill', 'notes', '')"),
     ("an event of a number below 0", "INSERT INTO event (number, at, user, what, buffer, detail) VALUES (-7, 0, 'ann', 'kill', 'notes', '')"),
     ("an end of a buffer that is none", EVENT_MORE("ann", "kill", "none", "")),
@@ -678,9 +687,9 @@ def try_forged_tables(long, seed):
             is_refused = is_named(got[0], got[2]) and desk.contents() == contents
             expect(f"forged, {what}: an audit refuses", is_done and is_refused, (is_done, got[0], got[2]))
             desk.restore(contents)
-            got = state_after_start(desk)
-            is_refused = not isinstance(got, State) and is_named(*got) and desk.contents() == contents
-            expect(f"forged, {what}: a start refuses", is_refused, (got, changed_files(contents, desk.contents())))
+            got, changed = state_after_start(desk), changed_by_start(contents, desk.contents())
+            is_refused = not isinstance(got, State) and is_named(*got) and not changed
+            expect(f"forged, {what}: a start refuses", is_refused, (got, changed))
         states = [(what, *forge(desk, whole, steps)) for what, *steps in HARMLESS]
         expect("each of the others is done", all(is_done for _, _, is_done in states), [what for what, _, is_done in states if not is_done])
         expect_attacks("other forgeries", desk, [(what, contents) for what, contents, _ in states], told)
@@ -745,8 +754,12 @@ def try_two_names(long, seed):
         type_in(ann, go_to("page") + command("set-group", "staff") + LISTING)
         expect("the first one goes on", see(ann, " page cat:staff"), listed(ann))
         server.kill()
-        state = state_after_start(desk)
-        expect("and what it showed holds", isinstance(state, State) and state.page == ("cat", "staff"), state)
+        found = state_after_start(desk)
+        is_held = found.page == ("cat", "staff") if isinstance(found, State) else is_named(*found)
+        expect("with both names a start has what was shown, or refuses by name", is_held, found)
+        os.remove(os.path.join(other, BASE))
+        found = state_after_start(desk)
+        expect("and with one it has what was shown", isinstance(found, State) and found.page == ("cat", "staff"), found)
 
 
 def try_reader_alone(long, seed):
