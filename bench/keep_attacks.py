@@ -6,7 +6,7 @@ changed, but that a start may give an empty log another head. What is not refuse
 import concurrent.futures, fcntl, functools, itertools, multiprocessing, os, random, re, shutil, socket, sqlite3, stat, struct, subprocess, threading, time
 
 import keep_desk
-from keep_desk import (DENY_BOB, DROP_FIRST, Desk, IS_ROOT, LISTING, NOBODY, NONE, NOTES, OWNERS_LIST, PATIENCE, ROWS, SECRET, Server,
+from keep_desk import (DENY_BOB, DROP_FIRST, Desk, IS_ROOT, LISTING, NOBODY, NONE, NOTES, OWNERS_LIST, PAGE, PATIENCE, ROWS, SECRET, Server,
                        State, Watch, buffer, changed_files, command, config, create_detail, expect, fields, file_buffer, go_to, listed, miss, seal, see,
                        serving, shows, type_in)
 
@@ -537,6 +537,29 @@ def try_changed_pages(long, seed):
         expect_attacks("files with two pages exchanged", desk, exchanged)
 
 
+def try_changed_file(long, seed):
+    """A bit of the file is changed, it is cut off or longer, or one of its pages is zeroed, with a log beside it and without."""
+    chance = random.Random(seed)
+    with Desk() as desk:
+        make_changes(desk, 6)
+        files_after_start(desk)
+        change_again(desk, 1)
+        beside = desk.contents()
+        for words, whole, shown in (("with a log", beside, AGAIN), ("with an empty log", files_after_start(desk), AGAIN)):
+            told = rights_lines(desk.audit()[1])
+            base, pages = whole[BASE], pages_of(whole[BASE])
+            places = list(range(100)) if long else chance.sample(range(100), 15)
+            places += [at * len(pages[0]) + chance.randrange(len(page)) for at, page in enumerate(pages)]
+            bits = [(at, chance.randrange(8)) for at in places] + [(20, bit) for bit in range(8)]
+            states = [((at, bit), {**whole, BASE: flip_bit(base, at, bit)}) for at, bit in bits]
+            expect_attacks(f"files {words} with a changed bit", desk, states, told, [shown])
+            lengths = [len(pages[0]) * at + more for at in range(len(pages) + 1) for more in (-1, 0, 1) if 2 <= len(pages[0]) * at + more]
+            states = [(length, {**whole, BASE: base[:length].ljust(length, b"\0")}) for length in lengths]
+            expect_attacks(f"files {words} that are cut off or longer", desk, states, told, [shown])
+            states = [(at, {**whole, BASE: b"".join(bytes(len(page)) if at == number else page for number, page in enumerate(pages))}) for at in range(len(pages))]
+            expect_attacks(f"files {words} with a page of zeros", desk, states, told, [shown])
+
+
 def change_again(desk, times):
     """Gives bob his access back and takes it again, and the page to others."""
     watch = Watch(desk)
@@ -693,6 +716,100 @@ def try_forged_tables(long, seed):
         states = [(what, *forge(desk, whole, steps)) for what, *steps in HARMLESS]
         expect("each of the others is done", all(is_done for _, _, is_done in states), [what for what, _, is_done in states if not is_done])
         expect_attacks("other forgeries", desk, [(what, contents) for what, contents, _ in states], told)
+
+
+# Entries for a list that is nearly full: 64 are the most.
+MANY = [f"DENY {name} {letters}" for name in ("bob", "cat") for letters in ("r", "w", "a", "t", "d", "c", "C", "o")] * 3
+
+
+def try_true_tables(long, seed):
+    """What people, options and a changed CONFIG do leaves tables that each audit and start takes, and the rights that were there."""
+    three = [buffer("notes", NOTES, text=SECRET), buffer("page", PAGE, text="A page."), buffer("plan", EVERYBODY, text="A plan.")]
+    with Desk(config(*three)) as desk:
+        def taken(what, *options, rows=()):
+            server = Server(desk, *options)
+            if server.port is None:
+                expect(f"{what}: a start takes it", False, server.ended())
+                return
+            ann = server.join("ann")
+            type_in(ann, LISTING)
+            found = {}
+            for name, owners in rows:
+                see(ann, f" {name} {owners}", SOON)
+                found = listed(ann)
+            server.kill()
+            wanted = {name: tuple((owners + ":").split(":")[:2]) for name, owners in rows}
+            got = audit_of(desk)
+            numbers = [int(line.split("\t")[1]) for line in got[1].splitlines()]
+            expect(f"{what}: a start and an audit take it", {name: found.get(name) for name in wanted} == wanted and got[0] == 0 and got[2] == "" and
+                   numbers == list(range(1, len(numbers) + 1)), (found, got[0], got[2], len(numbers)))
+
+        server = serving(desk)
+        ann, bob = server.join("ann"), server.join("bob")
+        type_in(bob, go_to("mine") + DROP_FIRST)
+        type_in(bob, "".join(go_to(name) for name in ("one", "two", "three")) + "\x18ktwo\r" + go_to("two") + "\x18kthree\r")
+        type_in(ann, go_to("page") + "".join(command("acl-insert", entry, 1) for entry in MANY) + LISTING)
+        see(ann, " plan ")
+        time.sleep(1)
+        server.kill()
+        lists = dict(desk.ask("SELECT name, entries FROM buffer"))
+        expect("a list is empty, and one is long", lists["mine"] == "" and lists["page"].count("\n") == len(MANY) + len(PAGE), {name: len(text) for name, text in lists.items()})
+        taken("an empty list, a long one, and names that were used again", rows=[("notes", "ann"), ("plan", "ann")])
+        server = serving(desk)
+        cat = server.join("cat")
+        for _ in range(3 if long else 2):
+            type_in(cat, go_to("plan") + "\x18kplan\r" + go_to("plan") + command("set-owner", "bob") + command("set-group", "desk") + command("acl-insert", "ALLOW ann t"))
+            time.sleep(0.3)
+        time.sleep(1)
+        server.kill()
+        taken("a buffer of CONFIG that was killed and made again", rows=[("notes", "ann"), ("plan", "bob:desk")])
+        taken("an owner by --owner", "--owner", "page", "cat", rows=[("page", "cat")])
+        taken("--forget of a buffer", "--forget", "page", rows=[("page", "ann")])
+        taken("--forget of one that was made again", "--forget", "plan", rows=[("plan", "ann")])
+        taken("--forget and --owner of two", "--forget", "page", "--owner", "notes", "bob", rows=[("page", "ann"), ("notes", "bob")])
+        server = serving(desk)
+        cat = server.join("cat")
+        type_in(cat, "\x18kplan\r" + LISTING)
+        expect("cat kills a buffer of CONFIG", see(cat, "-Buffers") and miss(cat, " plan "), listed(cat))
+        server.kill()
+        taken("a buffer that was killed", rows=[("page", "ann")])
+        taken("--forget of a buffer that was killed", "--forget", "plan", rows=[("plan", "ann")])
+        expect("which tells an end by nobody", (NONE, "kill", "plan", NONE) in desk.events("--buffer", "plan")[-2:], desk.events("--buffer", "plan")[-3:])
+        desk.write(config(three[2], buffer("new", EVERYBODY, text="New."), three[0], users=("ann", "bob", "cat", "eve")))
+        taken("a CONFIG of another order, with a buffer more and one less", rows=[("new", "ann"), ("page", "ann")])
+        for _ in range(3):
+            taken("the next start", rows=[("new", "ann"), ("page", "ann")])
+
+
+# What makes tables of version 3 ones of version 2, whose events had `-` for nobody and told no rights of a new buffer, and those ones of version 1.
+TO_2 = ["UPDATE event SET user = '-' WHERE user = ''", "UPDATE event SET detail = '' WHERE what IN ('create', 'kill')",
+        "UPDATE event SET detail = '-' || detail WHERE what = 'group' AND detail LIKE ' -> %'", "UPDATE format SET version = 2"]
+TO_1 = [*TO_2, "DROP TABLE text", "UPDATE format SET version = 1"]
+
+
+def try_older_versions(long, seed):
+    """A journal of version 1 or 2 is served with its rights, and goes on as one of version 3."""
+    with Desk() as desk:
+        make_changes(desk, 2)
+        whole = files_after_start(desk)
+        for version, steps in ((2, TO_2), (1, TO_1)):
+            contents, is_done = forge(desk, whole, steps)
+            desk.restore(contents)
+            before = len(desk.ask("SELECT number FROM event"))
+            got = audit_of(desk)
+            told = [fields(line) for line in got[1].splitlines()]
+            wanted = [(NONE, "is", name, detail) for name, detail in (
+                ("notes", create_detail(["DENY bob rwa"] + NOTES)), ("page", create_detail(PAGE, "cat", "desk")), ("made2", create_detail([OWNERS_LIST])))]
+            expect(f"version {version}: an audit tells what each buffer is", is_done and got[0] == 0 and told[before:] == wanted, (got[0], got[2], told[-3:]))
+            expect("and writes nothing", desk.contents() == contents, changed_files(contents, desk.contents()))
+            for times in range(2):
+                state = state_after_start(desk)
+                expect(f"version {version}: what was shown holds", state == SHOWN if isinstance(state, State) else False, state)
+            change_again(desk, 1)
+            state = state_after_start(desk)
+            expect(f"version {version}: and what was shown after it", state == AGAIN if isinstance(state, State) else False, state)
+            got = audit_of(desk)
+            expect("and an audit is whole", got[0] == 0 and [int(line.split("\t")[1]) for line in got[1].splitlines()] == list(range(1, 1 + len(got[1].splitlines()))), got[0::2])
 
 
 def kind_of(path):
@@ -926,9 +1043,26 @@ def copy_file(desk):
     os.rename(desk.at("copy"), desk.base)
 
 
+def copy_log(desk):
+    path = os.path.join(desk.folder, LOG)
+    shutil.copy(path, desk.at("copy"))
+    os.rename(desk.at("copy"), path)
+
+
+def link_log(desk):
+    path = os.path.join(desk.folder, LOG)
+    os.rename(path, desk.at("moved-log"))
+    os.symlink(desk.at("moved-log"), path)
+
+
+def remove_folder(desk):
+    shutil.rmtree(desk.folder)
+
+
 GONE = [("the file is removed", remove_file), ("the log is removed", remove_log), ("the folder is moved", move_folder),
         ("the folder is moved, and an empty one is there", replace_folder), ("the folder is moved, and a copy is there", copy_folder),
-        ("a copy takes the place of the file", copy_file)]
+        ("a copy takes the place of the file", copy_file), ("a copy takes the place of the log", copy_log),
+        ("the log is behind a link", link_log), ("the folder is removed", remove_folder)]
 
 
 def try_gone(long, seed):
@@ -948,8 +1082,29 @@ def try_gone(long, seed):
                 desk.folder = desk.at("moved")
                 state = state_after_start(desk)
                 expect(f"{what}: where it is now, all that was shown holds", isinstance(state, State) and state.denied, state)
+    with Desk() as desk:
+        os.mkdir(desk.at("above"))
+        desk.folder = desk.at("above/journal")
+        os.mkdir(desk.folder, 0o700)
+        server = serving(desk)
+        os.rename(desk.at("above"), desk.at("elsewhere"))
+        got = server.ended(NOTICED)
+        expect(f"the folder above is moved: it ends with 4 within {NOTICED} seconds", got == (4, "journal failed\n"), got)
+    with Desk() as desk:
+        server = serving(desk)
+        ann, bob = server.join("ann"), server.join("bob")
+        type_in(ann, DENY_BOB)
+        see(bob, "[no read")
+        os.link(desk.base, desk.at("second"))
+        os.remove(desk.base)
+        os.rename(desk.at("second"), desk.base)
+        os.chmod(desk.base, 0o400)
+        time.sleep(1.5)
+        type_in(ann, DROP_FIRST)
+        expect("a file that is moved and put back at once: it serves on", see(bob, SECRET) and server.process.poll() is None, server.told())
+        server.kill()
 
 
-ATTACKS = [try_remade, try_remade_rights, try_name_of_killed, try_odd_names, try_dashes, try_taken_over, try_missing_files, try_forged_tables,
-           try_other_kinds, try_two_names, try_reader_alone, try_files_beside, try_audits_beside, try_reader_stops, try_gone, try_torn_end,
-           try_changed_bits, try_changed_frames, try_other_moments, try_changed_pages]
+ATTACKS = [try_remade, try_remade_rights, try_name_of_killed, try_odd_names, try_dashes, try_true_tables, try_older_versions, try_taken_over,
+           try_missing_files, try_forged_tables, try_other_kinds, try_two_names, try_reader_alone, try_files_beside, try_audits_beside,
+           try_reader_stops, try_gone, try_torn_end, try_changed_bits, try_changed_frames, try_other_moments, try_changed_file, try_changed_pages]
