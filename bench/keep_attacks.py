@@ -758,7 +758,7 @@ def try_true_tables(long, seed):
         server = serving(desk)
         cat = server.join("cat")
         for _ in range(3 if long else 2):
-            type_in(cat, go_to("plan") + "\x18kplan\r" + go_to("plan") + command("set-owner", "bob") + command("set-group", "desk") + command("acl-insert", "ALLOW ann t"))
+            type_in(cat, go_to("plan") + "\x18kplan\r" + go_to("plan") + command("acl-insert", EVERYBODY[0]) + command("set-group", "desk") + command("set-owner", "bob"))
             time.sleep(0.3)
         time.sleep(1)
         server.kill()
