@@ -772,7 +772,11 @@ def try_memory():
         time.sleep(made * 0.05 + 2)
         type_in(bob, "kept ")
         is_typed = see(ann, "kept The door")
-        type_in(bob, go_to("long") + "kept ")
+        type_in(bob, go_to("long"))
+        # Each letter is kept by itself, with the whole text.
+        for letter in "kept ":
+            type_in(bob, letter)
+            time.sleep(1.5)
         is_typed = is_typed and see(bob, "kept words and")
         type_in(bob, go_to("notes"))
         type_in(ann, DENY_BOB)
