@@ -8,7 +8,7 @@ the program over each, in some folders at a time, and looks at its screens, at w
 after an event, and never between; what a screen had shown is there. Some cuts come after a start over what another cut left. A row of its own
 counts no fdatasync, and is to find faults. It ends with status 0 if all is as it should be.
 """
-import argparse, bisect, collections, concurrent.futures, copy, multiprocessing, os, random, struct, subprocess, sys, tempfile, time
+import argparse, bisect, collections, concurrent.futures, copy, multiprocessing, os, random, shutil, struct, subprocess, sys, tempfile, time
 
 import keep_desk
 from keep_desk import (DENY_BOB, DROP_FIRST, Desk, LISTING, NOTES, OWNERS_LIST, PAGE, SECRET, Server, TOP, buffer, command, config, create_detail,
@@ -25,8 +25,8 @@ LONG = 900_000
 # How long a screen is waited for that may never come.
 SOON = 5
 RUNS = 3
-# Where the folders are, if it is there: what a sync does is recorded, and its time is not asked for.
-IN_MEMORY = "/dev/shm"
+# Where the folders are, if there is room for so many bytes of each worker: what a sync does is recorded, and its time is not asked for.
+IN_MEMORY, MOST = "/dev/shm", 100_000_000
 # How what was not synced is left: nothing of it, any sectors of it, these with parts of sectors, garbage where a file grew, all of it.
 WAYS = {"nothing": 4, "sectors": 8, "torn": 4, "garbage": 2, "all": 1}
 
@@ -708,6 +708,10 @@ def library_of(folder):
     return library
 
 
+def has_memory_for(count):
+    return os.access(IN_MEMORY, os.W_OK) and shutil.disk_usage(IN_MEMORY).free > count * MOST
+
+
 def record(desk, number, options, library, chance):
     """A scene of the script of this number, recorded."""
     scene = Scene(desk, library, number).played(desk, options.plays, chance)
@@ -730,8 +734,6 @@ def main():
     if not keep_desk.use(options.program):
         return 1
     print(f"seed {options.seed}", flush=True)
-    if os.access(IN_MEMORY, os.W_OK):
-        tempfile.tempdir = IN_MEMORY
     chance, end = random.Random(options.seed), time.time() + options.seconds
     with Desk() as common, concurrent.futures.ProcessPoolExecutor(options.workers, multiprocessing.get_context("fork")) as pool:
         with open(common.at("long.txt"), "w") as file:
@@ -739,6 +741,8 @@ def main():
         text = config(buffer("notes", NOTES, text=SECRET), buffer("page", PAGE, text="A page."), buffer("pad", PAD, owner="cat", text="pad"),
                       file_buffer("long", PAD, common.at("long.txt"), "cat"))
         library = library_of(common.path)
+        if has_memory_for(options.workers):
+            tempfile.tempdir = IN_MEMORY
         scenes = []
         for number in range(len(SCRIPTS)):
             with Desk(text) as desk:
