@@ -259,7 +259,7 @@ fn make(
     }
 }
 
-// Makes these changes, one after another; more than two are too many for the tests.
+// Makes these changes, one after another.
 fn make_all(
     rows: &mut Vec<Row>,
     texts: &mut Vec<Option<Page>>,
@@ -271,15 +271,10 @@ fn make_all(
     ensures rows { OnOk result (rows.new.items ≡ rows_changed changes.now rows.old.items) }
     ensures texts { OnOk result (texts.new.items ≡ texts_changed changes.now texts.old.items) }
 {
-    match changes {
-        [] => Ok(()),
-        [one] => make(rows, texts, words, left, user, one),
-        [one, two] => {
-            make(rows, texts, words, left, user, one)?;
-            make(rows, texts, words, left, user, two)
-        }
-        _ => Err(JournalFault),
+    for change in changes {
+        make(rows, texts, words, left, user, change)?;
     }
+    Ok(())
 }
 
 impl Journal for Book {
