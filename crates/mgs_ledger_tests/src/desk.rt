@@ -1,5 +1,5 @@
 // A ledger in memory, with a clock that stands still.
-use mgs_ledger::{Filter, Ledger, LedgerFault, audit};
+use mgs_ledger::{AuditFault, Filter, Ledger, LedgerFault, audit};
 use sqlite::{Alter, Connection, MemStore};
 use std::alloc::Global;
 use std::cell::Cell;
@@ -10,12 +10,17 @@ use std::time::{Clock, Duration};
 // 2026-11-29T01:22:33Z.
 const START: u64 = 1_795_915_353;
 
-/// A clock that stands still until it is set, and a count of lines.
+// The checksum is multiplied by this before each byte.
+const FACTOR: u64 = 0x0000_0100_0000_01b3;
+
+/// A clock that stands still until it is set, and a count and a checksum of what ledgers print.
 #[derive(Drop)]
 pub(crate) struct Dial {
     seconds: Cell<u64>,
-    // How many lines were written beside it.
+    // How many lines were printed.
     lines: Cell<u64>,
+    // The checksum of the bytes that were printed.
+    sum: Cell<u64>,
 }
 
 impl Dial {
@@ -24,12 +29,18 @@ impl Dial {
         Dial {
             seconds: Cell::new(START),
             lines: Cell::new(0),
+            sum: Cell::new(0),
         }
     }
 
     /// How many lines the writers of ledgers with this clock took.
     pub(crate) fn line_count(&self) -> u64 {
         self.lines.get()
+    }
+
+    /// The checksum of what the writers of ledgers with this clock took.
+    pub(crate) fn sum(&self) -> u64 {
+        self.sum.get()
     }
 
     /// Sets the clock to so many seconds after it began.
@@ -53,17 +64,22 @@ impl Clock for Dial {
     }
 }
 
-/// A writer that counts lines.
+/// A writer that counts lines, and adds bytes to a checksum.
 #[derive(Drop)]
 pub(crate) struct Pen<'a> {
-    lines: &'a Cell<u64>,
+    dial: &'a Dial,
 }
 
 impl Write for Pen<'_> {
     fn write(&mut self, buf: &[u8]) -> io::Result<usize> {
         for byte in buf {
+            let sum = self.dial.sum.get();
+            self.dial
+                .sum
+                .set(sum.wrapping_mul(FACTOR).wrapping_add(u64::from(*byte)));
             if *byte == b'\n' {
-                self.lines.set(self.lines.get().saturating_add(1));
+                let lines = self.dial.lines.get();
+                self.dial.lines.set(lines.saturating_add(1));
             }
         }
         Ok(buf.len())
@@ -100,7 +116,7 @@ pub(crate) fn resume(
     conn: Connection<MemStore>,
     dial: &Dial,
 ) -> Result<Desk<'_>, LedgerFault> {
-    resume_over(alloc, conn, dial, Pen { lines: &dial.lines })
+    resume_over(alloc, conn, dial, Pen { dial })
 }
 
 /// The ledger again, by its tables.
@@ -111,6 +127,23 @@ pub(crate) fn again<'a>(alloc: Global, dial: &'a Dial, desk: Desk<'a>) -> Result
 /// A ledger that begins.
 pub(crate) fn begin(alloc: Global, dial: &Dial) -> Result<Desk<'_>, Fail> {
     Ok(resume(alloc, tables(alloc)?, dial)?)
+}
+
+// The checksum of the lines that an audit of any tables prints.
+fn audit_sum_over<S: Alter>(alloc: Global, conn: &mut Connection<S>) -> Result<u64, AuditFault> {
+    let dial = Dial::new();
+    let all = Filter {
+        user: None,
+        buffer: None,
+        since: None,
+    };
+    audit(conn, alloc, &all, &mut Pen { dial: &dial })?;
+    Ok(dial.sum())
+}
+
+/// The checksum of the lines that an audit of a ledger that ends prints.
+pub(crate) fn audit_sum(alloc: Global, desk: Desk<'_>) -> Result<u64, Fail> {
+    Ok(audit_sum_over(alloc, &mut desk.close()?)?)
 }
 
 /// The lines that an audit of these tables prints.

@@ -1,8 +1,9 @@
 // When what is gathered is committed.
-use crate::calls::{add, come, name, tell, tick};
-use crate::desk::{Dial, begin, last_lines};
+use crate::calls::{add, come, name, set_text, tell, tick};
+use crate::desk::{Dial, audit_sum, begin, last_lines};
 use mgs_journal::{Journal, Told};
 use mgs_model::{Decision, Right};
+use std::alloc::Global;
 use std::test::Fail;
 
 // Tells that bob came, that he was denied two rights, and three ends.
@@ -72,5 +73,24 @@ fn what_is_gathered_is_committed_a_second_later(rt: HostRuntime) -> Result<(), F
     let dial = Dial::new();
     let mut desk = begin(rt.alloc(), &dial)?;
     assert!(rt; tick_twice(&mut desk, &dial)? == (0, 1));
+    Ok(())
+}
+
+// Prints events with a change, with a tick a second later, and with a text.
+fn print_all_kinds<J: Journal>(desk: &mut J, dial: &Dial, alloc: Global) -> Result<(), Fail> {
+    tell_all(desk)?;
+    add(desk, "notes", "ann", "-", "ALLOW OWNER@ rw")?;
+    tick_twice(desk, dial)?;
+    come(desk, 1)?;
+    set_text(desk, alloc, 0, "a", false, 0)
+}
+
+#[test]
+fn a_ledger_prints_the_lines_of_an_audit(rt: HostRuntime) -> Result<(), Fail> {
+    let dial = Dial::new();
+    let mut desk = begin(rt.alloc(), &dial)?;
+    print_all_kinds(&mut desk, &dial, rt.alloc())?;
+    let sum = audit_sum(rt.alloc(), desk)?;
+    assert!(rt; dial.line_count() == 9 && dial.sum() == sum);
     Ok(())
 }

@@ -12,7 +12,7 @@ fn kept_again(alloc: Global, dial: &Dial, desk: Desk<'_>) -> Result<String, Fail
     kept(alloc, &again(alloc, dial, desk)?)
 }
 
-// Puts a row into the tables as it is.
+// Puts a row into the tables. Its event says that ann owns the buffer, with the group `staff` and the list `ALLOW bob r`.
 fn insert(
     conn: &mut Connection<MemStore>,
     owner: &str,
@@ -30,7 +30,7 @@ fn insert(
         user: "ann",
         what: "create",
         buffer: "notes",
-        detail: "",
+        detail: "ann:staff ALLOW bob r",
     };
     mgs_tables::put_changes(conn, &[RowChange::Add(rights)], &[event])?;
     Ok(())

@@ -129,6 +129,7 @@ fn a_text_that_does_not_read_is_refused(rt: HostRuntime) -> Result<(), Fail> {
     let mut conn = tables(rt.alloc())?;
     conn.execute_batch(
         "INSERT INTO buffer (id, name, owner, owning_group, entries) VALUES (1, 'notes', 'ann', '', ''); \
+         INSERT INTO event (at, user, what, buffer, detail) VALUES (0, 'ann', 'create', 'notes', 'ann: -'); \
          INSERT INTO text (buffer, modified, file, body) VALUES (1, 2, 0, 'a')",
     )?;
     match resume(rt.alloc(), conn, &dial) {
