@@ -83,3 +83,19 @@ fn a_buffer_is_killed_and_made_again_by_two_keys(rt: HostRuntime) {
     );
     assert!(rt; is_bobs_own(&server) && !server.has_failed());
 }
+
+// The changes of one event are as many as it makes.
+#[test]
+fn one_key_makes_three_buffers(rt: HostRuntime) {
+    let mut server = serve(rt.alloc(), &rt);
+    let bob = sit(&mut server, "bob", &rt);
+    told(
+        &mut server,
+        bob,
+        b"\x18(\x18bx\r\x18by\r\x18bz\r\x18)\x18kx\r\x18ky\r\x18kz\r",
+    );
+    assert!(rt;
+        told(&mut server, bob, b"\x18e")
+            == "bob makes x\nbob makes y\nbob makes z\nx is as its file \n"
+    );
+}

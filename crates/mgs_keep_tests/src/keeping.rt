@@ -5,26 +5,33 @@ use mgs_buffers::Buffers;
 use mgs_core::Core;
 use mgs_engine::Engine;
 use mgs_keep::Kept;
-use mgs_store::RefusingStore;
+use mgs_marks::PlainMarked;
+use mgs_model::SessionId;
+use mgs_store::{RefusingStore, Store, StoreFault};
 use mgs_wire::{Refusal, Served, Sessions};
 use std::alloc::Global;
 use std::process::Abort;
 
 // The buffer `notes` of ann, which bob may read, with a journal that takes so many calls.
 fn serve(alloc: Global, calls: usize, rt: &impl Abort) -> Server {
-    serve_with(alloc, Book::new(alloc, calls), rt)
+    serve_with(alloc, Book::new(alloc, calls), RefusingStore::new(), rt)
 }
 
-// The same with this journal.
-fn serve_with(alloc: Global, book: Book, rt: &impl Abort) -> Server {
+// The same with this journal and this store.
+fn serve_with<S: Store + Drop>(
+    alloc: Global,
+    book: Book,
+    store: S,
+    rt: &impl Abort,
+) -> Kept<PlainMarked, S, Book> {
     let list = list_of(&["ALLOW OWNER@ rwatdcCo", "ALLOW bob rt"], rt);
     let mut buffers = Buffers::new(alloc);
     assert!(rt;
         buffers
-            .add("notes", "ann", None, list, &['n'], false)
+            .add("notes", "ann", None, list, &['n'], true)
             .is_ok()
     );
-    let Ok(core) = Core::new(alloc, users(alloc, rt), buffers, RefusingStore::new()) else {
+    let Ok(core) = Core::new(alloc, users(alloc, rt), buffers, store) else {
         panic!(rt; "no memory");
     };
     let Ok(engine) = Engine::new(alloc, core) else {
@@ -122,7 +129,8 @@ fn texts_are_kept_as_they_stand(rt: HostRuntime) {
 // Where no text is due, none is kept.
 #[test]
 fn a_text_that_is_not_due_is_not_kept(rt: HostRuntime) {
-    let mut server = serve_with(rt.alloc(), Book::without_texts(rt.alloc()), &rt);
+    let book = Book::without_texts(rt.alloc());
+    let mut server = serve_with(rt.alloc(), book, RefusingStore::new(), &rt);
     let ann = sit(&mut server, "ann", &rt);
     let before = server.journal().words().len();
     press(&mut server, ann, b"ab");
@@ -162,4 +170,48 @@ fn each_text_that_changed_is_kept_in_its_turn(rt: HostRuntime) {
             assert!(rt; server.journal().words().get(before..) == Some(*told));
         }
     }
+}
+
+// A store that takes each text.
+#[derive(Clone, Copy)]
+struct TakingStore;
+
+impl Store for TakingStore {
+    ghost use Rattle.std.specs.Prelude.{None};
+
+    ghost failed = { λ store. 0 };
+
+    ghost accepted = { λ store. None };
+
+    fn save(&mut self, _name: &str, _text: &[char]) -> Result<(), StoreFault> {
+        Ok(())
+    }
+
+    fn faults(&self) -> u64 {
+        0
+    }
+}
+
+// Types into the buffer, saves it, and returns what the journal is told by that. Then the turn ends.
+fn save<S: Store + Drop>(server: &mut Kept<PlainMarked, S, Book>, ann: SessionId) -> &str {
+    let before = server.journal().words().len();
+    press(server, ann, b"x\x18\x13");
+    let end = server.journal().words().len();
+    server.tell_ended();
+    server.journal().words().get(before..end).unwrap_or("?")
+}
+
+// The text of a buffer that is saved is kept at once, and no second time.
+#[test]
+fn a_saved_text_is_kept_at_once(rt: HostRuntime) {
+    let book = Book::new(rt.alloc(), 100);
+    let mut server = serve_with(rt.alloc(), book, TakingStore, &rt);
+    let ann = sit(&mut server, "ann", &rt);
+    assert!(rt; save(&mut server, ann) == "ann saves notes\nnotes is as its file xn\n");
+    assert!(rt;
+        server
+            .journal()
+            .words()
+            .ends_with("ann saves notes\nnotes is as its file xn\n")
+    );
 }

@@ -1,11 +1,12 @@
 // Those who sit at the terminals of a server, and what they press.
 use crate::book::Book;
 use mgs_acl::{List, read_entry};
+use mgs_journal::Journal;
 use mgs_keep::Kept;
 use mgs_marks::PlainMarked;
 use mgs_model::{Keyed, SessionId};
 use mgs_policy::Directory;
-use mgs_store::RefusingStore;
+use mgs_store::{RefusingStore, Store};
 use mgs_wire::Sessions;
 use std::alloc::Global;
 use std::process::Abort;
@@ -34,16 +35,24 @@ pub(crate) fn users(alloc: Global, rt: &impl Abort) -> Directory {
     directory
 }
 
-/// A session of a user.
-pub(crate) fn sit(server: &mut Server, user: &str, rt: &impl Abort) -> SessionId {
+/// Opens a session of a user.
+pub(crate) fn sit<S: Store + Drop, J: Journal + Drop>(
+    server: &mut Kept<PlainMarked, S, J>,
+    user: &str,
+    rt: &impl Abort,
+) -> SessionId {
     match server.open(user, 6, 20) {
         Ok(id) => id,
         Err(_) => panic!(rt; "not opened"),
     }
 }
 
-/// Presses keys, as far as they are done.
-pub(crate) fn press(server: &mut Server, id: SessionId, keys: &[u8]) -> Keyed {
+/// Presses keys until one is not done.
+pub(crate) fn press<S: Store + Drop, J: Journal + Drop>(
+    server: &mut Kept<PlainMarked, S, J>,
+    id: SessionId,
+    keys: &[u8],
+) -> Keyed {
     for key in keys {
         let answer = server.byte(id, *key);
         if answer != Keyed::Done {
