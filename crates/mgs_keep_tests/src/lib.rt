@@ -11,6 +11,8 @@ mod keeping;
 #[cfg(test)]
 mod office;
 #[cfg(test)]
+mod real_tables;
+#[cfg(test)]
 mod room;
 #[cfg(test)]
 mod starting;
