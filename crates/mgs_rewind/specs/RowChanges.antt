@@ -1,5 +1,5 @@
 -- What one event does to the rights that the events before it tell.
-use Rattle.std.specs.Prelude.{ℕ, Bool, true, not, ◌||◌, ◌+◌, ◌==◌, List, [], ◌∷◌, ◌++◌, Option, None, Some, length, take, drop, position, remove, slice_get, is_some, bytes_eq, codes, option_map, option_and_then, if◌then◌else◌}
+use Rattle.std.specs.Prelude.{ℕ, Bool, true, not, ◌||◌, ◌==◌, List, [], ◌∷◌, ◌++◌, Option, None, Some, length, take, drop, position, remove, slice_get, is_some, bytes_eq, codes, option_map, option_and_then, if◌then◌else◌}
 use Rattle.std.specs.List.{before_first, after_first}
 use Rattle.std.specs.Prelude.{slice_set}
 use Rattle.mgs_rewind.specs.declared.part.Part.{Part}
