@@ -1,0 +1,96 @@
+-- Worked events, computed by the definitions.
+use Rattle.std.proofs.Common.{◌≡◌, ℕ, List, [], ◌∷◌, Some, None, refl, pos, true, false}
+use Rattle.std.specs.Prelude.{codes}
+use Rattle.mgs_rewind.specs.Account.{is_next, rows_told, wrong_after}
+use Rattle.mgs_rewind.specs.RowChanges.{ToldRights}
+
+abbrev notes : List ℕ
+notes = codes "notes"
+
+abbrev row : List ℕ → List ℕ → List ℕ → ToldRights
+row owner group list = record { name = notes; owner = owner; group = group; list = list }
+
+abbrev anns : ToldRights
+anns = row (codes "ann") [] (codes "ALLOW ann rw; DENY bob r")
+
+-- a row whose rights are not known
+abbrev unknown : ToldRights
+unknown = row [] [] []
+
+create_first : rows_told (codes "create") notes (codes "ann: ALLOW ann rw; DENY bob r") [] ≡ Some (anns ∷ [])
+create_first = refl
+
+create_with_group : rows_told (codes "create") notes (codes "ann:staff -") [] ≡ Some (row (codes "ann") (codes "staff") (codes "-") ∷ [])
+create_with_group = refl
+
+create_twice : rows_told (codes "create") notes (codes "ann: -") (anns ∷ []) ≡ None
+create_twice = refl
+
+create_without_detail : rows_told (codes "create") notes [] [] ≡ Some (unknown ∷ [])
+create_without_detail = refl
+
+create_without_list : rows_told (codes "create") notes (codes "ann:staff ") [] ≡ None
+create_without_list = refl
+
+create_without_space : rows_told (codes "create") notes (codes "ann:staff") [] ≡ None
+create_without_space = refl
+
+create_without_colon : rows_told (codes "create") notes (codes "ann -") [] ≡ None
+create_without_colon = refl
+
+is_of_unknown : rows_told (codes "is") notes (codes "ann: ALLOW ann rw; DENY bob r") (unknown ∷ []) ≡ Some (anns ∷ [])
+is_of_unknown = refl
+
+is_without_row : rows_told (codes "is") notes (codes "ann: ALLOW ann rw; DENY bob r") [] ≡ Some (anns ∷ [])
+is_without_row = refl
+
+is_of_known : rows_told (codes "is") notes (codes "ann: -") (anns ∷ []) ≡ None
+is_of_known = refl
+
+is_without_detail : rows_told (codes "is") notes [] (unknown ∷ []) ≡ None
+is_without_detail = refl
+
+kill_row : rows_told (codes "kill") notes [] (anns ∷ []) ≡ Some []
+kill_row = refl
+
+kill_without_row : rows_told (codes "kill") (codes "plans") [] (anns ∷ []) ≡ Some (anns ∷ [])
+kill_without_row = refl
+
+list_change : rows_told (codes "list") notes (codes "ALLOW ann rw; DENY bob r -> -") (anns ∷ []) ≡ Some (row (codes "ann") [] (codes "-") ∷ [])
+list_change = refl
+
+list_of_other : rows_told (codes "list") notes (codes "ALLOW ann rw -> -") (anns ∷ []) ≡ None
+list_of_other = refl
+
+list_to_nothing : rows_told (codes "list") notes (codes "ALLOW ann rw; DENY bob r -> ") (anns ∷ []) ≡ None
+list_to_nothing = refl
+
+list_of_unknown : rows_told (codes "list") notes (codes "- -> ALLOW bob r") (unknown ∷ []) ≡ Some (unknown ∷ [])
+list_of_unknown = refl
+
+list_without_row : rows_told (codes "list") notes (codes "- -> ALLOW bob r") [] ≡ None
+list_without_row = refl
+
+owner_change : rows_told (codes "owner") notes (codes "ann -> bob") (anns ∷ []) ≡ Some (row (codes "bob") [] (codes "ALLOW ann rw; DENY bob r") ∷ [])
+owner_change = refl
+
+group_from_none : rows_told (codes "group") notes (codes " -> staff") (anns ∷ []) ≡ Some (row (codes "ann") (codes "staff") (codes "ALLOW ann rw; DENY bob r") ∷ [])
+group_from_none = refl
+
+group_to_none : rows_told (codes "group") notes (codes "staff -> ") (row (codes "ann") (codes "staff") (codes "-") ∷ []) ≡ Some (row (codes "ann") [] (codes "-") ∷ [])
+group_to_none = refl
+
+other_event : rows_told (codes "denied") notes (codes "ann: -") (anns ∷ []) ≡ Some (anns ∷ [])
+other_event = refl
+
+next_number : is_next (pos 6) (pos 7) ≡ true
+next_number = refl
+
+number_gap : is_next (pos 6) (pos 8) ≡ false
+number_gap = refl
+
+same_number : is_next (pos 6) (pos 6) ≡ false
+same_number = refl
+
+first_wrong : wrong_after (Some (pos 3)) false (pos 7) ≡ Some (pos 3)
+first_wrong = refl
