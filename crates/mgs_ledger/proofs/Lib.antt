@@ -1,2 +1,4 @@
+mod Agreeing
 mod Lists
 mod Names
+mod Refusals

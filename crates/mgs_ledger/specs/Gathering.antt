@@ -1,6 +1,11 @@
 -- The rows of events that were gathered.
-use Rattle.std.specs.Prelude.{◌≡◌, ℕ, List, [], ◌∷◌, Option, None, Some, codes}
+use Rattle.std.specs.Prelude.{ℕ, List, [], ◌++◌, Option, None, Some, codes, decimal}
 use Rattle.sqlite.specs.Order.{Row}
+use Rattle.mgs_model.specs.Rights.{right_name}
+use Rattle.mgs_model.specs.declared.entry.Decision.{Decision}
+use Rattle.mgs_model.specs.declared.entry.Decision.TheVariants.{Granted, DeniedBy, NotGranted}
+use Rattle.mgs_wire.specs.declared.refusal.Refusal.{Refusal}
+use Rattle.mgs_wire.specs.declared.refusal.Refusal.TheVariants.{Line, NoUser, Ticket, Size, Full, Short}
 use Rattle.mgs_journal.specs.declared.Told.{Told}
 use Rattle.mgs_journal.specs.declared.Told.TheVariants.{Came, Refused, RefusedUnnamed, Quit, Closed, FellBehind, Denied, Saved}
 use Rattle.mgs_ledger.specs.declared.batch.Gathered.{Gathered}
@@ -37,12 +42,30 @@ told_buffer (FellBehind user) = None
 told_buffer (Denied user decision) = None
 told_buffer (Saved user buffer) = Some buffer
 
--- the row says when it was, who did what, and to which buffer
-abbrev pub IsTold : Gathered → Row → Type 0
-IsTold e row = (detail : List ℕ) × (row ≡ event_row e.at (told_user e.told) (told_what e.told) (text_or_empty (told_buffer e.told)) detail)
+abbrev pub refusal_word : Refusal → List ℕ
+refusal_word Line = codes "no login line"
+refusal_word NoUser = codes "no user"
+refusal_word Ticket = codes "ticket"
+refusal_word Size = codes "size"
+refusal_word Full = codes "full"
+refusal_word Short = codes "no memory"
 
--- a row for each, in their order
-abbrev pub AreTold : List Gathered → List Row → Type 0
-AreTold [] rows = rows ≡ []
-AreTold (e ∷ es) [] = ⊥
-AreTold (e ∷ es) (row ∷ rows) = IsTold e row × AreTold es rows
+-- the right that was denied, and the entry that denied it, counted from 1
+abbrev pub decision_detail : Decision → List ℕ
+decision_detail Granted = []
+decision_detail (DeniedBy entry bit) = right_name bit ++ codes " entry " ++ decimal entry
+decision_detail (NotGranted bit) = right_name bit ++ codes " no entry"
+
+abbrev pub told_detail : Told → List ℕ
+told_detail (Came user) = []
+told_detail (Refused user cause) = refusal_word cause
+told_detail (RefusedUnnamed cause) = refusal_word cause
+told_detail (Quit user) = codes "quit"
+told_detail (Closed user) = codes "closed"
+told_detail (FellBehind user) = codes "slow"
+told_detail (Denied user decision) = decision_detail decision
+told_detail (Saved user buffer) = []
+
+-- the row of an event: its time, its user, what happened, the buffer and the detail
+abbrev pub told_row : Gathered → Row
+told_row e = event_row e.at (told_user e.told) (told_what e.told) (text_or_empty (told_buffer e.told)) (told_detail e.told)

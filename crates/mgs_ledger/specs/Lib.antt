@@ -1,6 +1,8 @@
+pub mod Agreement
 pub mod Gathering
 pub mod Keeping
 pub mod Reading
+pub mod Refused
 pub mod Snapshots
 pub mod Spelling
 pub mod Taken

@@ -1,5 +1,5 @@
 -- What is read back of rights and texts: what spells the rows, to the letter.
-use Rattle.std.specs.Prelude.{◌≡◌, ℕ, ℤ, pos, List, [], ◌∷◌, map, length, Option}
+use Rattle.std.specs.Prelude.{◌≡◌, ℕ, ℤ, pos, List, [], ◌∷◌, map}
 use Rattle.sqlite.specs.declared.types.Value.TheVariants.{Int}
 use Rattle.sqlite.specs.Order.{Row}
 use Rattle.sqlite.specs.Store.{Ghosts}
@@ -10,8 +10,7 @@ use Rattle.mgs_tables.specs.Texts.{select_rights, select_newest}
 use Rattle.mgs_tables.specs.Reading.{ShowsEvents, ShowsNumber}
 use Rattle.mgs_tables.specs.declared.rows.Event.{Event}
 use Rattle.mgs_journal.specs.Rows.{KeptRights, births_in_rows}
-use Rattle.mgs_journal.specs.Texts.{KeptText}
-use Rattle.mgs_ledger.specs.Snapshots.{AreTextsRead}
+use Rattle.mgs_rewind.specs.Account.{Account, accounted, first_account}
 use Rattle.mgs_ledger.specs.Spelling.{values_of}
 use Rattle.mgs_ledger.specs.Taken.{all_noted, last_number}
 
@@ -39,17 +38,12 @@ ArePages {S} g last (page ∷ pages) old new =
 abbrev pub HasNewest : {S : Type 0} → Ghosts S → Held S → Held S → Type 0
 HasNewest g old new = HasCleanDisk (state g new) → (number : ℤ) × ShowsNumber select_newest [] (state g old) (state g new) number
 
--- the events of all pages say which names are taken
-abbrev pub AreAllNoted : {S : Type 0} → Ghosts S → Held S → Held S → List (List ℕ) → Type 0
-AreAllNoted g old new names = (pages : List (List Event)) × ArePages g (pos 0) pages old new × (names ≡ all_noted [] pages)
+-- the account after the events of all pages
+abbrev pub all_accounted : Account → List (List Event) → Account
+all_accounted account [] = account
+all_accounted account (page ∷ pages) = all_accounted (accounted account page) pages
 
--- first the rights are read, then the texts, as many, and then the events, which say which names are taken
-pub record AreResumed {S : Type 0} (g : Ghosts S) (old new : Held S) (all : List KeptRights) (kept : List (Option KeptText)) (taken : List (List ℕ)) : Type 0 where
-  pub mid : Held S
-  pub later : Held S
-  pub last : Held S
-  pub rights : HasCleanDisk (state g mid) → AreRead (state g old) (state g mid) all
-  pub texts : HasCleanDisk (state g later) → AreTextsRead (state g mid) (state g later) kept
-  pub count : length kept ≡ length all
-  pub names : AreAllNoted g later last taken
-  pub newest : HasNewest g last new
+-- the events of all pages say which names are taken, and tell rights
+abbrev pub AreAllRead : {S : Type 0} → Ghosts S → Held S → Held S → List (List ℕ) → Account → Type 0
+AreAllRead g old new names account =
+    (pages : List (List Event)) × ArePages g (pos 0) pages old new × (names ≡ all_noted [] pages) × (account ≡ all_accounted first_account pages)

@@ -10,7 +10,7 @@ use Rattle.mgs_tables.specs.Both.{RanWith}
 use Rattle.mgs_tables.specs.Rows.{text_columns}
 use Rattle.mgs_tables.specs.Texts.{replace_text, select_texts}
 use Rattle.mgs_ledger.specs.declared.batch.Gathered.{Gathered}
-use Rattle.mgs_ledger.specs.Gathering.{AreTold}
+use Rattle.mgs_ledger.specs.Gathering.{told_row}
 
 abbrev pub flag : Bool → ℤ
 flag true = pos 1
@@ -22,9 +22,7 @@ text_values t = Int (flag t.modified) ∷ Int t.file ∷ Text t.body ∷ []
 
 -- a statement gave the buffer of the name this text, and with it what was gathered, in one transaction that is the last
 pub record IsTextPut {S : Type 0} (g : Ghosts S) (name : List ℕ) (text : KeptText) (gathered : List Gathered) (old new : Held S) : Type 0 where
-  pub events : List Row
-  pub told : AreTold gathered events
-  pub ran : RanWith g replace_text (Text name ∷ text_values text) events old (state g new).committed
+  pub ran : RanWith g replace_text (Text name ∷ text_values text) (map told_row gathered) old (state g new).committed
 
 -- what is read of a buffer that has a text, and of one that has none yet
 abbrev pub read_values : Option KeptText → Row

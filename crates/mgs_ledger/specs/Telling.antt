@@ -1,5 +1,5 @@
 -- What is gathered of what is told, and what each act commits of it.
-use Rattle.std.specs.Prelude.{◌≡◌, ◌⊎◌, ℕ, ℤ, Bool, true, false, nat_lt, cond, List, [], ◌∷◌, ◌++◌, length, map, Option, None, Some, slice_get, codes}
+use Rattle.std.specs.Prelude.{◌≡◌, ◌⊎◌, ℕ, ℤ, Bool, true, false, nat_lt, cond, List, [], ◌∷◌, ◌++◌, length, map, Option, None, Some, slice_get, IsTrue}
 use Rattle.sqlite.specs.Order.{Row}
 use Rattle.sqlite.specs.Store.{Ghosts}
 use Rattle.sqlite.specs.State.{HasCleanDisk}
@@ -7,6 +7,7 @@ use Rattle.sqlite.specs.Held.{Held, state}
 use Rattle.mgs_tables.specs.Changes.{RanChanges, Statement}
 use Rattle.mgs_journal.specs.Acts.{Act, Alter, Forget, Put, Tell, Tick}
 use Rattle.mgs_journal.specs.Rows.{KeptRights}
+use Rattle.mgs_journal.specs.Texts.{KeptText}
 use Rattle.mgs_journal.specs.declared.Told.{Told}
 use Rattle.mgs_journal.specs.declared.Told.TheVariants as told
 use Rattle.mgs_journal.specs.declared.change.Change.{Change}
@@ -14,7 +15,7 @@ use Rattle.mgs_ledger.specs.declared.batch.Gathered.{Gathered}
 use Rattle.mgs_ledger.specs.Keeping.{event_row, events_of, forget_events, forget_statements, statements_of}
 use Rattle.mgs_ledger.specs.Snapshots.{IsTextPut}
 use Rattle.mgs_ledger.specs.Spelling.{text_or_empty}
-pub use Rattle.mgs_ledger.specs.Gathering.{AreTold}
+use Rattle.mgs_ledger.specs.Gathering.{told_row}
 
 -- what is left of what is gathered once there is room for one more: all is committed where 256 are gathered
 abbrev pub made_room : List Gathered → List Gathered
@@ -25,16 +26,17 @@ abbrev pub IsGathered : Told → List Gathered → List Gathered → Type 0
 IsGathered told old new = (at : ℤ) × (new ≡ old ++ record { at = at; told = told } ∷ [])
 
 -- the statements, the events that were gathered and then these are one transaction, which is the last
-pub record IsCommitted {S : Type 0} (g : Ghosts S) (statements : List Statement) (gathered : List Gathered) (events : List Row) (old new : Held S) : Type 0 where
-  pub rows : List Row
-  pub told : AreTold gathered rows
-  pub ran : RanChanges g statements (rows ++ events) old (state g new).committed
+abbrev pub IsCommitted : {S : Type 0} → Ghosts S → List Statement → List Gathered → List Row → Held S → Held S → Type 0
+IsCommitted g statements gathered events old new = RanChanges g statements (map told_row gathered ++ events) old (state g new).committed
 
 -- what was gathered is a transaction by itself
-pub record AreCommitted {S : Type 0} (g : Ghosts S) (gathered : List Gathered) (old new : Held S) : Type 0 where
-  pub rows : List Row
-  pub told : AreTold gathered rows
-  pub ran : RanChanges g [] rows old (state g new).committed
+abbrev pub AreCommitted : {S : Type 0} → Ghosts S → List Gathered → Held S → Held S → Type 0
+AreCommitted g gathered old new = RanChanges g [] (map told_row gathered) old (state g new).committed
+
+-- the tables are as they were, or have what was gathered and no more
+abbrev pub IsNotTaken : {S : Type 0} → Ghosts S → List Gathered → Held S → Held S → Type 0
+IsNotTaken g gathered old new =
+    HasCleanDisk (state g new) → IsTrue (state g new).is_open → ((state g new).committed ≡ (state g old).committed) ⊎ AreCommitted g gathered old new
 
 -- the changes of rows, with what was gathered, at one time
 abbrev pub IsAltered : {S : Type 0} → Ghosts S → Option (List ℕ) → List Change → List KeptRights → List Gathered → Held S → Held S → Type 0
@@ -43,6 +45,10 @@ IsAltered g user changes rows gathered old new = (at : ℤ) × IsCommitted g (st
 -- a name is forgotten, with what was gathered
 abbrev pub IsForgotten : {S : Type 0} → Ghosts S → List ℕ → List KeptRights → List Gathered → Held S → Held S → Type 0
 IsForgotten g name rows gathered old new = (at : ℤ) × IsCommitted g (forget_statements name rows) gathered (forget_events at name rows) old new
+
+-- the buffer of the row at an index was given this text, with what was gathered
+pub record IsPutAt {S : Type 0} (g : Ghosts S) (place : ℕ) (text : KeptText) (rows : List KeptRights) (gathered : List Gathered) (old new : Held S) : Type 0 where
+  pub put : (k : KeptRights) → slice_get rows place ≡ Some k → IsTextPut g k.rules.name text gathered old new
 
 -- nothing is committed if there is room, else all that was gathered
 abbrev pub MakesRoom : {S : Type 0} → Ghosts S → Bool → List Gathered → Held S → Held S → Type 0
@@ -58,7 +64,6 @@ IsTicked g was is old new = ((is ≡ was) × (new ≡ old)) ⊎ ((is ≡ []) × 
 abbrev pub IsDone : {S : Type 0} → Ghosts S → Act → List KeptRights → List Gathered → List Gathered → Held S → Held S → Type 0
 IsDone g (Alter user changes) rows was is old new = (is ≡ []) × (HasCleanDisk (state g new) → IsAltered g user changes rows was old new)
 IsDone g (Forget name) rows was is old new = (is ≡ []) × (HasCleanDisk (state g new) → IsForgotten g name rows was old new)
-IsDone g (Put place text) rows was is old new =
-    (is ≡ []) × (HasCleanDisk (state g new) → (k : KeptRights) → slice_get rows place ≡ Some k → IsTextPut g k.rules.name text was old new)
+IsDone g (Put place text) rows was is old new = (is ≡ []) × (HasCleanDisk (state g new) → IsPutAt g place text rows was old new)
 IsDone g (Tell told) rows was is old new = IsGathered told (made_room was) is × MakesRoom g (nat_lt (length was) 256) was old new
 IsDone g Tick rows was is old new = IsTicked g was is old new

@@ -1,10 +1,11 @@
 // What is gathered before it is committed.
-ghost use Rattle.std.specs.Prelude.{◌≡◌, map, IfOk, OnOk};
+ghost use Rattle.std.specs.Prelude.{◌≡◌, map, string_bytes, IfOk, OnErr, OnOk};
 ghost use Rattle.sqlite.specs.State.{HasCleanDisk};
 ghost use Rattle.sqlite.specs.Held.{state};
+ghost use Rattle.mgs_ledger.specs.Refused.{KeepsTables};
 ghost use Rattle.mgs_tables.specs.Changes.{RanChanges};
 ghost use Rattle.mgs_tables.specs.Rows.{event_values};
-ghost use Rattle.mgs_ledger.specs.Gathering.{AreTold, IsTold, told_buffer, told_user, told_what};
+ghost use Rattle.mgs_ledger.specs.Gathering.{decision_detail, refusal_word, told_buffer, told_detail, told_row, told_user, told_what};
 ghost use Rattle.mgs_ledger.specs.Keeping.{planned_statement, word_values};
 
 use crate::ledger_fault::LedgerFault;
@@ -50,7 +51,9 @@ impl Words {
     }
 }
 
-fn decision_detail(alloc: Global, decision: Decision) -> Result<String, AllocError> {
+fn decision_detail(alloc: Global, decision: Decision) -> Result<String, AllocError>
+    ensures { IfOk result (λ text. string_bytes text ≡ decision_detail decision) }
+{
     match decision {
         Decision::Granted => Ok(String::new(alloc)),
         Decision::DeniedBy { entry, bit } => {
@@ -64,7 +67,9 @@ fn decision_detail(alloc: Global, decision: Decision) -> Result<String, AllocErr
     }
 }
 
-fn refusal_word(cause: Refusal) -> &'static str {
+fn refusal_word(cause: Refusal) -> &'static str
+    ensures { result.now ≡ refusal_word cause }
+{
     match cause {
         Refusal::Line => "no login line",
         Refusal::NoUser => "no user",
@@ -75,16 +80,18 @@ fn refusal_word(cause: Refusal) -> &'static str {
     }
 }
 
-fn detail_of(alloc: Global, told: Told) -> Result<String, AllocError> {
+fn detail_of(alloc: Global, told: Told) -> Result<String, AllocError>
+    ensures { IfOk result (λ text. string_bytes text ≡ told_detail told) }
+{
     match told {
         Told::Came(_) | Told::Saved(_, _) => Ok(String::new(alloc)),
         Told::Refused(_, cause) | Told::RefusedUnnamed(cause) => String::from_str(
             alloc,
             refusal_word(cause),
         ),
-        Told::Quit(_) => format!(in alloc; "quit"),
-        Told::Closed(_) => format!(in alloc; "closed"),
-        Told::FellBehind(_) => format!(in alloc; "slow"),
+        Told::Quit(_) => String::from_str(alloc, "quit"),
+        Told::Closed(_) => String::from_str(alloc, "closed"),
+        Told::FellBehind(_) => String::from_str(alloc, "slow"),
         Told::Denied(_, decision) => decision_detail(alloc, decision),
     }
 }
@@ -126,7 +133,7 @@ fn buffer_of(told: Told) -> Option<Name>
 }
 
 fn words_of(alloc: Global, gathered: &Gathered) -> Result<Words, AllocError>
-    ensures { IfOk result (λ words. IsTold gathered.now (word_values words)) }
+    ensures { IfOk result (λ words. word_values words ≡ told_row gathered.now) }
 {
     Ok(Words {
         at: gathered.at,
@@ -139,7 +146,7 @@ fn words_of(alloc: Global, gathered: &Gathered) -> Result<Words, AllocError>
 
 /// What the rows of the events are made of.
 pub(crate) fn all_words(alloc: Global, gathered: &[Gathered]) -> Result<Vec<Words>, LedgerFault>
-    ensures { IfOk result (λ all. AreTold gathered.now (map word_values all.items)) }
+    ensures { IfOk result (λ all. map word_values all.items ≡ map told_row gathered.now) }
 {
     let mut all = Vec::with_capacity(alloc, gathered.len())?;
     for event in gathered {
@@ -166,8 +173,9 @@ pub(crate) fn put_all<S: Alter>(
     planned: &[PlannedRow],
     all: &[Words],
 ) -> Result<(), LedgerFault>
-    ensures { HasCleanDisk (state S.Store conn.new)
+    ensures done { HasCleanDisk (state S.Store conn.new)
         → OnOk result (RanChanges S.Store (map planned_statement planned.now) (map word_values all.now) conn.old (state S.Store conn.new).committed) }
+    ensures failed { OnErr result (KeepsTables S.Store conn.old conn.new) }
 {
     let changes = lent_rows(alloc, planned)?;
     let rows = rows_of(alloc, all)?;

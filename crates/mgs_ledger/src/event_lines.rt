@@ -1,5 +1,11 @@
 // The lines of all events.
+ghost use Rattle.std.specs.Prelude.{OnOk};
+ghost use Rattle.sqlite.specs.Held.{Held};
+ghost use Rattle.mgs_ledger.specs.Agreement.{HasAgreed};
+
+use crate::agreement::test_tables;
 use crate::event_line::line_of;
+use crate::ledger_fault::LedgerFault;
 use mgs_tables::{Event, EventRow, read_events};
 use sqlite::{Alter, Connection, Error as SqliteError};
 use std::alloc::{AllocError, Global};
@@ -23,6 +29,9 @@ pub struct Filter<'a> {
 /// Why not all lines are printed.
 #[derive(Debug, Drop, Error)]
 pub enum AuditFault {
+    /// The table of buffers does not have the rights that the events tell, or it does not read.
+    #[error("{0}")]
+    Ledger(LedgerFault),
     /// The tables fail.
     #[error("{0}")]
     Tables(SqliteError),
@@ -32,6 +41,12 @@ pub enum AuditFault {
     /// Memory was refused.
     #[error("no memory")]
     Short,
+}
+
+impl From<LedgerFault> for AuditFault {
+    fn from(fault: LedgerFault) -> AuditFault {
+        AuditFault::Ledger(fault)
+    }
 }
 
 impl From<SqliteError> for AuditFault {
@@ -107,13 +122,17 @@ fn print_page<W: Write>(
 ///
 /// # Errors
 ///
-/// `Tables` where the tables fail, `Output` where the writer does, and `Short` for want of memory. The lines up to there are printed.
+/// `Ledger` if the table of buffers does not have the rights that the events tell, or does not read: no line is printed then. `Tables` if
+/// the tables fail, `Output` if the writer does, and `Short` for want of memory: the lines up to there are printed.
 pub fn audit<S: Alter, W: Write>(
     conn: &mut Connection<S>,
     alloc: Global,
     filter: &Filter<'_>,
     out: &mut W,
-) -> Result<(), AuditFault> {
+) -> Result<(), AuditFault>
+    ensures { OnOk result ((mid : Held _) × HasAgreed S.Store conn.old mid) }
+{
+    test_tables(conn, alloc)?;
     let mut last = 0;
     for _ in 0..u64::MAX {
         let events = read_events(conn, alloc, last, PAGE)?;

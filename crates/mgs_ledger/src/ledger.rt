@@ -1,21 +1,23 @@
 // The ledger.
-ghost use Rattle.std.specs.Prelude.{◌≡◌, ◌<◌, [], Ok, Some, IfOk, IfSome, OnErr, OnOk};
-ghost use Rattle.std.specs.Prelude.{length, position, slice_get, slice_set};
+ghost use Rattle.std.specs.Prelude.{◌≡◌, ◌<◌, [], Ok, Some, is_err, true, IfOk, IfSome, OnErr, OnOk};
+ghost use Rattle.mgs_ledger.specs.Refused.{KeepsTables};
+ghost use Rattle.std.specs.Prelude.{length, position, slice_set};
 ghost use Rattle.sqlite.specs.State.{HasCleanDisk};
 ghost use Rattle.sqlite.specs.Held.{state};
 ghost use Rattle.mgs_journal.specs.Kept.{place_of, without};
 ghost use Rattle.mgs_journal.specs.Rows.{rules_in_rows};
 ghost use Rattle.mgs_ledger.specs.Keeping.{is_row_of};
-ghost use Rattle.mgs_ledger.specs.Reading.{AreResumed};
-ghost use Rattle.mgs_ledger.specs.Snapshots.{IsTextPut};
-ghost use Rattle.mgs_ledger.specs.Telling.{AreCommitted, IsForgotten};
+ghost use Rattle.mgs_ledger.specs.Agreement.{AreResumed};
+ghost use Rattle.mgs_ledger.specs.Telling.{AreCommitted, IsForgotten, IsPutAt};
 
+use crate::agreement::test_account;
+use crate::history::{History, read_history};
 use crate::ledger_fault::LedgerFault;
 use crate::log::Log;
 use crate::snapshot::{SnapshotValue, snapshot_at, snapshot_in};
 use crate::stored_rights::read_values;
 use crate::stored_texts::read_snapshots;
-use crate::taken::{free, has_name, read_taken};
+use crate::taken::{free, has_name};
 use crate::value::{RightsValue, birth_at, lent_at};
 use mgs_buffers::Rights;
 use mgs_journal::{Change, Journal, JournalFault, Snapshot, Told};
@@ -45,8 +47,9 @@ impl<S: Alter + Drop, C: Clock + Drop, W: Write + Drop> Ledger<S, C, W> {
     ///
     /// # Errors
     ///
-    /// `Row` where what is kept of a buffer does not read, `Text` where what is kept of a text does not, `Tables` where they fail, and
-    /// `Short` for want of memory. Nothing is changed then.
+    /// `Row` if what is kept of a buffer does not read, `Text` if what is kept of a text does not, `Event` if an event does not follow from
+    /// those before it, `Differs` if the rights of a buffer are not those that its events tell, `Tables` if the tables fail, and `Short` for
+    /// want of memory. Nothing is changed then.
     pub fn resume(
         mut conn: Connection<S>,
         alloc: Global,
@@ -57,7 +60,9 @@ impl<S: Alter + Drop, C: Clock + Drop, W: Write + Drop> Ledger<S, C, W> {
     {
         let rows = read_values(&mut conn, alloc)?;
         let texts = read_snapshots(&mut conn, alloc, rows.len())?;
-        let taken = read_taken(&mut conn, alloc)?;
+        let history = read_history(&mut conn, alloc)?;
+        test_account(alloc, &history.account, rows.as_slice())?;
+        let History { taken, account: _ } = history;
         let log = Log::new(conn, alloc, clock, out)?;
         Ok(Ledger {
             log,
@@ -97,8 +102,9 @@ fn set_text_at<S: Alter + Drop, C: Clock + Drop, W: Write + Drop>(
     ensures texts { OnOk result (texts.new.items ≡ slice_set texts.old.items i (Some value)) }
     ensures stays { OnErr result (texts.new.items ≡ texts.old.items) }
     ensures gathered { OnOk result (log.new.gathered.items ≡ []) }
+    ensures failed { OnErr result (KeepsTables S.Store log.old.conn log.new.conn) }
     ensures committed { HasCleanDisk (state S.Store log.new.conn)
-        → OnOk result ((k : _) → slice_get rows.now i ≡ Some k → IsTextPut S.Store k.rules.name value log.old.gathered.items log.old.conn log.new.conn) }
+        → OnOk result (IsPutAt S.Store i value rows.now log.old.gathered.items log.old.conn log.new.conn) }
 {
     if i >= texts.len() {
         return Err(LedgerFault::Other);
@@ -135,6 +141,7 @@ fn forget_row<S: Alter + Drop, C: Clock + Drop, W: Write + Drop>(
     ensures rows { OnOk result (rows.new.items ≡ without (place_of name.now (rules_in_rows rows.old.items)) rows.old.items) }
     ensures texts { OnOk result (texts.new.items ≡ without (place_of name.now (rules_in_rows rows.old.items)) texts.old.items) }
     ensures gathered { OnOk result (log.new.gathered.items ≡ []) }
+    ensures failed { OnErr result (KeepsTables S.Store log.old.conn log.new.conn) }
     ensures committed { HasCleanDisk (state S.Store log.new.conn)
         → OnOk result (IsForgotten S.Store name.now rows.old.items log.old.gathered.items log.old.conn log.new.conn) }
 {
@@ -146,7 +153,8 @@ fn forget_row<S: Alter + Drop, C: Clock + Drop, W: Write + Drop>(
 
 // What the gate is told of a fault.
 fn journal_answer(answer: Result<(), LedgerFault>) -> Result<(), JournalFault>
-    ensures { OnOk result (answer ≡ Ok tt) }
+    ensures ok { OnOk result (answer ≡ Ok tt) }
+    ensures err { OnErr result (is_err answer ≡ true) }
 {
     match answer {
         Ok(()) => Ok(()),
@@ -156,7 +164,7 @@ fn journal_answer(answer: Result<(), LedgerFault>) -> Result<(), JournalFault>
 
 impl<S: Alter + Drop, C: Clock + Drop, W: Write + Drop> Journal for Ledger<S, C, W> {
     ghost use Rattle.mgs_model.specs.Access.{is_among};
-    ghost use Rattle.mgs_ledger.specs.Telling.{IsDone};
+    ghost use Rattle.mgs_ledger.specs.Telling.{IsDone, IsNotTaken};
 
     ghost rows = { λ l. l.rows.items };
 
@@ -167,7 +175,7 @@ impl<S: Alter + Drop, C: Clock + Drop, W: Write + Drop> Journal for Ledger<S, C,
     ghost does = { λ old act new.
         IsDone S.Store act old.rows.items old.log.gathered.items new.log.gathered.items old.log.conn new.log.conn };
 
-    ghost fails = { λ old new. Unit {0} };
+    ghost fails = { λ old new. IsNotTaken S.Store old.log.gathered.items old.log.conn new.log.conn };
 
     fn is_taken(&self, name: &Name) -> bool {
         has_name(self.taken.as_slice(), name)

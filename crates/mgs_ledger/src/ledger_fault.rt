@@ -10,6 +10,12 @@ pub enum LedgerFault {
     /// What is kept of the buffer of this name is no rights: its name, its owner, its owning group or an entry of its list does not read.
     #[error("buffer {0}: not as it was kept")]
     Row(String),
+    /// The event of this number does not follow from those before it: its number is not the next, or what it says was there was not.
+    #[error("event {0}: does not follow from those before it")]
+    Event(i64),
+    /// The rights of the buffer of this name are not those that its events tell.
+    #[error("buffer {0}: not as its events say")]
+    Differs(String),
     /// What is kept of a text is none: whether it is modified is not told by 0 or 1, or there are more or fewer than buffers.
     #[error("a text: not as it was kept")]
     Text,
@@ -31,6 +37,11 @@ pub enum LedgerFault {
 }
 
 impl From<AllocError> for LedgerFault {
+    ghost use Rattle.std.specs.Prelude.{◌≡◌};
+    ghost use Rattle.mgs_ledger.specs.declared.ledger_fault.LedgerFault.TheVariants.{Short};
+
+    ghost from_gives = { λ error fault. fault ≡ Short };
+
     fn from(_error: AllocError) -> LedgerFault {
         LedgerFault::Short
     }

@@ -2,12 +2,15 @@
 //!
 //! [`Ledger`] is a `Journal`. The changes of one event are committed with their events in one transaction before the call returns. What else is
 //! told is gathered, and committed with the next change or text, when [`GATHER_LIMIT`] are gathered, or a second later. Each event is a line on a
-//! writer once it is committed. [`audit`] prints the lines of all events again. A text is kept whole, in the place of the one before.
+//! writer once it is committed. [`audit`] prints the lines of all events again. Both refuse tables whose rights are not those that the events
+//! tell. A text is kept whole, in the place of the one before.
 #![tactic(auto)]
 
+mod agreement;
 mod batch;
 mod event_line;
 mod event_lines;
+mod history;
 mod ledger;
 mod ledger_fault;
 mod log;
@@ -19,6 +22,7 @@ mod stored_texts;
 mod taken;
 mod value;
 
+pub use agreement::test_tables;
 pub use event_lines::{AuditFault, Filter, audit};
 pub use ledger::Ledger;
 pub use ledger_fault::LedgerFault;

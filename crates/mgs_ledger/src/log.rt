@@ -1,5 +1,5 @@
 // What happened, as it is told, gathered and committed.
-ghost use Rattle.std.specs.Prelude.{◌≡◌, ℤ, [], None, OnOk, IfOk, map, length, nat_lt};
+ghost use Rattle.std.specs.Prelude.{◌≡◌, ℤ, [], None, OnOk, OnErr, IfOk, map, length, nat_lt};
 ghost use Rattle.sqlite.specs.State.{HasCleanDisk};
 ghost use Rattle.sqlite.specs.Held.{state};
 ghost use Rattle.mgs_journal.specs.Changes.{rows_changed, texts_changed};
@@ -7,7 +7,8 @@ ghost use Rattle.mgs_tables.specs.Changes.{RanChanges};
 ghost use Rattle.mgs_ledger.specs.Keeping.{kill_events, planned_statement, word_values};
 ghost use Rattle.mgs_ledger.specs.Reading.{HasNewest};
 ghost use Rattle.mgs_ledger.specs.Snapshots.{IsTextPut};
-ghost use Rattle.mgs_ledger.specs.Telling.{made_room, AreCommitted, IsAltered, IsCommitted, IsGathered, IsTicked, MakesRoom};
+ghost use Rattle.mgs_ledger.specs.Telling.{made_room, AreCommitted, IsAltered, IsCommitted, IsGathered, IsNotTaken, IsTicked, MakesRoom};
+ghost use Rattle.mgs_ledger.specs.Refused.{KeepsTables};
 
 use crate::batch::{Gathered, Words, all_words, put_all};
 use crate::event_line::print_line;
@@ -111,6 +112,7 @@ impl<S: Alter + Drop, C: Clock + Drop, W: Write + Drop> Log<S, C, W> {
         ensures gathered { OnOk result (self.new.gathered.items ≡ []) }
         ensures committed { HasCleanDisk (state S.Store self.new.conn)
             → OnOk result (RanChanges S.Store (map planned_statement planned.now) (map word_values events.now) self.old.conn (state S.Store self.new.conn).committed) }
+        ensures failed { OnErr result (KeepsTables S.Store self.old.conn self.new.conn) }
     {
         self.room.lend();
         put_all(&mut self.conn, self.alloc, planned, events)?;
@@ -125,6 +127,7 @@ impl<S: Alter + Drop, C: Clock + Drop, W: Write + Drop> Log<S, C, W> {
         ensures gathered { OnOk result (self.new.gathered.items ≡ []) }
         ensures committed { HasCleanDisk (state S.Store self.new.conn)
             → OnOk result (AreCommitted S.Store self.old.gathered.items self.old.conn self.new.conn) }
+        ensures failed { OnErr result (KeepsTables S.Store self.old.conn self.new.conn) }
     {
         let events = all_words(self.alloc, self.gathered.as_slice())?;
         self.put(&[], events.as_slice())
@@ -152,6 +155,7 @@ impl<S: Alter + Drop, C: Clock + Drop, W: Write + Drop> Log<S, C, W> {
     fn make_room(&mut self) -> Result<(), LedgerFault>
         ensures gathered { OnOk result (self.new.gathered.items ≡ made_room self.old.gathered.items) }
         ensures committed { OnOk result (MakesRoom S.Store (nat_lt (length self.old.gathered.items) 256) self.old.gathered.items self.old.conn self.new.conn) }
+        ensures failed { OnErr result (KeepsTables S.Store self.old.conn self.new.conn) }
     {
         if self.gathered.len() < GATHER_LIMIT {
             return Ok(());
@@ -163,6 +167,7 @@ impl<S: Alter + Drop, C: Clock + Drop, W: Write + Drop> Log<S, C, W> {
     pub(crate) fn gather(&mut self, told: Told) -> Result<(), LedgerFault>
         ensures gathered { OnOk result (IsGathered told (made_room self.old.gathered.items) self.new.gathered.items) }
         ensures committed { OnOk result (MakesRoom S.Store (nat_lt (length self.old.gathered.items) 256) self.old.gathered.items self.old.conn self.new.conn) }
+        ensures failed { OnErr result (IsNotTaken S.Store self.old.gathered.items self.old.conn self.new.conn) }
     {
         self.make_room()?;
         let at = seconds(&self.clock)?;
@@ -171,7 +176,8 @@ impl<S: Alter + Drop, C: Clock + Drop, W: Write + Drop> Log<S, C, W> {
 
     /// Commits all that is gathered, if the second is over in which the first of it was told.
     pub(crate) fn commit_due(&mut self) -> Result<(), LedgerFault>
-        ensures { OnOk result (IsTicked S.Store self.old.gathered.items self.new.gathered.items self.old.conn self.new.conn) }
+        ensures done { OnOk result (IsTicked S.Store self.old.gathered.items self.new.gathered.items self.old.conn self.new.conn) }
+        ensures failed { OnErr result (KeepsTables S.Store self.old.conn self.new.conn) }
     {
         if self.gathered.is_empty() {
             return Ok(());
@@ -196,6 +202,7 @@ impl<S: Alter + Drop, C: Clock + Drop, W: Write + Drop> Log<S, C, W> {
         ensures gathered { OnOk result (self.new.gathered.items ≡ []) }
         ensures committed { HasCleanDisk (state S.Store self.new.conn)
             → OnOk result (IsAltered S.Store user.now changes.now rows.old.items self.old.gathered.items self.old.conn self.new.conn) }
+        ensures failed { OnErr result (KeepsTables S.Store self.old.conn self.new.conn) }
     {
         let at = seconds(&self.clock)?;
         let mut events = all_words(self.alloc, self.gathered.as_slice())?;
@@ -218,6 +225,7 @@ impl<S: Alter + Drop, C: Clock + Drop, W: Write + Drop> Log<S, C, W> {
         ensures gathered { OnOk result (self.new.gathered.items ≡ []) }
         ensures committed { HasCleanDisk (state S.Store self.new.conn)
             → OnOk result ((at : ℤ) × IsCommitted S.Store [] self.old.gathered.items (kill_events at None name.now) self.old.conn self.new.conn) }
+        ensures failed { OnErr result (KeepsTables S.Store self.old.conn self.new.conn) }
     {
         let at = seconds(&self.clock)?;
         let mut events = all_words(self.alloc, self.gathered.as_slice())?;
@@ -238,6 +246,7 @@ impl<S: Alter + Drop, C: Clock + Drop, W: Write + Drop> Log<S, C, W> {
         ensures gathered { OnOk result (self.new.gathered.items ≡ []) }
         ensures committed { HasCleanDisk (state S.Store self.new.conn)
             → OnOk result (IsTextPut S.Store name.now text.now self.old.gathered.items self.old.conn self.new.conn) }
+        ensures failed { OnErr result (KeepsTables S.Store self.old.conn self.new.conn) }
     {
         let all = all_words(self.alloc, self.gathered.as_slice())?;
         self.text_second = seconds(&self.clock)?;

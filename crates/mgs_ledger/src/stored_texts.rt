@@ -1,5 +1,5 @@
 // The texts that the tables have.
-ghost use Rattle.std.specs.Prelude.{◌≡◌, ◌∷◌, Some, IfOk, IfSome, OnOk, map, length};
+ghost use Rattle.std.specs.Prelude.{◌≡◌, ◌∷◌, Some, IfOk, IfSome, OnErr, OnOk, map, length};
 ghost use Rattle.sqlite.specs.State.{HasCleanDisk};
 ghost use Rattle.sqlite.specs.Held.{state};
 ghost use Rattle.sqlite.specs.declared.types.Value.TheVariants.{Text as TextValue};
@@ -7,6 +7,7 @@ ghost use Rattle.mgs_tables.specs.Both.{RanWith};
 ghost use Rattle.mgs_tables.specs.Texts.{replace_text};
 ghost use Rattle.mgs_tables.specs.Rows.{text_read};
 ghost use Rattle.mgs_ledger.specs.Keeping.{word_values};
+ghost use Rattle.mgs_ledger.specs.Refused.{KeepsTables};
 ghost use Rattle.mgs_ledger.specs.Snapshots.{AreTextsRead, flag, read_values, text_values};
 
 use crate::batch::{Words, rows_of};
@@ -58,8 +59,9 @@ pub(crate) fn keep_text<S: Alter>(
     text: &Snapshot<'_>,
     all: &[Words],
 ) -> Result<(), LedgerFault>
-    ensures { HasCleanDisk (state S.Store conn.new)
+    ensures done { HasCleanDisk (state S.Store conn.new)
         → OnOk result (RanWith S.Store replace_text (TextValue name.now ∷ text_values text.now) (map word_values all.now) conn.old (state S.Store conn.new).committed) }
+    ensures failed { OnErr result (KeepsTables S.Store conn.old conn.new) }
 {
     let events = rows_of(alloc, all)?;
     put_text(conn, &row_of(name, text), events.as_slice())?;

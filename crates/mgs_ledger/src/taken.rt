@@ -1,18 +1,12 @@
 // The names that users took.
-ghost use Rattle.std.specs.Prelude.{◌≡◌, true, [], IfOk, OnOk, filter, not};
+ghost use Rattle.std.specs.Prelude.{◌≡◌, OnOk, filter, not};
 ghost use Rattle.mgs_model.specs.Access.{is_among};
 ghost use Rattle.mgs_model.specs.Names.{same_name};
-ghost use Rattle.mgs_ledger.specs.Taken.{event_noted, last_number, noted, page_noted};
-ghost use Rattle.mgs_ledger.specs.Reading.{AreAllNoted};
+ghost use Rattle.mgs_ledger.specs.Taken.{event_noted, noted, page_noted};
 
 use crate::ledger_fault::LedgerFault;
 use mgs_model::Name;
-use mgs_tables::{Event, read_events};
-use sqlite::{Alter, Connection};
-use std::alloc::Global;
-
-/// How many events are read at once.
-const PAGE: u32 = 256;
+use mgs_tables::Event;
 
 /// Whether a name is one of these.
 pub(crate) fn has_name(names: &[Name], name: &Name) -> bool
@@ -52,50 +46,12 @@ fn note_event(names: &mut Vec<Name>, event: &Event) -> Result<(), LedgerFault>
     }
 }
 
-// Notes all events of a page.
-fn note_page(names: &mut Vec<Name>, events: &[Event]) -> Result<(), LedgerFault>
+/// Notes all events of a page.
+pub(crate) fn note_page(names: &mut Vec<Name>, events: &[Event]) -> Result<(), LedgerFault>
     ensures { OnOk result (names.new.items ≡ page_noted names.old.items events.now) }
 {
     for event in events {
         note_event(names, event)?;
     }
     Ok(())
-}
-
-// The number of the last event of a page, or this one if the page is empty.
-fn last_of(events: &[Event], mut last: i64) -> i64
-    ensures { result ≡ last_number last events.now }
-{
-    for event in events {
-        last = event.number;
-    }
-    last
-}
-
-// Whether a page has no event.
-fn is_end(events: &[Event]) -> bool
-    ensures { result ≡ true → events.now ≡ [] }
-{
-    events.is_empty()
-}
-
-/// The names whose last buffer a user made or killed, by the events of the tables.
-pub(crate) fn read_taken<S: Alter>(
-    conn: &mut Connection<S>,
-    alloc: Global,
-) -> Result<Vec<Name>, LedgerFault>
-    ensures { IfOk result (λ names. AreAllNoted S.Store conn.old conn.new names.items) }
-{
-    let mut names = Vec::new(alloc);
-    let mut last = 0;
-    for _ in 0..u64::MAX {
-        let events = read_events(conn, alloc, last, PAGE)?;
-        let page = events.as_slice();
-        if is_end(page) {
-            return Ok(names);
-        }
-        note_page(&mut names, page)?;
-        last = last_of(page, last);
-    }
-    Err(LedgerFault::Full)
 }

@@ -8,8 +8,8 @@ use Rattle.mgs_ledger.specs.Keeping.{word_values}
 use Rattle.mgs_ledger.specs.Snapshots.{text_values}
 use Rattle.mgs_ledger.proofs.stored_texts.keep_text.Goals as goal
 
-pub returns : goal.returns
-returns g c clean =
+pub returns-clause-done : goal.returns-clause-done
+returns-clause-done g c clean =
     let now = (state g.S.Store c.put_text.new.conn).committed in
     let events = map event_values c.as_slice.result.now in
     let told : events ≡ map word_values c.args.all.now = search rules in

@@ -5,10 +5,12 @@ pub returns : goal.returns
 returns g c = record {
   mid = c.read_values.new.conn;
   later = c.read_snapshots.new.conn;
-  last = c.read_taken.new.conn;
+  last = c.read_history.new.conn;
+  account = c.in_ok-history.history.account;
   rights = c.in_ok-rows.ensures;
   texts = c.in_ok-texts.ensures.read;
   count = search rules;
-  names = c.in_ok-taken.ensures;
+  events = c.in_ok-history.ensures;
+  agrees = search rules;
   newest = c.in_ok-log.ensures;
 }

@@ -1,6 +1,6 @@
 use Rattle.std.proofs.Common.{◌≡◌, drop}
 use Rattle.mgs_ledger.specs.Taken.{last_number}
-use Rattle.mgs_ledger.proofs.taken.last_of.Given as goal
+use Rattle.mgs_ledger.proofs.history.last_of.Given as goal
 
 -- the last number of what is left is that of all
 abbrev pub invariant-loop-event : goal.invariant-loop-event
