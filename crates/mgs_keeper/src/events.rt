@@ -1,5 +1,5 @@
 // The events that the journal tells.
-ghost use Rattle.std.specs.Prelude.{◌≢◌};
+ghost use Rattle.std.specs.Prelude.{◌≡◌, ◌≢◌};
 
 use crate::folder::{journal_path, log_path};
 use crate::keep_arguments::Wanted;
@@ -12,6 +12,7 @@ use mgs_command::tell;
 use mgs_ledger::{AuditFault, Filter, audit};
 use mgs_tables::OpenFault;
 use sqlite::{Alter, Connection};
+use std::fmt::Display;
 use std::fs::{self, Files};
 use std::io::{self, ErrorKind};
 
@@ -45,6 +46,14 @@ pub(crate) fn end_open<R: Eprint>(rt: &R, fault: OpenFault) -> u8
     }
 }
 
+/// The program's status where the tables of the journal are refused or fail, which is told.
+pub(crate) fn end_fault<R: Eprint, E: Display + Drop>(rt: &R, fault: E) -> u8
+    ensures { result ≡ FAILED }
+{
+    let _ = eprintln!(rt; "journal: {fault}");
+    FAILED
+}
+
 // Prints the events of open tables. They are any tables, since what is done with those of a file is dear to prove.
 fn print_tables<S: Alter + Drop>(
     rt: &HostRuntime,
@@ -56,10 +65,7 @@ fn print_tables<S: Alter + Drop>(
         Ok(()) => PRINTED,
         // Whoever reads has read enough.
         Err(AuditFault::Output(error)) if error.kind() == ErrorKind::BrokenPipe => PRINTED,
-        Err(fault) => {
-            tell(rt, fault);
-            FAILED
-        }
+        Err(fault) => end_fault(rt, fault),
     }
 }
 
@@ -74,6 +80,11 @@ fn print_from(rt: &HostRuntime, path: &str, filter: &Filter<'_>) -> u8 {
 // Whether something has a name.
 fn is_there<R: Files>(rt: &R, path: &str) -> bool {
     fs::symlink_metadata(rt, path).is_ok()
+}
+
+/// Whether there is a journal at a path, or a log beside it.
+pub(crate) fn has_journal<R: Files>(rt: &R, path: &str, log_path: &str) -> bool {
+    is_there(rt, path) || is_there(rt, log_path)
 }
 
 /// Prints the events of the journal in a folder, oldest first, those that are wanted. It only reads, also while a server has the journal open.
@@ -96,7 +107,7 @@ pub(crate) fn print_events(rt: &HostRuntime, folder: &str, wanted: &Wanted) -> u
         tell(rt, "no memory");
         return FAILED;
     };
-    if !is_there(rt, path.as_str()) && !is_there(rt, beside.as_str()) {
+    if !has_journal(rt, path.as_str(), beside.as_str()) {
         let _ = eprintln!(rt; "{path}: there is no journal");
         return FAILED;
     }

@@ -3,10 +3,11 @@ ghost use Rattle.std.specs.Prelude.{◌≡◌, ◌≢◌, IfErr, IfSome, get_or,
 ghost use Rattle.mgs_buffers.specs.MarkedBuffer.{marked_at};
 ghost use Rattle.mgs_keeper.specs.Unsaved.{AreUnsavedWords, SaysFile, is_unsaved};
 
-use crate::events::end_open;
+use crate::events::{end_fault, end_open, has_journal};
 use crate::folder::{is_private_folder, journal_path, log_path, make_private};
 use crate::keep_arguments::Mending;
 use crate::launch::{StartFault, start};
+use crate::live::open_live;
 use crate::repair::mend_all;
 use crate::status::{FAILED, JOURNAL_FAILED};
 use crate::turns::serve_kept;
@@ -18,7 +19,7 @@ use mgs_disk::{DiskFiles, FileStore, load_config};
 use mgs_gap::GapText;
 use mgs_journal::{Journal, are_same};
 use mgs_keep::text_sum;
-use mgs_ledger::Ledger;
+use mgs_ledger::{Ledger, test_tables};
 use mgs_model::{BUFFER_LIMIT, Name};
 use mgs_store::Store;
 use mgs_tables::{OpenFault, open};
@@ -119,10 +120,30 @@ fn resume_ledger<'a, S: Alter + Drop>(
 {
     match Ledger::resume(conn, rt.alloc(), rt, io::writer(rt)) {
         Ok(ledger) => Ok(ledger),
-        Err(fault) => {
-            let _ = eprintln!(rt; "journal: {fault}");
-            Err(FAILED)
-        }
+        Err(fault) => Err(end_fault(rt, fault)),
+    }
+}
+
+// Tests that open tables have the rights that their events tell. They are any tables, as above.
+fn test_open<S: Alter + Drop>(rt: &HostRuntime, mut conn: Connection<S>) -> Result<(), u8>
+    ensures { IfErr result (λ status. status ≢ 0) }
+{
+    match test_tables(&mut conn, rt.alloc()) {
+        Ok(()) => Ok(()),
+        Err(fault) => Err(end_fault(rt, fault)),
+    }
+}
+
+// Tests the journal in these files, if there is one, by a copy in memory: a start that is refused for its tables changes neither file.
+fn test_journal(rt: &HostRuntime, path: &str, log_path: &str) -> Result<(), u8>
+    ensures { IfErr result (λ status. status ≢ 0) }
+{
+    if !has_journal(rt, path, log_path) {
+        return Ok(());
+    }
+    match open_live(rt, path) {
+        Ok(conn) => test_open(rt, conn),
+        Err(fault) => Err(end_open(rt, fault)),
     }
 }
 
@@ -150,6 +171,7 @@ fn open_ledger<'a>(rt: &'a HostRuntime, folder: &str) -> Result<(FileLedger<'a>,
     let Ok(beside) = log_path(rt, path.as_str()) else {
         return Err(refuse(rt, NO_MEMORY));
     };
+    test_journal(rt, path.as_str(), beside.as_str())?;
     make_private(rt, path.as_str(), beside.as_str());
     let conn = match open(rt, path.as_str()) {
         Ok(conn) => conn,
