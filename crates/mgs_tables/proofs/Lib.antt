@@ -1,2 +1,3 @@
 mod Transactions
 mod LogFrames
+mod CarriedOver

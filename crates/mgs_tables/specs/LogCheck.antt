@@ -1,8 +1,8 @@
 -- What a crash can leave of the log beside the file of the tables. Anything else is damage.
-use Rattle.std.specs.Prelude.{◌≡◌, ◌≢◌, ◌⊎◌, ℕ, ◌+◌, ◌<◌, ◌≤◌, List, length, slice_index, slice_set}
-use Rattle.sqlite_wal.specs.Format.{be32, IsSigned, IsHeader, commit_size}
+use Rattle.std.specs.Prelude.{◌≡◌, ◌≢◌, ◌⊎◌, ℕ, ◌+◌, ◌<◌, ◌≤◌, ◌==◌, if◌then◌else◌, List, [], length, slice_index, slice_set}
+use Rattle.sqlite_wal.specs.Format.{part, be32, IsHeader, commit_size}
 use Rattle.sqlite_wal.specs.PageSize.{IsPageSize}
-use Rattle.sqlite_wal.specs.Recovery.{frame_at, frame, header, Passes}
+use Rattle.sqlite_wal.specs.Recovery.{frame_at, frame, header, Passes, file_page, page_after, pages_after}
 
 -- The byte that opens frame i to recovery, its gate, is the first byte of the frame's salt. It is written last, once the frames of its
 -- transaction are on the disk.
@@ -13,10 +13,9 @@ gate page_size log i = slice_index log (frame_at page_size i + 8)
 abbrev pub spill : ℕ
 spill = 2000
 
--- The log is empty or is being begun: the first byte of its header, which is written last, is 0. If frames can follow, the rest of the
--- header is right: it stands in one sector, which a crash leaves as it was before or after.
+-- The log has no frame yet and is being begun: the first byte of its header, which is written last, is 0.
 abbrev pub IsBegun : List ℕ → Type 0
-IsBegun log = (slice_index log 0 ≡ 0) × ((length log < 56) ⊎ IsSigned (slice_set (header log) 0 0x37))
+IsBegun log = (slice_index log 0 ≡ 0) × (length log < 56)
 
 -- No transaction follows on another one behind the shut gate of frame k: if frame k, or a frame behind it that passes, is the last of a
 -- transaction, then the frame after it does not pass. One that is written in parts makes the file longer than this.
@@ -38,9 +37,37 @@ pub record IsInUse (page_size : ℕ) (log : List ℕ) (k : ℕ) : Type 0 where
   pub shut : gate page_size log k ≡ 0
   pub alone : IsAlone page_size log k
 
--- a crash can leave this log, and damage alone any other
-abbrev pub IsLog : List ℕ → Type 0
-IsLog log = IsBegun log ⊎ ((page_size k : ℕ) × IsInUse page_size log k)
+-- the log is in use, for pages of some size and with some number of frames
+abbrev pub IsUsed : List ℕ → Type 0
+IsUsed log = (page_size k : ℕ) × IsInUse page_size log k
+
+-- the file alone has the pages that it has with the first k frames of the log
+abbrev pub IsCarriedOver : ℕ → List ℕ → List ℕ → ℕ → Type 0
+IsCarriedOver page_size log db k = pages_after page_size log db k ≡ pages_after page_size [] db 0
+
+-- the log with the first byte of a header
+abbrev pub with_first : List ℕ → List ℕ
+with_first log = slice_set log 0 0x37
+
+-- The log is being begun again: its first byte is 0, and with the right one it is in use. That byte is set to 0 once the file has what the
+-- frames have. The new header and the first gate stand in one sector, which a crash leaves as it was before or after.
+abbrev pub IsBegunAgain : List ℕ → List ℕ → Type 0
+IsBegunAgain log db =
+    (slice_index log 0 ≡ 0) × ((page_size k : ℕ) × IsInUse page_size (with_first log) k × IsCarriedOver page_size (with_first log) db k)
+
+-- a crash can leave this log beside this file, and damage alone any other
+abbrev pub IsLog : List ℕ → List ℕ → Type 0
+IsLog log db = IsBegun log ⊎ (IsUsed log ⊎ IsBegunAgain log db)
+
+-- the bytes of page n: those of the log from an offset on, or those of the file if the offset is 0
+abbrev pub page_at : ℕ → List ℕ → List ℕ → ℕ → ℕ → List ℕ
+page_at page_size log db n at = if at == 0 then file_page page_size db n else part log at page_size
+
+-- for each page up to the count, the offset of its bytes in the last of the first k frames that has it, or 0
+pub record AreNewest (page_size : ℕ) (log : List ℕ) (count k : ℕ) (newest : List ℕ) : Type 0 where
+  pub all : length newest ≡ count + 1
+  pub each : (db : List ℕ) (n : ℕ) → n ≤ count → page_after page_size log db n k ≡ page_at page_size log db n (slice_index newest n)
+  pub within : (n : ℕ) → slice_index newest n + page_size ≤ length log
 
 -- no table was made beside this log: it is being begun, or it has its header alone and the count of checkpoints that the first log has
 abbrev pub IsFirst : List ℕ → Type 0

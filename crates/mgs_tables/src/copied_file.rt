@@ -33,7 +33,7 @@ pub fn open_copy(
     log: &[u8],
     db: &[u8],
 ) -> Result<Connection<FileStore<Memory>>, OpenFault>
-    ensures whole { OnOk result (IsLog log.now × HasFile log.now db.now) }
+    ensures whole { OnOk result (IsLog log.now db.now × HasFile log.now db.now) }
 {
     let Ok(mut log) = filled(alloc, log) else {
         return Err(OpenFault::OutOfMemory);

@@ -6,6 +6,7 @@
 #![tactic(auto)]
 
 mod both;
+mod carried_over;
 mod contents;
 mod copied_file;
 mod event_table;

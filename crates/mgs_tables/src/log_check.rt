@@ -1,12 +1,13 @@
 //! Whether a crash can leave the log beside the file of the tables as it is. If not, the log is damaged.
 
-ghost use Rattle.std.specs.Prelude.{◌≡◌, ◌≢◌, ◌⊎◌, ◌↔◌, ◌+◌, ◌<◌, ◌≤◌, ℕ, length, slice_index, IsTrue, IfOk, IfErr, OnOk};
+ghost use Rattle.std.specs.Prelude.{◌≡◌, ◌≢◌, ◌⊎◌, ◌↔◌, ◌+◌, ◌<◌, ◌≤◌, ℕ, length, slice_index, IsTrue, IsNone, IfSome, IfOk, IfErr, OnOk};
 ghost use Rattle.sqlite_wal.specs.Format.{be32, checksum, stored_sum, commit_size, IsSigned, IsHeader, IsFrame};
 ghost use Rattle.sqlite_wal.specs.PageSize.{IsPageSize};
 ghost use Rattle.sqlite_wal.specs.Recovery.{frame_at, frame, header, sum_before, Passes};
 ghost use Rattle.sqlite_wal.specs.Reads.{IsClean, AreClean, OnlyReads};
-ghost use Rattle.mgs_tables.specs.LogCheck.{IsBegun, IsAlone, IsInUse, IsLog, IsFirst, HasFile};
+ghost use Rattle.mgs_tables.specs.LogCheck.{IsBegun, IsAlone, IsInUse, IsUsed, with_first, IsBegunAgain, IsLog, IsFirst, HasFile};
 
+use crate::carried_over::is_carried_over;
 use crate::open_file::OpenFault;
 use sqlite_disk::Disk;
 use sqlite_wal::{PageSize, checksum_of};
@@ -15,9 +16,9 @@ use std::alloc::Global;
 type Sum = (u32, u32);
 
 // The bytes of the log's header, and of a frame's.
-const HEADER_LEN: usize = 32;
+pub(crate) const HEADER_LEN: usize = 32;
 
-const FRAME_HEADER_LEN: usize = 24;
+pub(crate) const FRAME_HEADER_LEN: usize = 24;
 
 // Where a frame has its gate, and where the header has the salt whose first byte opens it.
 const GATE: usize = 8;
@@ -38,7 +39,7 @@ const FIRST_ROUND: u32 = 0xffff_ffff;
 // How many frames a transaction gathers before it writes them in parts.
 const SPILL: usize = 2000;
 
-fn get_be32(b: &[u8], at: usize) -> u32
+pub(crate) fn get_be32(b: &[u8], at: usize) -> u32
     requires { at + 4 ≤ length b.now }
     ensures { result ≡ be32 b.now at }
 {
@@ -165,55 +166,90 @@ fn is_alone(log: &[u8], head: &[u8; 32], page_size: usize, k: usize, start: usiz
     true
 }
 
-// Whether a crash can leave a log with this header, as it is used.
-fn is_in_use(log: &[u8], head: &[u8; 32], page_size: usize) -> bool
+// The end of the frames of a log with this header, if a crash can leave the log as it is used.
+fn end_in_use(log: &[u8], head: &[u8; 32], page_size: usize) -> Option<End>
     requires long { 32 ≤ length log.now }
     requires head { head.now ≡ header log.now }
     requires right { IsHeader page_size head.now }
     requires size { IsPageSize page_size }
     requires salt { slice_index log.now 16 ≢ 0 }
-    ensures { IsTrue result ↔ ((k : ℕ) × IsInUse page_size log.now k) }
+    ensures used { IfSome result (λ end. IsInUse page_size log.now end.frames) }
+    ensures commit { IfSome result (λ end. (i : ℕ) → i + 1 ≡ end.frames → end.size ≡ commit_size (frame page_size log.now i)) }
+    ensures none { IsNone result → (k : ℕ) → ¬ IsInUse page_size log.now k }
 {
     let end = end_of_frames(log, head, page_size);
     if end.size == 0 || log.len() - end.at <= GATE || log[end.at + GATE] != 0 {
-        return false;
+        return None;
     }
-    is_alone(log, head, page_size, end.frames, end.at)
+    if !is_alone(log, head, page_size, end.frames, end.at) {
+        return None;
+    }
+    Some(end)
 }
 
-// Whether a log is empty or is being begun.
+// The size of a log's pages, how many frames it has, and the size of the database that the last of them commits.
+#[derive(Clone, Copy)]
+pub(crate) struct Use {
+    pub(crate) page_size: usize,
+    pub(crate) frames: usize,
+    pub(crate) size: u32,
+}
+
+// How a log is used, if a crash can leave it as it is used.
+fn use_of(log: &[u8]) -> Option<Use>
+    ensures used { IfSome result (λ u. IsInUse u.page_size log.now u.frames) }
+    ensures commit { IfSome result (λ u. (i : ℕ) → i + 1 ≡ u.frames → u.size ≡ commit_size (frame u.page_size log.now i)) }
+    ensures none { IsNone result → ¬ IsUsed log.now }
+{
+    if log.len() < HEADER_LEN {
+        return None;
+    }
+    let head = header_of(log);
+    let size = PageSize::new(get_be32(&head, 8) as usize)?;
+    if !is_signed(&head) || get_be32(&head, 4) != VERSION || log[SALT] == 0 {
+        return None;
+    }
+    let end = end_in_use(log, &head, size.bytes())?;
+    Some(Use {
+        page_size: size.bytes(),
+        frames: end.frames,
+        size: end.size,
+    })
+}
+
+// Whether a log has no frame yet and is being begun.
 fn is_begun(log: &[u8]) -> bool
     ensures { IsTrue result ↔ IsBegun log.now }
 {
     if log.len() > 0 && log[0] != 0 {
         return false;
     }
-    if log.len() < HEADER_LEN + FRAME_HEADER_LEN {
-        return true;
-    }
-    let mut head = header_of(log);
-    head[0] = FIRST;
-    is_signed(&head)
+    log.len() < HEADER_LEN + FRAME_HEADER_LEN
 }
 
-// Whether a crash can leave this log.
-fn is_log(log: &[u8]) -> bool
-    ensures { IsTrue result ↔ IsLog log.now }
+// The log with the first byte of a header.
+fn with_first(mut log: Vec<u8>) -> Vec<u8>
+    requires { 0 < length log.items }
+    ensures { result.items ≡ with_first log.items }
 {
-    if is_begun(log) {
-        return true;
+    log[0] = FIRST;
+    log
+}
+
+// Whether a log is being begun again beside this file.
+fn is_begun_again(alloc: Global, log: Vec<u8>, db: &[u8]) -> Result<bool, OpenFault>
+    ensures again { IfOk result (λ b. IsTrue b ↔ IsBegunAgain log.items db.now) }
+    ensures kind { IfErr result (λ e. e ≡ OpenFault.OutOfMemory) }
+{
+    if log.len() == 0 || log[0] != 0 {
+        return Ok(false);
     }
-    if log.len() < HEADER_LEN {
-        return false;
-    }
-    let head = header_of(log);
-    let Some(size) = PageSize::new(get_be32(&head, 8) as usize) else {
-        return false;
+    let log = with_first(log);
+    let Some(used) = use_of(&log) else {
+        return Ok(false);
     };
-    if !is_signed(&head) || get_be32(&head, 4) != VERSION || log[SALT] == 0 {
-        return false;
-    }
-    is_in_use(log, &head, size.bytes())
+    let carried = is_carried_over(alloc, &log, db, used)?;
+    Ok(carried)
 }
 
 // Whether no table was made beside this log.
@@ -256,8 +292,9 @@ fn read_all<D: Disk>(alloc: Global, disk: &mut D) -> Result<Vec<u8>, OpenFault>
 pub fn test_log<D: Disk>(alloc: Global, log: &mut D, db: &mut D) -> Result<(), OpenFault>
     requires log { IsTrue (D.Disk.is_usable log.old) }
     requires db { IsTrue (D.Disk.is_usable db.old) }
-    ensures whole { OnOk result (AreClean D.Disk log.new db.new → IsLog (D.Disk.seen log.old) × HasFile (D.Disk.seen log.old) (D.Disk.seen db.old)) }
-    ensures damaged { result ≡ Err OpenFault.DamagedLog → AreClean D.Disk log.new db.new → ¬ IsLog (D.Disk.seen log.old) }
+    ensures whole { OnOk result (AreClean D.Disk log.new db.new
+        → IsLog (D.Disk.seen log.old) (D.Disk.seen db.old) × HasFile (D.Disk.seen log.old) (D.Disk.seen db.old)) }
+    ensures damaged { result ≡ Err OpenFault.DamagedLog → AreClean D.Disk log.new db.new → ¬ IsLog (D.Disk.seen log.old) (D.Disk.seen db.old) }
     ensures missing { result ≡ Err OpenFault.NoFile → AreClean D.Disk log.new db.new → ¬ HasFile (D.Disk.seen log.old) (D.Disk.seen db.old) }
     ensures reads_log { OnlyReads D.Disk log.old log.new }
     ensures reads_db { OnlyReads D.Disk db.old db.new }
@@ -269,7 +306,14 @@ pub fn test_log<D: Disk>(alloc: Global, log: &mut D, db: &mut D) -> Result<(), O
     if len <= 1 && !is_first(&bytes) {
         return Err(OpenFault::NoFile);
     }
-    if !is_log(&bytes) {
+    if is_begun(&bytes) || use_of(&bytes).is_some() {
+        return Ok(());
+    }
+    if bytes.len() > 0 && bytes[0] != 0 {
+        return Err(OpenFault::DamagedLog);
+    }
+    let file = read_all(alloc, db)?;
+    if !is_begun_again(alloc, bytes, &file)? {
         return Err(OpenFault::DamagedLog);
     }
     Ok(())
