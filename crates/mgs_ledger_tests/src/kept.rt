@@ -131,5 +131,7 @@ fn a_row_that_is_no_rights_is_refused_by_name(rt: HostRuntime) -> Result<(), Fai
     }
     let fault = fault_of(rt.alloc(), "ann", "staff", "ALLOW bob r\n")?;
     assert_eq!(rt; fault.as_str(), "");
+    let fault = fault_of(rt.alloc(), "ann", "", "ALLOW bob r\n")?;
+    assert_eq!(rt; fault.as_str(), "buffer notes: not as its events say");
     Ok(())
 }

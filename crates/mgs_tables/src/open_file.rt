@@ -263,7 +263,9 @@ fn take_over(rt: &HostRuntime, path: &str) -> Result<(), OpenFault> {
 pub fn open(
     rt: &HostRuntime,
     path: &str,
-) -> Result<Connection<FileStore<FileFrom<Wary>>>, OpenFault> {
+) -> Result<Connection<FileStore<FileFrom<Wary>>>, OpenFault>
+    ensures { IfOk result (λ conn. HasCleanDisk (file_state conn) → IsOpen (image_at ⟦<Wary as Start>⟧) conn) }
+{
     test_files(rt, path)?;
     take_over(rt, path)?;
     open_over(rt, path, Wary)
