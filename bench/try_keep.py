@@ -755,9 +755,11 @@ def fill_memory(one, made=0):
 
 
 def try_memory():
-    """With the memory full of one user's texts, another's change is kept and shown, and his text is kept."""
+    """With the memory full of one user's texts, another's change is kept and shown, and his text is kept. The C library gives large blocks back
+    to the system, as the unit sets it."""
     with Desk() as desk:
-        server = serving(desk, before=lambda: resource.setrlimit(resource.RLIMIT_AS, (MEMORY, MEMORY)))
+        server = serving(desk, before=lambda: resource.setrlimit(resource.RLIMIT_AS, (MEMORY, MEMORY)),
+                         surroundings={**os.environ, "MALLOC_MMAP_THRESHOLD_": "131072"})
         ann, bob, cat = (server.join(name) for name in ("ann", "bob", "cat"))
         type_in(bob, go_to("long") + "words and " * 100 + "\x18h\x1bw\x1b<\x15999\x19\x1b<")
         see(bob, "L1-C0")
