@@ -1,5 +1,6 @@
 -- THE NAMES OF A JOURNAL'S FILES, and what a start finds under them.
 use Rattle.std.specs.Prelude.{◌≡◌, ◌⊎◌, ◌<◌, ℕ, List, [], ◌∷◌, ◌++◌, take, Option, None, Some, Result, Ok, Err}
+use Rattle.std.specs.Option.{option_map}
 
 -- which file has each name: the file in use and its log, the next file and its log, and under their numbers the files that were in use before.
 -- A file is known by a number of its own.
@@ -60,10 +61,10 @@ abbrev pub is_all : {V E : Type 0} → Result V E → ℕ → Type 0
 is_all (Ok value) count = count ≡ 4
 is_all (Err error) count = count < 4
 
-pub record Follows {V E : Type 0} (result : Result V E) (number : ℕ) (old new : Names) : Type 0 where
+pub record Follows {V E : Type 0} (result : Result V E) (number : ℕ) (old new : Option Names) : Type 0 where
   pub count : ℕ
   pub all : is_all result count
-  pub names : new ≡ after number count old
+  pub names : new ≡ option_map (after number count) old
 
 -- what is left of the steps is done: the next file, if there is no other, gets its names
 abbrev pub settled : Names → Names

@@ -1,4 +1,5 @@
 pub mod Acts
+pub mod Chain
 pub mod Changes
 pub mod Kept
 pub mod Rows

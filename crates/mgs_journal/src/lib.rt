@@ -2,11 +2,13 @@
 #![tactic(auto)]
 
 mod access_equality;
+mod chain;
 mod change;
 mod room;
 mod snapshot;
 
 pub use access_equality::{are_same, is_same_group, is_same_list, is_same_name};
+pub use chain::{Chain, Successor};
 pub use change::Change;
 use mgs_buffers::Rights;
 use mgs_model::{Decision, Name};

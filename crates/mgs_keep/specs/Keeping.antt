@@ -2,6 +2,7 @@
 use Rattle.std.specs.Str.{encode_utf8_all}
 use Rattle.std.specs.Prelude.{◌≡◌, ◌⊎◌, ◌<◌, ℕ, ℤ, pos, Bool, true, false, cond, List, [], ◌∷◌, ◌++◌, map, find, length, slice_get, get_or, Option, Some, None, Ok, Err, if◌then◌else◌}
 use Rattle.mgs_model.specs.Names.{is_name}
+use Rattle.mgs_model.specs.Access.{is_among}
 use Rattle.mgs_model.specs.World.{Buffer, Session, find_session, is_named}
 use Rattle.mgs_model.specs.declared.echo_text.Message.{Message}
 use Rattle.mgs_model.specs.declared.echo_text.Message.TheVariants as messages
@@ -72,6 +73,11 @@ name_in_text text = if is_name text then Some text else None
 abbrev pub name_in_bytes : List ℕ → Option (List ℕ)
 name_in_bytes bytes = utf8_of bytes >>= name_in_text
 
+-- the name, if one of these users has it: what was typed in the place of a name can be a ticket
+abbrev pub user_among : List (List ℕ) → Option (List ℕ) → Option (List ℕ)
+user_among users None = None
+user_among users (Some name) = if is_among name users then Some name else None
+
 abbrev pub refused : Option (List ℕ) → Refusal → Told
 refused None cause = RefusedUnnamed cause
 refused (Some name) cause = Refused name cause
@@ -88,8 +94,8 @@ said_to (Some x) = said x.user x.state.echo
 
 abbrev pub told_of : Call → Serving → List Told
 told_of (Open user rows cols (Ok id)) new = listed (came (user_in (find_session id new.world.sessions)))
-told_of (Open user rows cols (Err fault)) new = refused (name_in_text user) (refusal_of fault) ∷ []
-told_of (Refuse name cause) new = refused (name_in_bytes name) cause ∷ []
+told_of (Open user rows cols (Err fault)) new = refused (user_among new.world.directory.users (name_in_text user)) (refusal_of fault) ∷ []
+told_of (Refuse name cause) new = refused (user_among new.world.directory.users (name_in_bytes name)) cause ∷ []
 told_of (Byte id byte answer) new = listed (said_to (find_session id new.world.sessions))
 told_of (Close id) new = []
 told_of (Took id n) new = []

@@ -136,7 +136,7 @@ impl<T: Marked + Drop, S: Store + Drop, J: Journal + Drop> Sessions for Kept<T, 
     }
 
     fn refused(&mut self, name: &[u8], cause: Refusal) {
-        let told = refused(name_in_bytes(name), cause);
+        let told = refused(&self.engine, name_in_bytes(name), cause);
         tell(&mut self.journal, &mut self.failed, Some(told));
     }
 

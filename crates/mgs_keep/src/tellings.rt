@@ -3,7 +3,7 @@ ghost use Rattle.std.specs.Prelude.{◌≡◌, ◌∷◌, [], false, ℕ};
 ghost use Rattle.mgs_model.specs.World.{find_session};
 ghost use Rattle.mgs_journal.specs.Acts.{Tick, AreDone};
 ghost use Rattle.mgs_keep.specs.Ends.{listed};
-ghost use Rattle.mgs_keep.specs.Keeping.{OrFails, WereTold, came, name_in_bytes, name_in_text, refused, said, said_to, told_of};
+ghost use Rattle.mgs_keep.specs.Keeping.{OrFails, WereTold, came, name_in_bytes, name_in_text, refused, said, said_to, told_of, user_among};
 ghost use Rattle.mgs_wire.specs.Calls.{Open};
 
 use mgs_engine::Engine;
@@ -73,11 +73,28 @@ pub(crate) fn name_in_bytes(bytes: &[u8]) -> Option<Name>
     }
 }
 
-/// A login by a name, if it is one, was refused.
-pub(crate) fn refused(name: Option<Name>, cause: Refusal) -> Told
-    ensures { result ≡ refused name cause }
+// The name, if a user has it: what was typed in the place of a name can be a ticket.
+fn user_among<T: Marked + Drop, S: Store + Drop>(
+    engine: &Engine<T, S>,
+    name: Option<Name>,
+) -> Option<Name>
+    ensures { result ≡ user_among engine.now.world.directory.users name }
 {
     match name {
+        None => None,
+        Some(name) => { if engine.has_user(&name) { Some(name) } else { None } }
+    }
+}
+
+/// A login was refused, by the name of a user or by none.
+pub(crate) fn refused<T: Marked + Drop, S: Store + Drop>(
+    engine: &Engine<T, S>,
+    name: Option<Name>,
+    cause: Refusal,
+) -> Told
+    ensures { result ≡ refused (user_among engine.now.world.directory.users name) cause }
+{
+    match user_among(engine, name) {
         Some(name) => Told::Refused(name, cause),
         None => Told::RefusedUnnamed(cause),
     }
@@ -93,7 +110,7 @@ pub(crate) fn opening_told<T: Marked + Drop, S: Store + Drop>(
 {
     match answer {
         Ok(id) => came(engine.user(id)),
-        Err(fault) => Some(refused(name_in_text(user), Refusal::of(fault))),
+        Err(fault) => Some(refused(engine, name_in_text(user), Refusal::of(fault))),
     }
 }
 

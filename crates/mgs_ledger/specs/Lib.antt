@@ -1,6 +1,7 @@
 pub mod Agreement
 pub mod Gathering
 pub mod Keeping
+pub mod NewFile
 pub mod Reading
 pub mod Refused
 pub mod Snapshots

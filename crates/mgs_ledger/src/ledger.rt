@@ -8,6 +8,7 @@ ghost use Rattle.mgs_journal.specs.Kept.{place_of, without};
 ghost use Rattle.mgs_journal.specs.Rows.{rules_in_rows};
 ghost use Rattle.mgs_ledger.specs.Keeping.{is_row_of};
 ghost use Rattle.mgs_ledger.specs.Agreement.{AreResumed};
+ghost use Rattle.mgs_ledger.specs.NewFile.{IsRenewed};
 ghost use Rattle.mgs_ledger.specs.Telling.{AreCommitted, IsForgotten, IsPutAt};
 
 use crate::agreement::test_account;
@@ -70,6 +71,29 @@ impl<S: Alter + Drop, C: Clock + Drop, W: Write + Drop> Ledger<S, C, W> {
             texts,
             taken,
         })
+    }
+
+    /// Commits what is gathered, fills the fresh tables of another connection with all that is kept, as the file of this number (from 1), and
+    /// goes on with that connection. Returns the one before.
+    ///
+    /// # Errors
+    ///
+    /// `Tables` if the tables of either connection fail, `Full` if no number is left, `Clock` if the clock does not tell the time, and `Short`
+    /// for want of memory. The ledger goes on with the connection before, and keeps what it kept.
+    pub fn renew(&mut self, conn: Connection<S>, file: u64) -> Result<Connection<S>, LedgerFault>
+        ensures rows { self.new.rows.items ≡ self.old.rows.items }
+        ensures texts { self.new.texts.items ≡ self.old.texts.items }
+        ensures taken { self.new.taken.items ≡ self.old.taken.items }
+        ensures gathered { OnOk result (self.new.log.gathered.items ≡ []) }
+        ensures renewed { IfOk result (λ before. IsRenewed S.Store file self.old.rows.items self.old.texts.items self.old.taken.items self.old.log.gathered.items self.old.log.conn before conn self.new.log.conn) }
+    {
+        self.log.renew(
+            conn,
+            file,
+            self.rows.as_slice(),
+            self.texts.as_slice(),
+            self.taken.as_slice(),
+        )
     }
 
     /// Commits what is gathered, and gives the connection back.

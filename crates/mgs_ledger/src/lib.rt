@@ -14,6 +14,7 @@ mod history;
 mod ledger;
 mod ledger_fault;
 mod log;
+mod new_file;
 mod planned;
 mod rights_spelling;
 mod snapshot;

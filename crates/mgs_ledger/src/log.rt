@@ -5,6 +5,7 @@ ghost use Rattle.sqlite.specs.Held.{state};
 ghost use Rattle.mgs_journal.specs.Changes.{rows_changed, texts_changed};
 ghost use Rattle.mgs_tables.specs.Changes.{RanChanges};
 ghost use Rattle.mgs_ledger.specs.Keeping.{kill_events, planned_statement, word_values};
+ghost use Rattle.mgs_ledger.specs.NewFile.{IsRenewed};
 ghost use Rattle.mgs_ledger.specs.Reading.{HasNewest};
 ghost use Rattle.mgs_ledger.specs.Snapshots.{IsTextPut};
 ghost use Rattle.mgs_ledger.specs.Telling.{made_room, AreCommitted, IsAltered, IsCommitted, IsGathered, IsNotTaken, IsTicked, MakesRoom};
@@ -13,6 +14,7 @@ ghost use Rattle.mgs_ledger.specs.Refused.{KeepsTables};
 use crate::batch::{Gathered, Words, all_words, put_all};
 use crate::event_line::print_line;
 use crate::ledger_fault::LedgerFault;
+use crate::new_file::{fill, first_words};
 use crate::planned::{PlannedRow, plan_all, push_kill};
 use crate::snapshot::SnapshotValue;
 use crate::stored_texts::keep_text;
@@ -23,6 +25,7 @@ use mgs_tables::{EventRow, newest};
 use sqlite::{Alter, Connection};
 use std::alloc::Global;
 use std::io::Write;
+use std::mem;
 use std::time::Clock;
 
 /// How many events are gathered at most before they are committed.
@@ -231,6 +234,35 @@ impl<S: Alter + Drop, C: Clock + Drop, W: Write + Drop> Log<S, C, W> {
         let mut events = all_words(self.alloc, self.gathered.as_slice())?;
         push_kill(self.alloc, &mut events, at, &None, name)?;
         self.put(&[], events.as_slice())
+    }
+
+    /// Commits all that is gathered, fills the fresh tables of another connection with all that is kept, as the file of this number, and goes
+    /// on with that connection. Returns the one before.
+    ///
+    /// On an error the log goes on with the connection before. What was gathered is committed there, or still gathered.
+    pub(crate) fn renew(
+        &mut self,
+        mut conn: Connection<S>,
+        file: u64,
+        rows: &[RightsValue],
+        texts: &[Option<SnapshotValue>],
+        taken: &[Name],
+    ) -> Result<Connection<S>, LedgerFault>
+        ensures gathered { OnOk result (self.new.gathered.items ≡ []) }
+        ensures renewed { IfOk result (λ before. IsRenewed S.Store file rows.now texts.now taken.now self.old.gathered.items self.old.conn before conn self.new.conn) }
+    {
+        self.commit()?;
+        let last = newest(&mut self.conn)?;
+        let Some(number) = last.checked_add(1) else {
+            return Err(LedgerFault::Full);
+        };
+        let at = seconds(&self.clock)?;
+        let words = first_words(self.alloc, at, file, rows, taken)?;
+        fill(&mut conn, self.alloc, number, &words, rows, texts)?;
+        let before = mem::replace(&mut self.conn, conn);
+        let number = print_one(&mut self.out, self.alloc, last, &words.first.row());
+        self.number = print_all(&mut self.out, self.alloc, number, words.others.as_slice());
+        Ok(before)
     }
 
     /// Whether `interval` seconds are over since a text was kept last, or the clock was set back by so many. If it cannot be read, they are.

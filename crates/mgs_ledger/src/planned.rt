@@ -73,7 +73,8 @@ pub(crate) fn lent_rows(
     Ok(rows)
 }
 
-fn row_text(alloc: Global, rights: &Rights<'_>) -> Result<RowText, AllocError>
+/// The texts of the row of these rights.
+pub(crate) fn row_text(alloc: Global, rights: &Rights<'_>) -> Result<RowText, AllocError>
     ensures { IfOk result (λ text. text_values text ≡ values_of rights.now) }
 {
     Ok(RowText {
@@ -83,8 +84,8 @@ fn row_text(alloc: Global, rights: &Rights<'_>) -> Result<RowText, AllocError>
     })
 }
 
-// Adds an event about a buffer.
-fn push_event(
+/// Adds an event about a buffer.
+pub(crate) fn push_event(
     events: &mut Vec<Words>,
     at: i64,
     user: &Option<Name>,
@@ -114,7 +115,8 @@ fn arrow_text(alloc: Global, old: &str, new: &str) -> Result<String, AllocError>
     Ok(text)
 }
 
-fn rights_text(alloc: Global, rights: &Rights<'_>) -> Result<String, AllocError>
+/// The rights in one line, without the name.
+pub(crate) fn rights_text(alloc: Global, rights: &Rights<'_>) -> Result<String, AllocError>
     ensures { IfOk result (λ text. string_bytes text ≡ told_rights rights.now) }
 {
     let list = listed_text(alloc, rights.list)?;

@@ -19,6 +19,10 @@ replace_text = codes "INSERT OR REPLACE INTO text (buffer, modified, file, body)
 abbrev pub insert_event : List ℕ
 insert_event = codes "INSERT INTO event (at, user, what, buffer, detail) VALUES (?1, ?2, ?3, ?4, ?5)"
 
+-- an event that has its number from elsewhere
+abbrev pub insert_numbered : List ℕ
+insert_numbered = codes "INSERT INTO event (number, at, user, what, buffer, detail) VALUES (?1, ?2, ?3, ?4, ?5, ?6)"
+
 abbrev pub select_newest : List ℕ
 select_newest = codes "SELECT coalesce(max(number), 0) FROM event"
 
