@@ -82,7 +82,13 @@ fn user_among<T: Marked + Drop, S: Store + Drop>(
 {
     match name {
         None => None,
-        Some(name) => { if engine.has_user(&name) { Some(name) } else { None } }
+        Some(name) => {
+            if engine.has_user(&name) {
+                Some(name)
+            } else {
+                None
+            }
+        }
     }
 }
 

@@ -2,3 +2,4 @@ mod Agreeing
 mod Lists
 mod Names
 mod Refusals
+mod TextsPut

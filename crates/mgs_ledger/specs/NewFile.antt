@@ -47,16 +47,18 @@ AreTextsPut {S} g (k ∷ ks) (Some t ∷ ts) old new = (mid : Held S) × (HasCle
 pub record IsFilled {S : Type 0} (g : Ghosts S) (at number : ℤ) (file : ℕ) (rows : List KeptRights) (texts : List (Option KeptText)) (taken : List (List ℕ)) (old new : Held S) : Type 0 where
   pub mid : Held S
   pub later : Held S
-  pub rights : HasCleanDisk (state g mid) → RanChanges g (map added_row rows) [] old (state g mid).committed
-  pub events : HasCleanDisk (state g later) → RanWith g insert_numbered (Int number ∷ file_event at file) (first_events at rows taken) mid (state g later).committed
-  pub texts : AreTextsPut g rows texts later new
+  pub added : HasCleanDisk (state g mid) → RanChanges g (map added_row rows) [] old (state g mid).committed
+  pub told : HasCleanDisk (state g later) → RanWith g insert_numbered (Int number ∷ file_event at file) (first_events at rows taken) mid (state g later).committed
+  pub put : AreTextsPut g rows texts later new
 
--- The old tables were given what was gathered, and their newest event has this number. The fresh tables were filled with what is kept, from the
--- next number on.
-pub record IsRenewed {S : Type 0} (g : Ghosts S) (file : ℕ) (rows : List KeptRights) (texts : List (Option KeptText)) (taken : List (List ℕ)) (gathered : List Gathered) (old before fresh new : Held S) : Type 0 where
+-- the tables were given what was gathered, and their newest event has this number
+pub record IsSettled {S : Type 0} (g : Ghosts S) (gathered : List Gathered) (old new : Held S) (last : ℤ) : Type 0 where
   pub mid : Held S
-  pub last : ℤ
-  pub at : ℤ
   pub committed : HasCleanDisk (state g mid) → AreCommitted g gathered old mid
-  pub newest : HasCleanDisk (state g before) → ShowsNumber select_newest [] (state g mid) (state g before) last
-  pub filled : IsFilled g at (last +ℤ pos 1) file rows texts taken fresh new
+  pub newest : HasCleanDisk (state g new) → ShowsNumber select_newest [] (state g mid) (state g new) last
+
+-- The tables were given what was gathered. Either they go on, or fresh tables do, which were filled with what is kept, from the next number on.
+abbrev pub IsRenewed : {S : Type 0} → Ghosts S → ℕ → List KeptRights → List (Option KeptText) → List (List ℕ) → List Gathered → Held S → Held S → Option (Held S) → Held S → Type 0
+IsRenewed g file rows texts taken gathered old fresh None new = (last : ℤ) × IsSettled g gathered old new last
+IsRenewed g file rows texts taken gathered old fresh (Some before) new =
+    (last : ℤ) × (at : ℤ) × IsSettled g gathered old before last × IsFilled g at (last +ℤ pos 1) file rows texts taken fresh new

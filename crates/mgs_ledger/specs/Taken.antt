@@ -1,5 +1,5 @@
 -- Which names users took, by what the events tell.
-use Rattle.std.specs.Prelude.{ℕ, ℤ, Bool, not, ◌&&◌, ◌||◌, ◌==◌, length, List, [], ◌∷◌, ◌++◌, filter, fold, codes, string_bytes, if◌then◌else◌}
+use Rattle.std.specs.Prelude.{ℕ, ℤ, Bool, true, not, ◌&&◌, ◌||◌, ◌==◌, length, List, [], ◌∷◌, ◌++◌, filter, fold, codes, string_bytes, if◌then◌else◌}
 use Rattle.std.specs.Str.{bytes_eq}
 use Rattle.mgs_model.specs.Names.{is_name, same_name}
 use Rattle.mgs_tables.specs.declared.rows.Event.{Event}
@@ -11,12 +11,17 @@ noted name by_user names = if by_user then filter (λ other. not (same_name name
 abbrev pub is_word : List ℕ → List ℕ → Bool
 is_word a b = bytes_eq a b
 
+-- a file that follows another tells which names are taken
+abbrev pub tells_taken : List ℕ → List ℕ → Bool
+tells_taken what name = is_word what (codes "taken") && is_name name
+
 -- a user takes a name by making or killing a buffer, and nobody, who has the empty name, frees it so
 abbrev pub event_noted : List (List ℕ) → Event → List (List ℕ)
 event_noted names event =
     let what = string_bytes event.what in
     let name = string_bytes event.buffer in
-    if (is_word what (codes "create") || is_word what (codes "kill")) && is_name name then noted name (not (length (string_bytes event.user) == 0)) names else names
+    if tells_taken what name then noted name true names
+    else if (is_word what (codes "create") || is_word what (codes "kill")) && is_name name then noted name (not (length (string_bytes event.user) == 0)) names else names
 
 -- the events of a page, in their order
 abbrev pub page_noted : List (List ℕ) → List Event → List (List ℕ)

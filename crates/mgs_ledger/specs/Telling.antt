@@ -1,5 +1,5 @@
 -- What is gathered of what is told, and what each act commits of it.
-use Rattle.std.specs.Prelude.{◌≡◌, ◌⊎◌, ℕ, ℤ, Bool, true, false, nat_lt, cond, List, [], ◌∷◌, ◌++◌, length, map, Option, None, Some, slice_get, IsTrue}
+use Rattle.std.specs.Prelude.{◌≡◌, ◌⊎◌, ℕ, ℤ, Bool, true, false, nat_lt, cond, List, [], ◌∷◌, ◌++◌, length, map, Option, Some, slice_get, IsTrue}
 use Rattle.sqlite.specs.Order.{Row}
 use Rattle.sqlite.specs.Store.{Ghosts}
 use Rattle.sqlite.specs.State.{HasCleanDisk}
@@ -9,12 +9,10 @@ use Rattle.mgs_journal.specs.Acts.{Act, Alter, Forget, Put, Tell, Tick}
 use Rattle.mgs_journal.specs.Rows.{KeptRights}
 use Rattle.mgs_journal.specs.Texts.{KeptText}
 use Rattle.mgs_journal.specs.declared.Told.{Told}
-use Rattle.mgs_journal.specs.declared.Told.TheVariants as told
 use Rattle.mgs_journal.specs.declared.change.Change.{Change}
 use Rattle.mgs_ledger.specs.declared.batch.Gathered.{Gathered}
-use Rattle.mgs_ledger.specs.Keeping.{event_row, events_of, forget_events, forget_statements, statements_of}
+use Rattle.mgs_ledger.specs.Keeping.{events_of, forget_events, forget_statements, statements_of}
 use Rattle.mgs_ledger.specs.Snapshots.{IsTextPut}
-use Rattle.mgs_ledger.specs.Spelling.{text_or_empty}
 use Rattle.mgs_ledger.specs.Gathering.{told_row}
 
 -- what is left of what is gathered once there is room for one more: all is committed where 256 are gathered

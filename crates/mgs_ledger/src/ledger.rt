@@ -74,18 +74,22 @@ impl<S: Alter + Drop, C: Clock + Drop, W: Write + Drop> Ledger<S, C, W> {
     }
 
     /// Commits what is gathered, fills the fresh tables of another connection with all that is kept, as the file of this number (from 1), and
-    /// goes on with that connection. Returns the one before.
+    /// goes on with that connection. Returns the one before. `None` if the fresh tables could not be filled: the ledger goes on with the
+    /// connection that it has, and the other is dropped.
     ///
     /// # Errors
     ///
-    /// `Tables` if the tables of either connection fail, `Full` if no number is left, `Clock` if the clock does not tell the time, and `Short`
-    /// for want of memory. The ledger goes on with the connection before, and keeps what it kept.
-    pub fn renew(&mut self, conn: Connection<S>, file: u64) -> Result<Connection<S>, LedgerFault>
+    /// `Tables` if the tables that it has fail, `Clock` if the clock does not tell the time, and `Short` for want of memory.
+    pub fn renew(
+        &mut self,
+        conn: Connection<S>,
+        file: u64,
+    ) -> Result<Option<Connection<S>>, LedgerFault>
         ensures rows { self.new.rows.items ≡ self.old.rows.items }
         ensures texts { self.new.texts.items ≡ self.old.texts.items }
         ensures taken { self.new.taken.items ≡ self.old.taken.items }
         ensures gathered { OnOk result (self.new.log.gathered.items ≡ []) }
-        ensures renewed { IfOk result (λ before. IsRenewed S.Store file self.old.rows.items self.old.texts.items self.old.taken.items self.old.log.gathered.items self.old.log.conn before conn self.new.log.conn) }
+        ensures renewed { IfOk result (λ before. IsRenewed S.Store file self.old.rows.items self.old.texts.items self.old.taken.items self.old.log.gathered.items self.old.log.conn conn before self.new.log.conn) }
     {
         self.log.renew(
             conn,

@@ -5,7 +5,7 @@ ghost use Rattle.sqlite.specs.Held.{state};
 ghost use Rattle.mgs_journal.specs.Changes.{rows_changed, texts_changed};
 ghost use Rattle.mgs_tables.specs.Changes.{RanChanges};
 ghost use Rattle.mgs_ledger.specs.Keeping.{kill_events, planned_statement, word_values};
-ghost use Rattle.mgs_ledger.specs.NewFile.{IsRenewed};
+ghost use Rattle.mgs_ledger.specs.NewFile.{IsRenewed, IsSettled};
 ghost use Rattle.mgs_ledger.specs.Reading.{HasNewest};
 ghost use Rattle.mgs_ledger.specs.Snapshots.{IsTextPut};
 ghost use Rattle.mgs_ledger.specs.Telling.{made_room, AreCommitted, IsAltered, IsCommitted, IsGathered, IsNotTaken, IsTicked, MakesRoom};
@@ -14,7 +14,7 @@ ghost use Rattle.mgs_ledger.specs.Refused.{KeepsTables};
 use crate::batch::{Gathered, Words, all_words, put_all};
 use crate::event_line::print_line;
 use crate::ledger_fault::LedgerFault;
-use crate::new_file::{fill, first_words};
+use crate::new_file::{FirstWords, filled_tables};
 use crate::planned::{PlannedRow, plan_all, push_kill};
 use crate::snapshot::SnapshotValue;
 use crate::stored_texts::keep_text;
@@ -236,33 +236,51 @@ impl<S: Alter + Drop, C: Clock + Drop, W: Write + Drop> Log<S, C, W> {
         self.put(&[], events.as_slice())
     }
 
+    // Commits all that is gathered. Returns the number of the newest event.
+    fn settle(&mut self) -> Result<i64, LedgerFault>
+        ensures gathered { OnOk result (self.new.gathered.items ≡ []) }
+        ensures settled { IfOk result (λ last. IsSettled S.Store self.old.gathered.items self.old.conn self.new.conn last) }
+    {
+        self.commit()?;
+        let last = newest(&mut self.conn)?;
+        Ok(last)
+    }
+
+    // Goes on with tables that were filled, and writes the lines of their events. Returns the connection before.
+    fn go_on(&mut self, conn: Connection<S>, last: i64, words: &FirstWords) -> Connection<S>
+        ensures gathered { self.new.gathered.items ≡ self.old.gathered.items }
+        ensures before { result ≡ self.old.conn }
+        ensures conn { self.new.conn ≡ conn }
+    {
+        let before = mem::replace(&mut self.conn, conn);
+        let number = print_one(&mut self.out, self.alloc, last, &words.first.row());
+        self.number = print_all(&mut self.out, self.alloc, number, words.others.as_slice());
+        before
+    }
+
     /// Commits all that is gathered, fills the fresh tables of another connection with all that is kept, as the file of this number, and goes
-    /// on with that connection. Returns the one before.
-    ///
-    /// On an error the log goes on with the connection before. What was gathered is committed there, or still gathered.
+    /// on with that connection. Returns the one before. `None` if the fresh tables could not be filled: it goes on with the connection that
+    /// it has.
     pub(crate) fn renew(
         &mut self,
-        mut conn: Connection<S>,
+        conn: Connection<S>,
         file: u64,
         rows: &[RightsValue],
         texts: &[Option<SnapshotValue>],
         taken: &[Name],
-    ) -> Result<Connection<S>, LedgerFault>
+    ) -> Result<Option<Connection<S>>, LedgerFault>
         ensures gathered { OnOk result (self.new.gathered.items ≡ []) }
-        ensures renewed { IfOk result (λ before. IsRenewed S.Store file rows.now texts.now taken.now self.old.gathered.items self.old.conn before conn self.new.conn) }
+        ensures renewed { IfOk result (λ before. IsRenewed S.Store file rows.now texts.now taken.now self.old.gathered.items self.old.conn conn before self.new.conn) }
     {
-        self.commit()?;
-        let last = newest(&mut self.conn)?;
-        let Some(number) = last.checked_add(1) else {
-            return Err(LedgerFault::Full);
-        };
+        let last = self.settle()?;
         let at = seconds(&self.clock)?;
-        let words = first_words(self.alloc, at, file, rows, taken)?;
-        fill(&mut conn, self.alloc, number, &words, rows, texts)?;
-        let before = mem::replace(&mut self.conn, conn);
-        let number = print_one(&mut self.out, self.alloc, last, &words.first.row());
-        self.number = print_all(&mut self.out, self.alloc, number, words.others.as_slice());
-        Ok(before)
+        self.room.lend();
+        let filled = filled_tables(conn, self.alloc, at, last, file, rows, texts, taken);
+        self.room.take_back();
+        match filled {
+            Ok((conn, words)) => Ok(Some(self.go_on(conn, last, &words))),
+            Err(_) => Ok(None),
+        }
     }
 
     /// Whether `interval` seconds are over since a text was kept last, or the clock was set back by so many. If it cannot be read, they are.

@@ -1,5 +1,5 @@
 // What a new file begins with.
-ghost use Rattle.std.specs.Prelude.{◌≡◌, ◌++◌, [], ◌∷◌, ℕ, ℤ, List, map, IfOk, OnOk, string_bytes, decimal};
+ghost use Rattle.std.specs.Prelude.{◌≡◌, ◌++◌, [], ◌∷◌, ℕ, ℤ, pos, ◌+ℤ◌, List, Some, map, IfOk, OnOk, string_bytes, decimal};
 ghost use Rattle.sqlite.specs.declared.types.Value.TheVariants.{Int};
 ghost use Rattle.sqlite.specs.State.{HasCleanDisk};
 ghost use Rattle.sqlite.specs.Held.{state};
@@ -110,6 +110,18 @@ fn put_first<S: Alter>(
     Ok(())
 }
 
+// Puts the text of a buffer.
+fn put_one<S: Alter>(
+    conn: &mut Connection<S>,
+    alloc: Global,
+    row: &RightsValue,
+    text: &SnapshotValue,
+) -> Result<(), LedgerFault>
+    ensures { OnOk result (AreTextsPut S.Store (row.now ∷ []) (Some text.now ∷ []) conn.old conn.new) }
+{
+    keep_text(conn, alloc, &row.name, &snapshot_in(text), &[])
+}
+
 // Puts the text of a buffer, if there is one.
 fn put_text_of<S: Alter>(
     conn: &mut Connection<S>,
@@ -121,7 +133,7 @@ fn put_text_of<S: Alter>(
 {
     match text {
         None => Ok(()),
-        Some(text) => keep_text(conn, alloc, &row.name, &snapshot_in(text), &[]),
+        Some(text) => put_one(conn, alloc, row, text),
     }
 }
 
@@ -161,12 +173,7 @@ pub(crate) struct FirstWords {
     pub(crate) others: Vec<Words>,
 }
 
-/// The events that begin a file of this number.
-///
-/// # Errors
-///
-/// `Short` for want of memory.
-pub(crate) fn first_words(
+fn first_words(
     alloc: Global,
     at: i64,
     file: u64,
@@ -182,12 +189,8 @@ pub(crate) fn first_words(
     })
 }
 
-/// Fills fresh tables with all that is kept: the rows, the first events from this number on, and the texts.
-///
-/// # Errors
-///
-/// `Tables` if the tables refuse or fail, and `Short` for want of memory. Some of it can be there then.
-pub(crate) fn fill<S: Alter>(
+// Fills fresh tables with the rows, these first events from a number on, and the texts.
+fn fill<S: Alter>(
     conn: &mut Connection<S>,
     alloc: Global,
     number: i64,
@@ -202,4 +205,30 @@ pub(crate) fn fill<S: Alter>(
     put_rows(conn, alloc, rows)?;
     put_first(conn, alloc, number, &words.first, words.others.as_slice())?;
     put_texts(conn, alloc, rows, texts)
+}
+
+/// Fills the fresh tables of a connection with all that is kept. The first event has the number after the last one of the file before. It
+/// returns the connection, and the events.
+///
+/// # Errors
+///
+/// `Tables` if the tables refuse or fail, `Full` if no number is left, and `Short` for want of memory.
+pub(crate) fn filled_tables<S: Alter + Drop>(
+    mut conn: Connection<S>,
+    alloc: Global,
+    at: i64,
+    last: i64,
+    file: u64,
+    rows: &[RightsValue],
+    texts: &[Option<SnapshotValue>],
+    taken: &[Name],
+) -> Result<(Connection<S>, FirstWords), LedgerFault>
+    ensures { IfOk result (λ filled. IsFilled S.Store at (last +ℤ pos 1) file rows.now texts.now taken.now conn filled.0) }
+{
+    let Some(number) = last.checked_add(1) else {
+        return Err(LedgerFault::Full);
+    };
+    let words = first_words(alloc, at, file, rows, taken)?;
+    fill(&mut conn, alloc, number, &words, rows, texts)?;
+    Ok((conn, words))
 }

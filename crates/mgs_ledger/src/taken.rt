@@ -1,7 +1,7 @@
 // The names that users took.
-ghost use Rattle.std.specs.Prelude.{◌≡◌, OnOk, filter, not};
+ghost use Rattle.std.specs.Prelude.{◌≡◌, OnOk, filter, not, true, if◌then◌else◌};
 ghost use Rattle.mgs_model.specs.Access.{is_among};
-ghost use Rattle.mgs_model.specs.Names.{same_name};
+ghost use Rattle.mgs_model.specs.Names.{is_name, same_name};
 ghost use Rattle.mgs_ledger.specs.Taken.{event_noted, noted, page_noted};
 
 use crate::ledger_fault::LedgerFault;
@@ -33,10 +33,23 @@ fn note(names: &mut Vec<Name>, name: Name, is_by_user: bool) -> Result<(), Ledge
     Ok(())
 }
 
+// A name, if it is one, is taken by a user.
+fn note_taken(names: &mut Vec<Name>, name: &str) -> Result<(), LedgerFault>
+    ensures { OnOk result (names.new.items ≡ (if is_name name.now then noted name.now true names.old.items else names.old.items)) }
+{
+    match Name::read(name) {
+        Some(name) => note(names, name, true),
+        None => Ok(()),
+    }
+}
+
 // What an event does to the names that are taken: a user takes one by making or killing a buffer, and nobody frees it so.
 fn note_event(names: &mut Vec<Name>, event: &Event) -> Result<(), LedgerFault>
     ensures { OnOk result (names.new.items ≡ event_noted names.old.items event.now) }
 {
+    if event.what.as_str() == "taken" {
+        return note_taken(names, event.buffer.as_str());
+    }
     if event.what.as_str() != "create" && event.what.as_str() != "kill" {
         return Ok(());
     }

@@ -83,14 +83,23 @@ group_to_none = refl
 other_event : rows_told (codes "denied") notes (codes "ann: -") (anns ∷ []) ≡ Some (anns ∷ [])
 other_event = refl
 
-next_number : is_next (pos 6) (pos 7) ≡ true
+next_number : is_next (pos 6) (codes "list") (pos 7) ≡ true
 next_number = refl
 
-number_gap : is_next (pos 6) (pos 8) ≡ false
+number_gap : is_next (pos 6) (codes "list") (pos 8) ≡ false
 number_gap = refl
 
-same_number : is_next (pos 6) (pos 6) ≡ false
+same_number : is_next (pos 6) (codes "list") (pos 6) ≡ false
 same_number = refl
+
+first_of_a_file : is_next (pos 0) (codes "file") (pos 812) ≡ true
+first_of_a_file = refl
+
+file_in_between : is_next (pos 6) (codes "file") (pos 812) ≡ false
+file_in_between = refl
+
+first_of_all : is_next (pos 0) (codes "is") (pos 812) ≡ false
+first_of_all = refl
 
 first_wrong : wrong_after (Some (pos 3)) false (pos 7) ≡ Some (pos 3)
 first_wrong = refl

@@ -1,5 +1,5 @@
 -- THE ACCOUNT OF RIGHTS: what the events, one after another, tell of the rights of all buffers.
-use Rattle.std.specs.Prelude.{ℤ, pos, ◌+ℤ◌, Bool, ◌&&◌, List, [], Option, None, Some, fold, codes, bytes_eq, is_some, string_bytes, unwrap_or, if◌then◌else◌}
+use Rattle.std.specs.Prelude.{ℤ, pos, ◌+ℤ◌, Bool, ◌&&◌, ◌||◌, List, [], Option, None, Some, fold, codes, bytes_eq, is_some, string_bytes, unwrap_or, if◌then◌else◌}
 use Rattle.std.specs.Ordering.{int_eq}
 use Rattle.std.specs.Prelude.{ℕ}
 use Rattle.mgs_tables.specs.declared.rows.Event.{Event}
@@ -32,9 +32,13 @@ rows_told what name detail rows =
 abbrev pub rows_after : List ToldRights → Event → Option (List ToldRights)
 rows_after rows e = rows_told (string_bytes e.what) (string_bytes e.buffer) (string_bytes e.detail) rows
 
--- events are numbered one after another
-abbrev pub is_next : ℤ → ℤ → Bool
-is_next last number = int_eq number (last +ℤ pos 1)
+-- the first event of a file that follows another has the number after the last one there
+abbrev pub begins_file : ℤ → List ℕ → Bool
+begins_file last what = int_eq last (pos 0) && bytes_eq what (codes "file")
+
+-- else events are numbered one after another
+abbrev pub is_next : ℤ → List ℕ → ℤ → Bool
+is_next last what number = begins_file last what || int_eq number (last +ℤ pos 1)
 
 -- the first wrong event stays the first
 abbrev pub wrong_after : Option ℤ → Bool → ℤ → Option ℤ
@@ -47,7 +51,7 @@ account_after a e =
     record {
       rows = unwrap_or (rows_after a.rows e) a.rows;
       last = e.number;
-      wrong = wrong_after a.wrong (is_next a.last e.number && is_some (rows_after a.rows e)) e.number;
+      wrong = wrong_after a.wrong (is_next a.last (string_bytes e.what) e.number && is_some (rows_after a.rows e)) e.number;
     }
 
 -- after the events of a page, in their order

@@ -1,6 +1,6 @@
 // What the events, one after another, tell of the rights of all buffers.
 ghost use Rattle.std.specs.Prelude.{◌≡◌, ◌&&◌, OnOk};
-ghost use Rattle.mgs_rewind.specs.Account.{account_after, accounted, first_account, is_next, wrong_after};
+ghost use Rattle.mgs_rewind.specs.Account.{account_after, accounted, begins_file, first_account, is_next, wrong_after};
 
 use crate::row_changes::note_event;
 use crate::told_rights::ToldRights;
@@ -25,10 +25,20 @@ impl Model for Account {
     ghost view = { λ a. record { rows = a.rows.items; last = a.last; wrong = a.wrong } };
 }
 
-// Whether a number is the next after that of the last event.
-fn is_next(last: i64, number: i64) -> bool
-    ensures { result ≡ is_next last number }
+// Whether an event is the first of a file that follows another.
+fn begins_file(last: i64, what: &str) -> bool
+    ensures { result ≡ begins_file last what.now }
 {
+    last == 0 && what == "file"
+}
+
+// Whether an event has the number after that of the last event, or begins a file that follows another.
+fn is_next(last: i64, what: &str, number: i64) -> bool
+    ensures { result ≡ is_next last what.now number }
+{
+    if begins_file(last, what) {
+        return true;
+    }
     match last.checked_add(1) {
         Some(next) => number == next,
         None => false,
@@ -69,7 +79,7 @@ impl Account {
             event.buffer.as_bytes(),
             event.detail.as_bytes(),
         )?;
-        let is_next = is_next(self.last, event.number);
+        let is_next = is_next(self.last, event.what.as_str(), event.number);
         self.wrong = wrong_after(self.wrong, is_next && follows, event.number);
         self.last = event.number;
         Ok(())

@@ -7,7 +7,7 @@ use Rattle.mgs_journal.proofs.chain.ChainJournal.tick.Goals as goal
 pub returns-clause-done : goal.returns-clause-done
 returns-clause-done g c =
     on_ok_weaker c.follow.result
-        (λ followed.
-            subst (λ s. TakesAndGoesOn g.J.Journal.does g.F.Successor.follows s Tick (record { journal = c.follow.new.journal; files = c.follow.new.self })) c.self.view_is
-                (record { mid = c.tick.new.self; taken = c.in_ok-tick.ensures.done; goes = followed }))
-        c.follow.ensures.follows
+    (λ followed.
+    subst (λ s. TakesAndGoesOn g.J.Journal.does g.F.Successor.follows s Tick (record { journal = c.follow.new.journal; files = c.follow.new.self })) c.self.view_is
+    (record { mid = c.tick.new.self; taken = c.in_ok-tick.ensures.done; goes = followed }))
+    c.follow.ensures.follows
