@@ -1,4 +1,6 @@
 mod Agreeing
+mod Counts
 mod Lists
 mod Names
 mod Refusals
+mod Repeats
