@@ -1,5 +1,5 @@
 -- What a refusal leaves in the tables after room was made.
-use Rattle.std.proofs.Common.{◌≡◌, Bool, true, false, List, Result, Ok, Err, ap, inl, inr}
+use Rattle.std.proofs.Common.{Bool, true, false, List, Result, Ok, Err, ap, inl, inr}
 use Rattle.std.specs.Prelude.{OnErr}
 use Rattle.sqlite.specs.Store.{Ghosts}
 use Rattle.sqlite.specs.Held.{Held, state}

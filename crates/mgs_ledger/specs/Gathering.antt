@@ -1,5 +1,5 @@
 -- The rows of events that were gathered.
-use Rattle.std.specs.Prelude.{ℕ, List, [], ◌++◌, Option, None, Some, codes, decimal}
+use Rattle.std.specs.Prelude.{ℕ, List, [], ◌++◌, Option, None, Some, codes, decimal, nat_lt, if◌then◌else◌}
 use Rattle.sqlite.specs.Order.{Row}
 use Rattle.mgs_model.specs.Rights.{right_name}
 use Rattle.mgs_model.specs.declared.entry.Decision.{Decision}
@@ -8,6 +8,8 @@ use Rattle.mgs_wire.specs.declared.refusal.Refusal.{Refusal}
 use Rattle.mgs_wire.specs.declared.refusal.Refusal.TheVariants.{Line, NoUser, Ticket, Size, Full, Short}
 use Rattle.mgs_journal.specs.declared.Told.{Told}
 use Rattle.mgs_journal.specs.declared.Told.TheVariants.{Came, Refused, RefusedUnnamed, Quit, Closed, FellBehind, Denied, Saved}
+use Rattle.mgs_ledger.specs.declared.batch.EventKind.{EventKind}
+use Rattle.mgs_ledger.specs.declared.batch.EventKind.TheVariants.{One, More}
 use Rattle.mgs_ledger.specs.declared.batch.Gathered.{Gathered}
 use Rattle.mgs_ledger.specs.Keeping.{event_row}
 use Rattle.mgs_ledger.specs.Spelling.{text_or_empty}
@@ -66,6 +68,27 @@ told_detail (FellBehind user) = codes "slow"
 told_detail (Denied user decision) = decision_detail decision
 told_detail (Saved user buffer) = []
 
+-- an event of that user, or one that counts those of a user past the limit
+abbrev pub kind_user : EventKind → Option (List ℕ)
+kind_user (One told) = told_user told
+kind_user (More user) = user
+
+abbrev pub kind_what : EventKind → List ℕ
+kind_what (One told) = told_what told
+kind_what (More user) = codes "more"
+
+abbrev pub kind_buffer : EventKind → Option (List ℕ)
+kind_buffer (One told) = told_buffer told
+kind_buffer (More user) = None
+
+-- how often it was told, if that was more than once
+abbrev pub times : ℕ → List ℕ
+times count = if nat_lt 1 count then codes " x " ++ decimal count else []
+
+abbrev pub kind_detail : EventKind → ℕ → List ℕ
+kind_detail (One told) count = told_detail told ++ times count
+kind_detail (More user) count = decimal count ++ codes " events"
+
 -- the row of an event: its time, its user, what happened, the buffer and the detail
 abbrev pub told_row : Gathered → Row
-told_row e = event_row e.at (told_user e.told) (told_what e.told) (text_or_empty (told_buffer e.told)) (told_detail e.told)
+told_row e = event_row e.at (kind_user e.kind) (kind_what e.kind) (text_or_empty (kind_buffer e.kind)) (kind_detail e.kind e.count)

@@ -1,4 +1,5 @@
 pub mod Agreement
+pub mod Counting
 pub mod Gathering
 pub mod Keeping
 pub mod NewFile

@@ -1,5 +1,5 @@
 -- What is gathered of what is told, and what each act commits of it.
-use Rattle.std.specs.Prelude.{◌≡◌, ◌⊎◌, ℕ, ℤ, Bool, true, false, nat_lt, cond, List, [], ◌∷◌, ◌++◌, length, map, Option, Some, slice_get, IsTrue}
+use Rattle.std.specs.Prelude.{◌≡◌, ◌⊎◌, ℕ, ℤ, Bool, true, false, nat_lt, cond, List, [], ◌++◌, length, map, Option, Some, slice_get, IsTrue}
 use Rattle.sqlite.specs.Order.{Row}
 use Rattle.sqlite.specs.Store.{Ghosts}
 use Rattle.sqlite.specs.State.{HasCleanDisk}
@@ -11,6 +11,7 @@ use Rattle.mgs_journal.specs.Texts.{KeptText}
 use Rattle.mgs_journal.specs.declared.Told.{Told}
 use Rattle.mgs_journal.specs.declared.change.Change.{Change}
 use Rattle.mgs_ledger.specs.declared.batch.Gathered.{Gathered}
+use Rattle.mgs_ledger.specs.Counting.{Gathering, gathered_more, gathering}
 use Rattle.mgs_ledger.specs.Keeping.{events_of, forget_events, forget_statements, statements_of}
 use Rattle.mgs_ledger.specs.Snapshots.{IsTextPut}
 use Rattle.mgs_ledger.specs.Gathering.{told_row}
@@ -19,9 +20,13 @@ use Rattle.mgs_ledger.specs.Gathering.{told_row}
 abbrev pub made_room : List Gathered → List Gathered
 made_room xs = cond (nat_lt (length xs) 256) xs []
 
--- one more is gathered, with the time at which it was told
-abbrev pub IsGathered : Told → List Gathered → List Gathered → Type 0
-IsGathered told old new = (at : ℤ) × (new ≡ old ++ record { at = at; told = told } ∷ [])
+-- what is told is gathered, with the time at which it was told
+abbrev pub IsGathered : Told → Gathering → Gathering → Type 0
+IsGathered told old new = (at : ℤ) × (new ≡ gathered_more told at old)
+
+-- all that was gathered is committed: a second's rows stay tallied
+abbrev pub IsEmptied : Gathering → Gathering → Type 0
+IsEmptied was is = (is.events ≡ []) × (is.tally ≡ was.tally)
 
 -- the statements, the events that were gathered and then these are one transaction, which is the last
 abbrev pub IsCommitted : {S : Type 0} → Ghosts S → List Statement → List Gathered → List Row → Held S → Held S → Type 0
@@ -54,14 +59,14 @@ MakesRoom g true gathered old new = new ≡ old
 MakesRoom g false gathered old new = HasCleanDisk (state g new) → AreCommitted g gathered old new
 
 -- nothing is changed, or all that was gathered is committed
-abbrev pub IsTicked : {S : Type 0} → Ghosts S → List Gathered → List Gathered → Held S → Held S → Type 0
-IsTicked g was is old new = ((is ≡ was) × (new ≡ old)) ⊎ ((is ≡ []) × (HasCleanDisk (state g new) → AreCommitted g was old new))
+abbrev pub IsTicked : {S : Type 0} → Ghosts S → Gathering → Gathering → Held S → Held S → Type 0
+IsTicked g was is old new = ((is ≡ was) × (new ≡ old)) ⊎ (IsEmptied was is × (HasCleanDisk (state g new) → AreCommitted g was.events old new))
 
 -- what an act does to what is gathered and to the tables: a change, a forgotten name and a text commit all that was gathered, and what is
 -- told comes after it
-abbrev pub IsDone : {S : Type 0} → Ghosts S → Act → List KeptRights → List Gathered → List Gathered → Held S → Held S → Type 0
-IsDone g (Alter user changes) rows was is old new = (is ≡ []) × (HasCleanDisk (state g new) → IsAltered g user changes rows was old new)
-IsDone g (Forget name) rows was is old new = (is ≡ []) × (HasCleanDisk (state g new) → IsForgotten g name rows was old new)
-IsDone g (Put place text) rows was is old new = (is ≡ []) × (HasCleanDisk (state g new) → IsPutAt g place text rows was old new)
-IsDone g (Tell told) rows was is old new = IsGathered told (made_room was) is × MakesRoom g (nat_lt (length was) 256) was old new
+abbrev pub IsDone : {S : Type 0} → Ghosts S → Act → List KeptRights → Gathering → Gathering → Held S → Held S → Type 0
+IsDone g (Alter user changes) rows was is old new = IsEmptied was is × (HasCleanDisk (state g new) → IsAltered g user changes rows was.events old new)
+IsDone g (Forget name) rows was is old new = IsEmptied was is × (HasCleanDisk (state g new) → IsForgotten g name rows was.events old new)
+IsDone g (Put place text) rows was is old new = IsEmptied was is × (HasCleanDisk (state g new) → IsPutAt g place text rows was.events old new)
+IsDone g (Tell told) rows was is old new = IsGathered told (gathering (made_room was.events) was.tally) is × MakesRoom g (nat_lt (length was.events) 256) was.events old new
 IsDone g Tick rows was is old new = IsTicked g was is old new

@@ -5,8 +5,9 @@ ghost use Rattle.sqlite.specs.Held.{state};
 ghost use Rattle.mgs_ledger.specs.Refused.{KeepsTables};
 ghost use Rattle.mgs_tables.specs.Changes.{RanChanges};
 ghost use Rattle.mgs_tables.specs.Rows.{event_values};
-ghost use Rattle.mgs_ledger.specs.Gathering.{decision_detail, refusal_word, told_buffer, told_detail, told_row, told_user, told_what};
+ghost use Rattle.mgs_ledger.specs.Gathering.{decision_detail, kind_buffer, kind_detail, kind_user, kind_what, refusal_word, told_buffer, told_detail, told_row, told_user, told_what};
 ghost use Rattle.mgs_ledger.specs.Keeping.{planned_statement, word_values};
+ghost use Rattle.mgs_ledger.specs.declared.batch.EventKind.TheVariants.{One};
 
 use crate::ledger_fault::LedgerFault;
 use crate::planned::{PlannedRow, lent_rows};
@@ -18,12 +19,23 @@ use mgs_wire::Refusal;
 use sqlite::{Alter, Connection};
 use std::alloc::{AllocError, Global};
 
-/// What was told, and when.
+/// What an event that is gathered tells.
+#[derive(Clone, Copy)]
+pub(crate) enum EventKind {
+    /// What was told.
+    One(Told),
+    /// What was told of this user, or of nobody, past the limit of rows a second.
+    More(Option<Name>),
+}
+
+/// An event that is gathered. It is a row of its own once it is committed.
 #[derive(Clone, Copy)]
 pub(crate) struct Gathered {
     /// The time, in seconds since 1970.
     pub(crate) at: i64,
-    pub(crate) told: Told,
+    pub(crate) kind: EventKind,
+    /// How many times it was told in this second: 1 and up.
+    pub(crate) count: u64,
 }
 
 /// What the row of an event is made of.
@@ -80,7 +92,7 @@ fn refusal_word(cause: Refusal) -> &'static str
     }
 }
 
-fn detail_of(alloc: Global, told: Told) -> Result<String, AllocError>
+fn told_detail(alloc: Global, told: Told) -> Result<String, AllocError>
     ensures { IfOk result (λ text. string_bytes text ≡ told_detail told) }
 {
     match told {
@@ -96,7 +108,7 @@ fn detail_of(alloc: Global, told: Told) -> Result<String, AllocError>
     }
 }
 
-fn what_of(told: Told) -> &'static str
+fn told_what(told: Told) -> &'static str
     ensures { result.now ≡ told_what told }
 {
     match told {
@@ -108,7 +120,8 @@ fn what_of(told: Told) -> &'static str
     }
 }
 
-fn user_of(told: Told) -> Option<Name>
+/// The user of whom it is told, if there is one.
+pub(crate) fn told_user(told: Told) -> Option<Name>
     ensures { result ≡ told_user told }
 {
     match told {
@@ -123,7 +136,7 @@ fn user_of(told: Told) -> Option<Name>
     }
 }
 
-fn buffer_of(told: Told) -> Option<Name>
+fn told_buffer(told: Told) -> Option<Name>
     ensures { result ≡ told_buffer told }
 {
     match told {
@@ -132,15 +145,62 @@ fn buffer_of(told: Told) -> Option<Name>
     }
 }
 
+// The detail of what was told so many times.
+fn counted_detail(alloc: Global, told: Told, count: u64) -> Result<String, AllocError>
+    ensures { IfOk result (λ text. string_bytes text ≡ kind_detail (One told) count) }
+{
+    let mut detail = told_detail(alloc, told)?;
+    if count > 1 {
+        write!(detail, " x {count}")?;
+    }
+    Ok(detail)
+}
+
+fn kind_detail(alloc: Global, kind: EventKind, count: u64) -> Result<String, AllocError>
+    ensures { IfOk result (λ text. string_bytes text ≡ kind_detail kind count) }
+{
+    match kind {
+        EventKind::One(told) => counted_detail(alloc, told, count),
+        EventKind::More(_) => format!(in alloc; "{count} events"),
+    }
+}
+
+fn kind_what(kind: EventKind) -> &'static str
+    ensures { result.now ≡ kind_what kind }
+{
+    match kind {
+        EventKind::One(told) => told_what(told),
+        EventKind::More(_) => "more",
+    }
+}
+
+fn kind_user(kind: EventKind) -> Option<Name>
+    ensures { result ≡ kind_user kind }
+{
+    match kind {
+        EventKind::One(told) => told_user(told),
+        EventKind::More(user) => user,
+    }
+}
+
+fn kind_buffer(kind: EventKind) -> Option<Name>
+    ensures { result ≡ kind_buffer kind }
+{
+    match kind {
+        EventKind::One(told) => told_buffer(told),
+        EventKind::More(_) => None,
+    }
+}
+
 fn words_of(alloc: Global, gathered: &Gathered) -> Result<Words, AllocError>
     ensures { IfOk result (λ words. word_values words ≡ told_row gathered.now) }
 {
     Ok(Words {
         at: gathered.at,
-        user: user_of(gathered.told),
-        what: what_of(gathered.told),
-        buffer: buffer_of(gathered.told),
-        detail: detail_of(alloc, gathered.told)?,
+        user: kind_user(gathered.kind),
+        what: kind_what(gathered.kind),
+        buffer: kind_buffer(gathered.kind),
+        detail: kind_detail(alloc, gathered.kind, gathered.count)?,
     })
 }
 

@@ -6,6 +6,7 @@ ghost use Rattle.sqlite.specs.State.{HasCleanDisk};
 ghost use Rattle.sqlite.specs.Held.{state};
 ghost use Rattle.mgs_journal.specs.Kept.{place_of, without};
 ghost use Rattle.mgs_journal.specs.Rows.{rules_in_rows};
+ghost use Rattle.mgs_ledger.specs.Counting.{gathering, no_rows};
 ghost use Rattle.mgs_ledger.specs.Keeping.{is_row_of};
 ghost use Rattle.mgs_ledger.specs.Agreement.{AreResumed};
 ghost use Rattle.mgs_ledger.specs.NewFile.{IsRenewed};
@@ -57,7 +58,8 @@ impl<S: Alter + Drop, C: Clock + Drop, W: Write + Drop> Ledger<S, C, W> {
         clock: C,
         out: W,
     ) -> Result<Ledger<S, C, W>, LedgerFault>
-        ensures { IfOk result (λ l. AreResumed S.Store conn l.log.conn l.rows.items l.texts.items l.taken.items) }
+        ensures resumed { IfOk result (λ l. AreResumed S.Store conn l.log.conn l.rows.items l.texts.items l.taken.items) }
+        ensures begins { IfOk result (λ l. gathering l.log.gathered.items l.log.tally ≡ gathering [] no_rows) }
     {
         let rows = read_values(&mut conn, alloc)?;
         let texts = read_snapshots(&mut conn, alloc, rows.len())?;
@@ -130,6 +132,7 @@ fn set_text_at<S: Alter + Drop, C: Clock + Drop, W: Write + Drop>(
     ensures texts { OnOk result (texts.new.items ≡ slice_set texts.old.items i (Some value)) }
     ensures stays { OnErr result (texts.new.items ≡ texts.old.items) }
     ensures gathered { OnOk result (log.new.gathered.items ≡ []) }
+    ensures tally { OnOk result (log.new.tally ≡ log.old.tally) }
     ensures failed { OnErr result (KeepsTables S.Store log.old.conn log.new.conn) }
     ensures committed { HasCleanDisk (state S.Store log.new.conn)
         → OnOk result (IsPutAt S.Store i value rows.now log.old.gathered.items log.old.conn log.new.conn) }
@@ -169,6 +172,7 @@ fn forget_row<S: Alter + Drop, C: Clock + Drop, W: Write + Drop>(
     ensures rows { OnOk result (rows.new.items ≡ without (place_of name.now (rules_in_rows rows.old.items)) rows.old.items) }
     ensures texts { OnOk result (texts.new.items ≡ without (place_of name.now (rules_in_rows rows.old.items)) texts.old.items) }
     ensures gathered { OnOk result (log.new.gathered.items ≡ []) }
+    ensures tally { OnOk result (log.new.tally ≡ log.old.tally) }
     ensures failed { OnErr result (KeepsTables S.Store log.old.conn log.new.conn) }
     ensures committed { HasCleanDisk (state S.Store log.new.conn)
         → OnOk result (IsForgotten S.Store name.now rows.old.items log.old.gathered.items log.old.conn log.new.conn) }
@@ -192,6 +196,7 @@ fn journal_answer(answer: Result<(), LedgerFault>) -> Result<(), JournalFault>
 
 impl<S: Alter + Drop, C: Clock + Drop, W: Write + Drop> Journal for Ledger<S, C, W> {
     ghost use Rattle.mgs_model.specs.Access.{is_among};
+    ghost use Rattle.mgs_ledger.specs.Counting.{gathering};
     ghost use Rattle.mgs_ledger.specs.Telling.{IsDone, IsNotTaken};
 
     ghost rows = { λ l. l.rows.items };
@@ -201,7 +206,7 @@ impl<S: Alter + Drop, C: Clock + Drop, W: Write + Drop> Journal for Ledger<S, C,
     ghost taken = { λ l name. is_among name l.taken.items };
 
     ghost does = { λ old act new.
-        IsDone S.Store act old.rows.items old.log.gathered.items new.log.gathered.items old.log.conn new.log.conn };
+        IsDone S.Store act old.rows.items (gathering old.log.gathered.items old.log.tally) (gathering new.log.gathered.items new.log.tally) old.log.conn new.log.conn };
 
     ghost fails = { λ old new. IsNotTaken S.Store old.log.gathered.items old.log.conn new.log.conn };
 

@@ -4,6 +4,7 @@ ghost use Rattle.sqlite.specs.State.{HasCleanDisk};
 ghost use Rattle.sqlite.specs.Held.{state};
 ghost use Rattle.mgs_journal.specs.Changes.{rows_changed, texts_changed};
 ghost use Rattle.mgs_tables.specs.Changes.{RanChanges};
+ghost use Rattle.mgs_ledger.specs.Counting.{gathering, no_rows};
 ghost use Rattle.mgs_ledger.specs.Keeping.{kill_events, planned_statement, word_values};
 ghost use Rattle.mgs_ledger.specs.NewFile.{IsRenewed, IsSettled};
 ghost use Rattle.mgs_ledger.specs.Reading.{HasNewest};
@@ -13,11 +14,13 @@ ghost use Rattle.mgs_ledger.specs.Refused.{KeepsTables};
 
 use crate::batch::{Gathered, Words, all_words, put_all};
 use crate::event_line::print_line;
+use crate::gathering::gather;
 use crate::ledger_fault::LedgerFault;
 use crate::new_file::{FirstWords, filled_tables};
 use crate::planned::{PlannedRow, plan_all, push_kill};
 use crate::snapshot::SnapshotValue;
 use crate::stored_texts::keep_text;
+use crate::tally::Tally;
 use crate::value::RightsValue;
 use mgs_journal::{Change, Room, Snapshot, Told};
 use mgs_model::Name;
@@ -47,6 +50,8 @@ pub(crate) struct Log<S: Alter + Drop, C: Clock + Drop, W: Write + Drop> {
     text_second: i64,
     // What is not committed yet, `GATHER_LIMIT` at most. The room for that is there from the start.
     gathered: Vec<Gathered>,
+    // How many rows each user had in the second of the last event.
+    tally: Tally,
     // The memory that a commit may need.
     room: Room,
 }
@@ -77,14 +82,6 @@ fn print_all<W: Write>(out: &mut W, alloc: Global, mut number: i64, all: &[Words
     number
 }
 
-// Adds one to what is gathered, for which there is room.
-fn push_gathered(gathered: &mut Vec<Gathered>, at: i64, told: Told) -> Result<(), LedgerFault>
-    ensures { OnOk result (IsGathered told gathered.old.items gathered.new.items) }
-{
-    gathered.push(Gathered { at, told })?;
-    Ok(())
-}
-
 impl<S: Alter + Drop, C: Clock + Drop, W: Write + Drop> Log<S, C, W> {
     /// A log over tables. It fails where they fail, and for want of memory.
     pub(crate) fn new(
@@ -93,10 +90,12 @@ impl<S: Alter + Drop, C: Clock + Drop, W: Write + Drop> Log<S, C, W> {
         clock: C,
         out: W,
     ) -> Result<Log<S, C, W>, LedgerFault>
-        ensures { IfOk result (λ log. HasNewest S.Store conn log.conn) }
+        ensures newest { IfOk result (λ log. HasNewest S.Store conn log.conn) }
+        ensures begins { IfOk result (λ log. gathering log.gathered.items log.tally ≡ gathering [] no_rows) }
     {
         let number = newest(&mut conn)?;
         let gathered = Vec::with_capacity(alloc, GATHER_LIMIT)?;
+        let tally = Tally::new(alloc)?;
         let room = Room::new(alloc, ROOM)?;
         Ok(Log {
             conn,
@@ -106,6 +105,7 @@ impl<S: Alter + Drop, C: Clock + Drop, W: Write + Drop> Log<S, C, W> {
             number,
             text_second: 0,
             gathered,
+            tally,
             room,
         })
     }
@@ -113,6 +113,7 @@ impl<S: Alter + Drop, C: Clock + Drop, W: Write + Drop> Log<S, C, W> {
     // Makes these changes of rows and adds these events, all of that or nothing. What was gathered is among the events.
     fn put(&mut self, planned: &[PlannedRow], events: &[Words]) -> Result<(), LedgerFault>
         ensures gathered { OnOk result (self.new.gathered.items ≡ []) }
+        ensures tally { OnOk result (self.new.tally ≡ self.old.tally) }
         ensures committed { HasCleanDisk (state S.Store self.new.conn)
             → OnOk result (RanChanges S.Store (map planned_statement planned.now) (map word_values events.now) self.old.conn (state S.Store self.new.conn).committed) }
         ensures failed { OnErr result (KeepsTables S.Store self.old.conn self.new.conn) }
@@ -128,6 +129,7 @@ impl<S: Alter + Drop, C: Clock + Drop, W: Write + Drop> Log<S, C, W> {
     /// Commits all that is gathered.
     pub(crate) fn commit(&mut self) -> Result<(), LedgerFault>
         ensures gathered { OnOk result (self.new.gathered.items ≡ []) }
+        ensures tally { OnOk result (self.new.tally ≡ self.old.tally) }
         ensures committed { HasCleanDisk (state S.Store self.new.conn)
             → OnOk result (AreCommitted S.Store self.old.gathered.items self.old.conn self.new.conn) }
         ensures failed { OnErr result (KeepsTables S.Store self.old.conn self.new.conn) }
@@ -149,6 +151,7 @@ impl<S: Alter + Drop, C: Clock + Drop, W: Write + Drop> Log<S, C, W> {
             number: _,
             text_second: _,
             gathered: _,
+            tally: _,
             room: _,
         } = self;
         Ok(conn)
@@ -157,6 +160,7 @@ impl<S: Alter + Drop, C: Clock + Drop, W: Write + Drop> Log<S, C, W> {
     // Commits all that is gathered, if there is no room for one more.
     fn make_room(&mut self) -> Result<(), LedgerFault>
         ensures gathered { OnOk result (self.new.gathered.items ≡ made_room self.old.gathered.items) }
+        ensures tally { OnOk result (self.new.tally ≡ self.old.tally) }
         ensures committed { OnOk result (MakesRoom S.Store (nat_lt (length self.old.gathered.items) 256) self.old.gathered.items self.old.conn self.new.conn) }
         ensures failed { OnErr result (KeepsTables S.Store self.old.conn self.new.conn) }
     {
@@ -168,18 +172,18 @@ impl<S: Alter + Drop, C: Clock + Drop, W: Write + Drop> Log<S, C, W> {
 
     /// Gathers what is told.
     pub(crate) fn gather(&mut self, told: Told) -> Result<(), LedgerFault>
-        ensures gathered { OnOk result (IsGathered told (made_room self.old.gathered.items) self.new.gathered.items) }
+        ensures gathered { OnOk result (IsGathered told (gathering (made_room self.old.gathered.items) self.old.tally) (gathering self.new.gathered.items self.new.tally)) }
         ensures committed { OnOk result (MakesRoom S.Store (nat_lt (length self.old.gathered.items) 256) self.old.gathered.items self.old.conn self.new.conn) }
         ensures failed { OnErr result (IsNotTaken S.Store self.old.gathered.items self.old.conn self.new.conn) }
     {
         self.make_room()?;
         let at = seconds(&self.clock)?;
-        push_gathered(&mut self.gathered, at, told)
+        gather(&mut self.gathered, &mut self.tally, at, &told)
     }
 
     /// Commits all that is gathered, if the second is over in which the first of it was told.
     pub(crate) fn commit_due(&mut self) -> Result<(), LedgerFault>
-        ensures done { OnOk result (IsTicked S.Store self.old.gathered.items self.new.gathered.items self.old.conn self.new.conn) }
+        ensures done { OnOk result (IsTicked S.Store (gathering self.old.gathered.items self.old.tally) (gathering self.new.gathered.items self.new.tally) self.old.conn self.new.conn) }
         ensures failed { OnErr result (KeepsTables S.Store self.old.conn self.new.conn) }
     {
         if self.gathered.is_empty() {
@@ -203,6 +207,7 @@ impl<S: Alter + Drop, C: Clock + Drop, W: Write + Drop> Log<S, C, W> {
         ensures rows { OnOk result (rows.new.items ≡ rows_changed changes.now rows.old.items) }
         ensures texts { OnOk result (texts.new.items ≡ texts_changed changes.now texts.old.items) }
         ensures gathered { OnOk result (self.new.gathered.items ≡ []) }
+        ensures tally { OnOk result (self.new.tally ≡ self.old.tally) }
         ensures committed { HasCleanDisk (state S.Store self.new.conn)
             → OnOk result (IsAltered S.Store user.now changes.now rows.old.items self.old.gathered.items self.old.conn self.new.conn) }
         ensures failed { OnErr result (KeepsTables S.Store self.old.conn self.new.conn) }
@@ -226,6 +231,7 @@ impl<S: Alter + Drop, C: Clock + Drop, W: Write + Drop> Log<S, C, W> {
     /// A name is free again, of which there is no row: commits an event that nobody killed it, after what was gathered.
     pub(crate) fn forget(&mut self, name: &Name) -> Result<(), LedgerFault>
         ensures gathered { OnOk result (self.new.gathered.items ≡ []) }
+        ensures tally { OnOk result (self.new.tally ≡ self.old.tally) }
         ensures committed { HasCleanDisk (state S.Store self.new.conn)
             → OnOk result ((at : ℤ) × IsCommitted S.Store [] self.old.gathered.items (kill_events at None name.now) self.old.conn self.new.conn) }
         ensures failed { OnErr result (KeepsTables S.Store self.old.conn self.new.conn) }
@@ -294,6 +300,7 @@ impl<S: Alter + Drop, C: Clock + Drop, W: Write + Drop> Log<S, C, W> {
     /// A buffer has this text: commits that with all that is gathered, in one transaction.
     pub(crate) fn keep_text(&mut self, name: &Name, text: &Snapshot<'_>) -> Result<(), LedgerFault>
         ensures gathered { OnOk result (self.new.gathered.items ≡ []) }
+        ensures tally { OnOk result (self.new.tally ≡ self.old.tally) }
         ensures committed { HasCleanDisk (state S.Store self.new.conn)
             → OnOk result (IsTextPut S.Store name.now text.now self.old.gathered.items self.old.conn self.new.conn) }
         ensures failed { OnErr result (KeepsTables S.Store self.old.conn self.new.conn) }

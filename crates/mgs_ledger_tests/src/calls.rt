@@ -4,7 +4,7 @@ use crate::desk::Dial;
 use mgs_acl::{List, print_entry, read_entry};
 use mgs_buffers::Rights;
 use mgs_journal::{Change, Journal, Told};
-use mgs_model::{Name, Owners};
+use mgs_model::{Decision, Name, Owners, Right};
 use std::alloc::{AllocError, Global};
 use std::test::Fail;
 
@@ -134,6 +134,37 @@ pub(crate) fn text<J: Journal>(alloc: Global, desk: &J, i: usize) -> Result<Stri
 pub(crate) fn come<J: Journal>(desk: &mut J, times: u32) -> Result<(), Fail> {
     for _ in 0..times {
         desk.tell(Told::Came(name("bob")?))?;
+    }
+    Ok(())
+}
+
+/// Tells that so many users came, each of them once, in so many rounds.
+pub(crate) fn come_in_rounds<J: Journal>(
+    desk: &mut J,
+    alloc: Global,
+    users: u32,
+    rounds: u32,
+) -> Result<(), Fail> {
+    for _ in 0..rounds {
+        for i in 0..users {
+            let user = format!(in alloc; "u{i}")?;
+            desk.tell(Told::Came(name(user.as_str())?))?;
+        }
+    }
+    Ok(())
+}
+
+/// Tells that an entry denied a user this right, so many times.
+pub(crate) fn deny<J: Journal>(
+    desk: &mut J,
+    user: &str,
+    entry: usize,
+    bit: Right,
+    times: u32,
+) -> Result<(), Fail> {
+    let decision = Decision::DeniedBy { entry, bit };
+    for _ in 0..times {
+        desk.tell(Told::Denied(name(user)?, decision))?;
     }
     Ok(())
 }

@@ -1,5 +1,5 @@
 // When what is gathered is committed.
-use crate::calls::{add, come, name, set_text, tell, tick};
+use crate::calls::{add, come, come_in_rounds, name, set_text, tell, tick};
 use crate::desk::{Dial, audit_sum, begin, last_lines};
 use mgs_journal::{Journal, Told};
 use mgs_model::{Decision, Right};
@@ -43,8 +43,12 @@ fn what_is_told_comes_before_the_next_change(rt: HostRuntime) -> Result<(), Fail
 }
 
 // How many lines are written once 256 are gathered, and once there is one more.
-fn gather_past_the_limit<J: Journal>(desk: &mut J, dial: &Dial) -> Result<(u64, u64), Fail> {
-    come(desk, 256)?;
+fn gather_past_the_limit<J: Journal>(
+    desk: &mut J,
+    dial: &Dial,
+    alloc: Global,
+) -> Result<(u64, u64), Fail> {
+    come_in_rounds(desk, alloc, 64, 4)?;
     let before = dial.line_count();
     come(desk, 1)?;
     Ok((before, dial.line_count()))
@@ -54,7 +58,7 @@ fn gather_past_the_limit<J: Journal>(desk: &mut J, dial: &Dial) -> Result<(u64, 
 fn what_is_gathered_is_committed_where_no_more_fits(rt: HostRuntime) -> Result<(), Fail> {
     let dial = Dial::new();
     let mut desk = begin(rt.alloc(), &dial)?;
-    assert!(rt; gather_past_the_limit(&mut desk, &dial)? == (0, 256));
+    assert!(rt; gather_past_the_limit(&mut desk, &dial, rt.alloc())? == (0, 256));
     Ok(())
 }
 

@@ -1,8 +1,8 @@
 use Rattle.std.proofs.Common.{rules}
 use Rattle.mgs_ledger.proofs.ledger.Ledger.resume.Goals as goal
 
-pub returns : goal.returns
-returns g c = record {
+pub returns-clause-resumed : goal.returns-clause-resumed
+returns-clause-resumed g c = record {
   mid = c.read_values.new.conn;
   later = c.read_snapshots.new.conn;
   last = c.read_history.new.conn;
@@ -12,5 +12,5 @@ returns g c = record {
   count = search rules;
   events = c.in_ok-history.ensures;
   agrees = search rules;
-  newest = c.in_ok-log.ensures;
+  newest = c.in_ok-log.ensures.newest;
 }
