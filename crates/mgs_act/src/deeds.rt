@@ -126,7 +126,14 @@ fn set_list<T: Marked + Drop, S: Store + Drop>(
     ensures done { IsDone directory.now at (SetsList name.now plan.now) buffers.old sessions.old (store_and_births S.failed S.accepted store.old)
         buffers.new sessions.new (store_and_births S.failed S.accepted store.new) result }
 {
-    put_list(buffers, directory, &sessions[at].user, name, plan, &mut store.tape);
+    put_list(
+        buffers,
+        directory,
+        &sessions[at].user,
+        name,
+        plan,
+        &mut store.tape,
+    );
     set_kind(&mut sessions[at], Kind::Other);
     Touched::Anywhere
 }

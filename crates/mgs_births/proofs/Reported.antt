@@ -29,7 +29,7 @@ pub denied_effects : (o : Option View) (c : Act) → effects_in (refusals_in o c
 denied_effects None c = refl
 denied_effects (Some v) c = refusals_effects v (needs v c)
 
-did_effects : (es : List Effect) → effects_in (map Did es) ≡ es
+pub did_effects : (es : List Effect) → effects_in (map Did es) ≡ es
 did_effects [] = refl
 did_effects (e ∷ es) = ap (λ (fs : List Effect). e ∷ fs) (did_effects es)
 

@@ -38,13 +38,13 @@ returns-in_default-clause-done g c =
     let xs = c.args.sessions.now in
     let r = c.index-sessions-at.result in
     let s = store_and_births g.S.Store.failed g.S.Store.accepted c.args.store.now in
-    let t : StoreTold = record { failed = s.failed; accepted = s.accepted; births = c.record_creation.new.self; tape = c.record_creation-2.new.self } in
+    let t : StoreTold = record { failed = s.failed; accepted = s.accepted; births = c.record_creation.new.self; tape = c.record_creation-in_default.new.self } in
     tellingly d c.args.at (Creates c.args.name) ks _ xs _ Anywhere s t (λ id next h place found. (
       created_done d ks xs next id c.args.at h found place c.requires.within c.requires.fresh _ c.args.name c.show.ensures.selected
           (λ x there known. made_world d ks c.create.new.self c.show.new.buffers xs c.show.new.sessions next id c.args.at c.args.name (get_or xs c.args.at r) x c.in_ok-create.ensures.ok there c.requires.within (ap (get_or xs c.args.at) c.index-sessions-at.is) known
           (λ seen. c.in_default.ensures.ok d id next x there seen)),
       refl,
-      subst (λ (y : Session). Tells (Did (Create c.args.name y.user) ∷ []) s t) (here_is xs c.args.at r h c.requires.within found) (tells_ruled s t (Create c.args.name (get_or xs c.args.at r).user) refl refl (c.record_creation.ensures (get_or xs c.args.at r).user) c.record_creation-2.ensures),
+      subst (λ (y : Session). Tells (Did (Create c.args.name y.user) ∷ []) s t) (here_is xs c.args.at r h c.requires.within found) (tells_ruled s t (Create c.args.name (get_or xs c.args.at r).user) refl refl (c.record_creation.ensures (get_or xs c.args.at r).user) c.record_creation-in_default.ensures),
     ))
 
 pub returns : goal.returns
