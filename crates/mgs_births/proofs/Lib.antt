@@ -2,5 +2,6 @@ pub mod Tells
 pub mod Reported
 pub mod Unsaid
 pub mod Asked
+mod Kept
 mod Numbers
 mod Removal

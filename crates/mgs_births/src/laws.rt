@@ -1,4 +1,5 @@
-// What the numbers of buffers are good for, and that reports have the effects of events.
+// What the numbers of buffers are good for, what is on a tape, and that reports have the effects of events.
+ghost use Rattle.mgs_births.specs.Deeds.{DeedsAreKept, DeedsAreLost};
 ghost use Rattle.mgs_births.specs.Numbers.{NumbersDiffer, NumbersEnd};
 ghost use Rattle.mgs_births.specs.Reporting.{EffectsAreReported, RunsAreReported};
 
@@ -24,4 +25,16 @@ pub fn effects_are_reported()
 #[tactic(auto, using(crate::proofs::Reported::runs_are_reported))]
 pub fn runs_are_reported()
     ensures { RunsAreReported }
+{}
+
+/// A tape that was blank has the deeds of all reports in their order, if there are no more than it has room for.
+#[tactic(auto, using(crate::proofs::Kept::deeds_are_kept))]
+pub fn deeds_are_kept()
+    ensures { DeedsAreKept }
+{}
+
+/// A tape is lost if there are more deeds than it has room for.
+#[tactic(auto, using(crate::proofs::Kept::deeds_are_lost))]
+pub fn deeds_are_lost()
+    ensures { DeedsAreLost }
 {}

@@ -12,6 +12,9 @@ mod with_births;
 pub use birth::Birth;
 pub use births::Births;
 pub use deed::Deed;
-pub use laws::{effects_are_reported, numbers_differ, numbers_end, runs_are_reported};
+pub use laws::{
+    deeds_are_kept, deeds_are_lost, effects_are_reported, numbers_differ, numbers_end,
+    runs_are_reported,
+};
 pub use tape::{DEED_LIMIT, Tape};
 pub use with_births::WithBirths;
