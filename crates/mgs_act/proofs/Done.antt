@@ -1,5 +1,5 @@
 -- What is done for the session at an index, by what was decided for it.
-use Rattle.std.proofs.Common.{◌≡◌, ℕ, zero, suc, ◌<◌, Bool, true, List, [], ◌∷◌, length, Option, Some, None, get_or, refl, sym, ap, subst, ◌∙◌, arith}
+use Rattle.std.proofs.Common.{◌≡◌, ℕ, zero, suc, ◌<◌, Bool, true, List, [], ◌∷◌, length, map, Option, Some, None, get_or, refl, sym, ap, subst, ◌∙◌, arith}
 use Rattle.std.specs.Prelude.{slice_get, slice_set, IfSome, OnOk, Result, Ok, Err}
 use Rattle.std.specs.List.{position_or_len}
 use Rattle.std.specs.Option.{option_and_then}
@@ -10,7 +10,7 @@ use Rattle.mgs_laws.specs.Apart.{touched_by}
 use Rattle.mgs_model.specs.Apply.{applied, apply, outcome_in}
 use Rattle.mgs_model.specs.Events.{effect_in}
 use Rattle.mgs_laws.specs.Refusals.{may_be_refused, takes_memory}
-use Rattle.mgs_model.specs.Outcome.{Act, Effect, Save, Create, Kill}
+use Rattle.mgs_model.specs.Outcome.{Act, Effect, Save, SetList, SetOwners, Create, Kill}
 use Rattle.mgs_model.specs.Outcome as outcomes
 use Rattle.mgs_model.specs.Plans.{acted_state}
 use Rattle.mgs_model.specs.World.{State}
@@ -20,6 +20,7 @@ use Rattle.mgs_model.specs.declared.entry.Decision.{Decision}
 use Rattle.mgs_model.specs.declared.entry.Decision.TheVariants.{Granted}
 use Rattle.mgs_model.specs.declared.touched.Touched.{Touched}
 use Rattle.mgs_model.specs.declared.touched.Touched.TheVariants.{Nowhere}
+use Rattle.mgs_births.specs.Reports.{Did}
 use Rattle.mgs_births.specs.Telling.{IsSilent, StoreTold, Tells}
 use Rattle.mgs_births.proofs.Tells.{tells_quiet}
 use Rattle.mgs_buffers.specs.MarkedBuffer.{MarkedBuffer}
@@ -84,7 +85,7 @@ granted_done (Err d) due answer granted ok = absurd (answer.1 (sym answer.0 ∙ 
 -- what is told of what was done
 pub tellingly : (directory : Directory) (at : ℕ) (o : Outcome) (ks ls : List MarkedBuffer) (xs ys : List Session) (touched : Touched) (s t : StoreTold)
     → ((id : ℕ) (next : Option ℕ) (h : Session) → at ≡ position_or_len (session_id id) xs → slice_get xs at ≡ Some h
-    → (let p = outcome_read ks (view_at directory ks xs next h) o true in (world_of directory ls ys next ≡ apply (world_of directory ks xs next) id p) × (touched ≡ touched_by p.effect) × Tells (p.effect ∷ []) s t))
+    → (let p = outcome_read ks (view_at directory ks xs next h) o true in (world_of directory ls ys next ≡ apply (world_of directory ks xs next) id p) × (touched ≡ touched_by p.effect) × Tells (Did p.effect ∷ []) s t))
     → IsDone directory at o ks xs s ls ys t touched
 tellingly directory at o ks ls xs ys touched s t does = record {
   stored = true;
@@ -97,14 +98,16 @@ pub quietly : (directory : Directory) (at : ℕ) (o : Outcome) (ks ls : List Mar
     → (let p = outcome_read ks (view_at directory ks xs next h) o true in (world_of directory ls ys next ≡ apply (world_of directory ks xs next) id p) × (touched ≡ touched_by p.effect) × IsSilent p.effect))
     → IsQuietlyDone directory at o ks xs ls ys touched
 quietly directory at o ks ls xs ys touched does = λ t. tellingly directory at o ks ls xs ys touched t t
-    (λ id next h place found. let it = does id next h place found in (it.0, it.1, tells_quiet t (outcome_read ks (view_at directory ks xs next h) o true).effect it.2.0 it.2.1))
+    (λ id next h place found. let it = does id next h place found in (it.0, it.1, tells_quiet t (outcome_read ks (view_at directory ks xs next h) o true).effect it.2))
 
 -- what touches nothing is silent
 pub nowhere_silent : (e : Effect) → touched_by e ≡ Nowhere → IsSilent e
 nowhere_silent (Save name text) is = cc
+nowhere_silent (SetList name entries) is = cc
+nowhere_silent (SetOwners name new) is = cc
 nowhere_silent (Create name owner) is = cc
 nowhere_silent (Kill name) is = cc
-nowhere_silent _ is = (refl, λ b. refl)
+nowhere_silent _ is = record { saves = refl; births = λ b. refl; tape = λ t. refl }
 
 pub quiet_done : (directory : Directory) (at : ℕ) (o p : Outcome) (ks ls : List MarkedBuffer) (xs ys : List Session) (t : StoreTold) → o ≡ p
     → ((id : ℕ) (next : Option ℕ) (h : Session) → at ≡ position_or_len (session_id id) xs → slice_get xs at ≡ Some h
@@ -151,7 +154,7 @@ module _ (directory : Directory) (at : ℕ) (c : Act) (ks : List MarkedBuffer) (
             stored = done.stored;
             world = does.world ∙ sym (ap (applied w id) known);
             fault = done.fault;
-            tells = subst (λ q. Tells (effect_in q) before after) (sym known) does.tells;
+            tells = subst (λ q. Tells (map Did (effect_in q)) before after) (sym known) does.tells;
           };
           tells = tells_known _ p touched known does.touches;
         }

@@ -32,10 +32,10 @@ use Rattle.mgs_world.specs.Worlds.{state_at, state_of, state_or_first, session_i
 
 finished_silent : (state : State) (f : plans.Finish) (e : Effect) → IsSilent e → IsSilent (finished state f e).effect
 finished_silent state f e none =
-    elim (is_too_large f.kill) as (λ b. IsSilent (cond b (fails state (Says KillTooLarge)) (record { state = finished_state f state; kill = f.kill; arrange = Adjust f.point f.mark f.top None Keep_search; effect = e })).effect) [ true ↦ (refl, λ b. refl) | false ↦ none ]
+    elim (is_too_large f.kill) as (λ b. IsSilent (cond b (fails state (Says KillTooLarge)) (record { state = finished_state f state; kill = f.kill; arrange = Adjust f.point f.mark f.top None Keep_search; effect = e })).effect) [ true ↦ record { saves = refl; births = λ b. refl; tape = λ t. refl } | false ↦ none ]
 
 edit_silent : (name : List ℕ) (c : plans.Change) → IsSilent (edit_of name c.a c.b c.put)
-edit_silent name c = elim (is_edit c.a c.b c.put) as (λ b. IsSilent (cond b (Edit name c.a c.b c.put) No_effect)) [ true ↦ (refl, λ b. refl) | false ↦ (refl, λ b. refl) ]
+edit_silent name c = elim (is_edit c.a c.b c.put) as (λ b. IsSilent (cond b (Edit name c.a c.b c.put) No_effect)) [ true ↦ record { saves = refl; births = λ b. refl; tape = λ t. refl } | false ↦ record { saves = refl; births = λ b. refl; tape = λ t. refl } ]
 
 change_silent : (state : State) (name : List ℕ) (c : plans.Change) → IsSilent (finished state c.finish (edit_of name c.a c.b c.put)).effect
 change_silent state name c = finished_silent state c.finish (edit_of name c.a c.b c.put) (edit_silent name c)
@@ -44,8 +44,8 @@ through_silent : (state : State) (x : WindowMarks) (ks : List MarkedBuffer) (kil
 through_silent state x ks kill (Edits mask c) = change_silent state x.name (change_read (marked_at x.name ks).buffer.text kill c)
 through_silent state x ks kill (Undoes u) =
     let b = (marked_at x.name ks).buffer in change_silent state x.name (undone_read b.text kill (removed_by u.serial b.items) u)
-through_silent state x ks kill (Moves f) = finished_silent state (finish_read (marked_at x.name ks).buffer.text kill 0 f) No_effect (refl, λ b. refl)
-through_silent state x ks kill _ = (refl, λ b. refl)
+through_silent state x ks kill (Moves f) = finished_silent state (finish_read (marked_at x.name ks).buffer.text kill 0 f) No_effect (record { saves = refl; births = λ b. refl; tape = λ t. refl })
+through_silent state x ks kill _ = record { saves = refl; births = λ b. refl; tape = λ t. refl }
 
 -- AN ACTION
 

@@ -1,5 +1,5 @@
 -- What is done for the session at an index, by what was decided for it.
-use Rattle.std.specs.Prelude.{◌≡◌, ◌<◌, ℕ, Bool, true, false, List, [], ◌∷◌, length, Option, Some, Ok, slice_get}
+use Rattle.std.specs.Prelude.{◌≡◌, ◌<◌, ℕ, Bool, true, false, List, [], ◌∷◌, length, map, Option, Some, Ok, slice_get}
 use Rattle.std.specs.List.{position_or_len}
 use Rattle.mgs_model.specs.Access.{Directory}
 use Rattle.mgs_laws.specs.Apart.{touched_by}
@@ -12,6 +12,8 @@ use Rattle.mgs_model.specs.World.{State, World}
 use Rattle.mgs_model.specs.declared.entry.Entry.{Entry}
 use Rattle.mgs_model.specs.declared.touched.Touched.{Touched}
 use Rattle.mgs_store.specs.Stores.{IsCounted}
+use Rattle.mgs_births.specs.Reports.{Did}
+use Rattle.mgs_births.specs.Tapes.{Tape, tape_done}
 use Rattle.mgs_births.specs.Telling.{StoreTold, Tells}
 use Rattle.mgs_buffers.specs.MarkedBuffer.{MarkedBuffer, marked_at, marked_named, marked_list_set}
 use Rattle.mgs_session.specs.declared.Session.{Session}
@@ -45,7 +47,7 @@ pub record IsReady (directory : Directory) (at : ℕ) (ks : List MarkedBuffer) (
 pub record Does (old new : World) (before after : StoreTold) (id : ℕ) (o : outcomes.Outcome) (touched : Touched) : Type 0 where
   pub world : new ≡ apply old id o
   pub touches : touched ≡ touched_by o.effect
-  pub tells : Tells (o.effect ∷ []) before after
+  pub tells : Tells (Did o.effect ∷ []) before after
 
 -- WHAT WAS DECIDED IS DONE: the store's answer to a save was a refusal only where a fault was counted
 pub record IsDone (directory : Directory) (at : ℕ) (o : Outcome) (ks : List MarkedBuffer) (xs : List Session) (before : StoreTold) (ls : List MarkedBuffer) (ys : List Session) (after : StoreTold) (touched : Touched) : Type 0 where
@@ -62,17 +64,23 @@ abbrev pub IsListSet : List ℕ → EntryPlan → List MarkedBuffer → List Mar
 IsListSet name plan ks ls =
     (entries : List Entry) → entries_planned plan (marked_at name ks).buffer.entries ≡ Ok entries → ls ≡ change_first (marked_named name) (marked_list_set entries) ks
 
+-- and that it is on the tape
+abbrev pub IsListTaped : List ℕ → EntryPlan → List MarkedBuffer → Tape → Tape → Type 0
+IsListTaped name plan ks before after =
+    (entries : List Entry) → entries_planned plan (marked_at name ks).buffer.entries ≡ Ok entries → after ≡ tape_done (outcomes.SetList name entries) before
+
 -- that it takes memory
 abbrev pub TakesMemory : ℕ → Outcome → List MarkedBuffer → List Session → Type 0
 TakesMemory at o ks xs =
     (directory : Directory) (id : ℕ) (next : Option ℕ) (h : Session) → at ≡ position_or_len (session_id id) xs → slice_get xs at ≡ Some h → takes_memory (outcome_read ks (view_at directory ks xs next h) o true) ≡ true
 
--- AN ACT: the store's answer to a save was a refusal only where a fault was counted, and what the act saves was accepted
+-- AN ACT: the store's answer to a save was a refusal only where a fault was counted, what the act saves was accepted, and its deed is on the
+-- tape. A denial is recorded by the caller
 pub record ActedBy (old new : World) (before after : StoreTold) (id : ℕ) (c : Act) : Type 0 where
   pub stored : Bool
   pub world : new ≡ act old id c stored
   pub fault : stored ≡ false → IsCounted before.failed after.failed
-  pub tells : Tells (act_effects old id c stored) before after
+  pub tells : Tells (map Did (act_effects old id c stored)) before after
 
 -- and it tells what it touched
 pub record DoneBy (touched : Touched) (old new : World) (before after : StoreTold) (id : ℕ) (c : Act) : Type 0 where

@@ -36,6 +36,7 @@ pub fn show_created<T: Marked + Drop, S: Store + Drop>(
     buffers.create(name, owner)?;
     let Err(short) = show(buffers, sessions, at, &name) else {
         store.births.record_creation(name);
+        store.tape.record_creation(name, owner);
         return Ok(Touched::Anywhere);
     };
     // The buffer goes again, which its owner may do: nothing shows it.

@@ -6,7 +6,7 @@ ghost use Rattle.mgs_plan.specs.Deciding.{CanList, IsGranted};
 ghost use Rattle.mgs_plan.specs.declared.outcome.Outcome.TheVariants.{Kills, SetsList, SetsOwners, Saves};
 ghost use Rattle.mgs_plan.specs.Rows.{scrolled_to};
 ghost use Rattle.mgs_births.specs.StoreBirths.{store_and_births};
-ghost use Rattle.mgs_act.specs.Doing.{IsDone, IsListSet, IsQuietlyDone, IsReady, TakesMemory};
+ghost use Rattle.mgs_act.specs.Doing.{IsDone, IsListSet, IsListTaped, IsReady, TakesMemory};
 ghost use Rattle.mgs_world.specs.Acted.{IsUnchanged};
 ghost use Rattle.mgs_world.specs.Sound.{IsSound};
 
@@ -15,7 +15,7 @@ use crate::creation::show_created;
 use crate::session_settings::set;
 use crate::text_action::{Spot, perform};
 use mgs_arrange::{rearrange, show, show_entries};
-use mgs_births::WithBirths;
+use mgs_births::{Tape, WithBirths};
 use mgs_buffers::{Buffers, SaveFault};
 use mgs_marks::Marked;
 use mgs_model::{Kind, Message, Name, NewOwner, Notice, Short, Touched};
@@ -45,6 +45,7 @@ fn kill<T: Marked + Drop, S: Store + Drop>(
     // It was granted when it was planned.
     let _done = kill_buffer(buffers, directory, &user, sessions, name);
     store.births.record_kill(name);
+    store.tape.record_kill(name);
     Touched::Anywhere
 }
 
@@ -67,36 +68,42 @@ fn set_owner<T: Marked + Drop>(
 }
 
 /// The same, by an act of the session at `at`.
-fn assign<T: Marked + Drop>(
+fn assign<T: Marked + Drop, S: Store + Drop>(
     buffers: &mut Buffers<T>,
     directory: &Directory,
     sessions: &mut [Session],
     at: usize,
     name: &Name,
     new: NewOwner,
+    store: &mut WithBirths<S>,
 ) -> Touched
     requires { IsReady directory.now at buffers.old sessions.old (SetsOwners name.now new) }
     ensures sound { IsSound buffers.new sessions.new }
-    ensures done { IsQuietlyDone directory.now at (SetsOwners name.now new) buffers.old sessions.old buffers.new sessions.new result }
+    ensures done { IsDone directory.now at (SetsOwners name.now new) buffers.old sessions.old (store_and_births S.failed S.accepted store.old)
+        buffers.new sessions.new (store_and_births S.failed S.accepted store.new) result }
 {
     set_owner(buffers, directory, &sessions[at].user, name, new);
     set_kind(&mut sessions[at], Kind::Other);
+    store.tape.record_owners(name, &new);
     Touched::Anywhere
 }
 
-/// The access list of the buffer of a name changes as planned, by a user who may change it.
+/// The access list of the buffer of a name changes as planned, by a user who may change it, and is recorded.
 fn put_list<T: Marked + Drop>(
     buffers: &mut Buffers<T>,
     directory: &Directory,
     user: &Name,
     name: &Name,
     plan: &EntryPlan,
+    tape: &mut Tape,
 )
     requires { CanList directory.now buffers.old user.now name.now plan.now }
-    ensures { IsListSet name.now plan.now buffers.old buffers.new }
+    ensures list { IsListSet name.now plan.now buffers.old buffers.new }
+    ensures taped { IsListTaped name.now plan.now buffers.old tape.old tape.new }
 {
     match changed(buffers.copy_list(name), plan) {
         Ok(list) => {
+            tape.record_list(name, list.copy());
             let _done = buffers.set_list_as(directory, user, name, list);
         }
         // It was planned on the same list.
@@ -105,19 +112,28 @@ fn put_list<T: Marked + Drop>(
 }
 
 /// The same, by an act of the session at `at`.
-fn set_list<T: Marked + Drop>(
+fn set_list<T: Marked + Drop, S: Store + Drop>(
     buffers: &mut Buffers<T>,
     directory: &Directory,
     sessions: &mut [Session],
     at: usize,
     name: &Name,
     plan: &EntryPlan,
+    store: &mut WithBirths<S>,
 ) -> Touched
     requires { IsReady directory.now at buffers.old sessions.old (SetsList name.now plan.now) }
     ensures sound { IsSound buffers.new sessions.new }
-    ensures done { IsQuietlyDone directory.now at (SetsList name.now plan.now) buffers.old sessions.old buffers.new sessions.new result }
+    ensures done { IsDone directory.now at (SetsList name.now plan.now) buffers.old sessions.old (store_and_births S.failed S.accepted store.old)
+        buffers.new sessions.new (store_and_births S.failed S.accepted store.new) result }
 {
-    put_list(buffers, directory, &sessions[at].user, name, plan);
+    put_list(
+        buffers,
+        directory,
+        &sessions[at].user,
+        name,
+        plan,
+        &mut store.tape,
+    );
     set_kind(&mut sessions[at], Kind::Other);
     Touched::Anywhere
 }
@@ -147,6 +163,7 @@ fn save<T: Marked + Drop, S: Store + Drop>(
 {
     match buffers.save_as(directory, &sessions[at].user, name, &mut store.store) {
         Ok(()) => {
+            store.tape.record_save(name);
             finish(&mut sessions[at], Kind::Other, Message::Wrote(*name));
             Touched::In(*name)
         }
@@ -190,8 +207,12 @@ pub fn do_decided<T: Marked + Drop, S: Store + Drop>(
             perform(buffers, directory, sessions, at, spot, action)
         }
         Outcome::Kills(name) => Ok(kill(buffers, directory, sessions, at, name, store)),
-        Outcome::SetsOwners(name, new) => Ok(assign(buffers, directory, sessions, at, name, *new)),
-        Outcome::SetsList(name, plan) => Ok(set_list(buffers, directory, sessions, at, name, plan)),
+        Outcome::SetsOwners(name, new) => {
+            Ok(assign(buffers, directory, sessions, at, name, *new, store))
+        }
+        Outcome::SetsList(name, plan) => {
+            Ok(set_list(buffers, directory, sessions, at, name, plan, store))
+        }
         Outcome::Lists(name) => {
             show_entries(buffers, sessions, at, name);
             Ok(Touched::Nowhere)

@@ -1,4 +1,9 @@
 pub mod Births
 pub mod Numbers
+pub mod Reports
+pub mod Tapes
+pub mod Deeds
+pub mod Denials
 pub mod Telling
 pub mod StoreBirths
+pub mod Reporting

@@ -1,8 +1,6 @@
 -- The births of buffers stay if an event does not touch all.
-use Rattle.std.proofs.Common.{◌≡◌, Bool, true, false, Option, Some, None, refl, ap, ◌∙◌, sym}
-use Rattle.std.specs.Prelude.{cond}
+use Rattle.std.proofs.Common.{◌≡◌, true, false, Option, Some, None, refl, ap, ◌∙◌, sym}
 use Rattle.mgs_model.specs.Events.{effect_in}
-use Rattle.mgs_model.specs.Names.{same_name}
 use Rattle.mgs_model.specs.Outcome.{Effect, Outcome, Create, Kill}
 use Rattle.mgs_model.specs.declared.touched.Touched.{Touched}
 use Rattle.mgs_model.specs.declared.touched.Touched.TheVariants.{Nowhere, In, Anywhere}

@@ -2,9 +2,9 @@
 use Rattle.std.proofs.Common.{◌≡◌, ℕ, true, false, List, [], Some, None, refl, sym, ap, subst, ◌∙◌, arith}
 use Rattle.std.specs.Prelude.{IsSome, is_some}
 use Rattle.mgs_model.specs.World.{World, Session, find_session}
-use Rattle.mgs_model.specs.Outcome.{Act, Effect, Run}
+use Rattle.mgs_model.specs.Outcome.{Act, Run}
 use Rattle.mgs_model.specs.Apply.{act, without_session}
-use Rattle.mgs_model.specs.Events.{act_effects, begun_state, rests, settled, turn_in, with_state}
+use Rattle.mgs_model.specs.Events.{begun_state, rests, settled, turn_in, with_state}
 use Rattle.mgs_model.specs.declared.errors.Keyed.{Keyed}
 use Rattle.mgs_model.specs.declared.errors.Keyed.TheVariants as keyed
 use Rattle.mgs_model.specs.declared.session.Command.TheVariants.{Exit}
@@ -12,8 +12,9 @@ use Rattle.mgs_laws.proofs.After.{find_without}
 use Rattle.mgs_laws.proofs.Ends.{act_ends}
 use Rattle.mgs_core.proofs.Led.{Leads, leads_acted}
 use Rattle.mgs_laws.proofs.LeftToDo.{found_state, rests_found}
-use Rattle.mgs_core.proofs.Bytes.{effects_done, step_done}
-use Rattle.mgs_core.proofs.Silent.{act_told, exit_silent}
+use Rattle.mgs_core.proofs.Bytes.{reports_done, step_done}
+use Rattle.mgs_core.proofs.Silent.{act_reported, exit_silent}
+use Rattle.mgs_births.specs.Reports.{Report, act_reports}
 use Rattle.mgs_births.specs.Telling.{StoreTold, Tells}
 use Rattle.mgs_world.specs.declared.size.Size.{Size}
 use Rattle.mgs_world.specs.Worlds.{IsUnique, sizes}
@@ -51,8 +52,8 @@ module _ (w start now : World) (before after : StoreTold) (id byte : ℕ) (begin
   gone : find_session id ended.sessions ≡ None
   gone = ap (λ (v : World). find_session id v.sessions) ended_is ∙ find_without id started.sessions
 
-  abbrev done : List Effect
-  done = act_effects (with_state id (λ was. t.state) started) id exits true
+  abbrev done : List Report
+  done = act_reports (with_state id (λ was. t.state) started) id exits true
 
   leads : Leads id true 1 done started ended
   leads = leads_acted id true started ended t.state exits (ap (λ (u : World). turn_in u id) (sym begins) ∙ t.turn) refl
@@ -76,8 +77,8 @@ module _ (w start now : World) (before after : StoreTold) (id byte : ℕ) (begin
         may = λ e. cc;
         fault = λ e. cc;
         tells =
-            subst (λ (es : List Effect). Tells es before after) (sym (effects_done w ended id byte true 1 done here leads (within_most 1 (omega arith)) over))
-            (subst (λ (u : StoreTold). Tells done before u) (sym t.left) (act_told (with_state id (λ was. t.state) started) id exits true before (exit_silent t.argument true)));
+            subst (λ (es : List Report). Tells es before after) (sym (reports_done w ended id byte true 1 done here leads (within_most 1 (omega arith)) over))
+            (subst (λ (u : StoreTold). Tells done before u) (sym t.left) (act_reported (with_state id (λ was. t.state) started) id exits true before (exit_silent t.argument true) (λ v. refl)));
         unasked = λ e. cc;
       }
 

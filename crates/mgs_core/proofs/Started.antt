@@ -1,5 +1,5 @@
 -- An act that starts a search: it goes by no search that was there before.
-use Rattle.std.proofs.Common.{◌≡◌, ℕ, Bool, cond, List, [], ◌∷◌, map, map-id, Option, Some, None, refl, sym, ap, subst, ◌∙◌}
+use Rattle.std.proofs.Common.{◌≡◌, ℕ, Bool, true, cond, List, [], ◌∷◌, map, map-id, Option, Some, None, refl, sym, ap, subst, ◌∙◌}
 use Rattle.std.specs.Option.{option_map}
 use Rattle.mgs_model.specs.World.{World, State, Search, Session, find_session, has_id}
 use Rattle.mgs_model.specs.View.{View, view, text_in, size_told}
@@ -17,6 +17,7 @@ use Rattle.mgs_model.specs.declared.search.Direction.{Direction}
 use Rattle.mgs_model.specs.declared.session.Command.TheVariants.{Seek}
 use Rattle.mgs_model.specs.declared.session.Seeking.TheVariants.{StartSearch}
 use Rattle.mgs_model.proofs.Firsts.{change_first_found, change_twice, find-change_first}
+use Rattle.mgs_births.specs.Reports.{Report, Did, act_refusals, refusals, refusals_in, refused_first}
 use Rattle.mgs_births.specs.Telling.{StoreTold, Tells}
 use Rattle.mgs_plan.specs.declared.key_act.KeyAct.{KeyAct}
 use Rattle.mgs_plan.specs.declared.key_act.KeyAct.TheVariants as acts
@@ -109,6 +110,19 @@ module _ (w : World) (id : ℕ) (o : State) (d : Direction) (n : Option ℕ) (x 
   pub started_effects : act_effects (with_state id (searching_state d) (with_state id (λ was. o) w)) id (Run (Seek (StartSearch d)) n []) stored ≡ act_effects (with_state id (λ was. searching_state d o) w) id (Run (Seek (StartSearch d)) n []) stored
   started_effects = started_so (λ (v : World). act_effects v id c stored) effects_there
 
+  -- and what is denied to it
+  refusals_same : (s : Option Search) (rs : List Request) → refusals (seen s) rs ≡ refusals (seen None) rs
+  refusals_same s [] = refl
+  refusals_same s (r ∷ rs) = ap (λ (qs : List Report). refused_first r.buffer (request_judged (seen None) r) qs) (refusals_same s rs)
+
+  refusals_there : (s : Option Search) → act_refusals (world s) id c ≡ refusals (seen None) (needs (seen None) c)
+  refusals_there s =
+      ap (λ (o : Option Session). refusals_in (option_map (view (world s)) o) c) (find-change_first (has_id id) (put s) (λ y. refl) w.sessions ∙ ap (option_map (put s)) found)
+      ∙ refusals_same s (needs (seen None) c)
+
+  pub started_refusals : act_refusals (with_state id (searching_state d) (with_state id (λ was. o) w)) id (Run (Seek (StartSearch d)) n []) ≡ act_refusals (with_state id (λ was. searching_state d o) w) id (Run (Seek (StartSearch d)) n [])
+  started_refusals = started_so (λ (v : World). act_refusals v id c) (λ s. refusals_there s ∙ sym (refusals_there None))
+
 -- AN ACT OF A KEY, which may start one: it is decided with the record that it begins from
 abbrev pub IsBegun : World → ℕ → State → KeyAct → World → StoreTold → StoreTold → Type 0
 IsBegun w id o a new before after = ActedBy (started_world (started_by a) id (with_state id (λ was. o) w)) new before after id (act_of a) → ActedBy (with_state id (λ was. started_state (started_by a) o) w) new before after id (act_of a)
@@ -118,6 +132,11 @@ begun_act w id o (acts.Run (Seek (StartSearch d)) n) x new before after found di
   stored = did.stored;
   world = did.world ∙ started_act w id o d n x found did.stored;
   fault = did.fault;
-  tells = subst (λ (es : List Effect). Tells es before after) (started_effects w id o d n x found did.stored) did.tells;
+  tells = subst (λ (es : List Effect). Tells (map Did es) before after) (started_effects w id o d n x found did.stored) did.tells;
 }
 begun_act w id o _ x new before after found did = did
+
+pub begun_refusals : (w : World) (id : ℕ) (o : State) (a : KeyAct) (x : Session) → find_session id w.sessions ≡ Some x
+    → act_refusals (started_world (started_by a) id (with_state id (λ was. o) w)) id (act_of a) ≡ act_refusals (with_state id (λ was. started_state (started_by a) o) w) id (act_of a)
+begun_refusals w id o (acts.Run (Seek (StartSearch d)) n) x found = started_refusals w id o d n x found true
+begun_refusals w id o _ x found = refl

@@ -24,7 +24,7 @@ use Rattle.mgs_model.specs.declared.session.Kind.{Kind}
 use Rattle.mgs_model.specs.declared.session.Kind.TheVariants.{Other}
 use Rattle.mgs_model.specs.declared.limits.TheConstants.{REPETITION_LIMIT}
 use Rattle.mgs_laws.proofs.Ends.{call_fails, exit_fails}
-use Rattle.mgs_core.proofs.Silent.{act_told, call_silent, exit_silent}
+use Rattle.mgs_core.proofs.Silent.{act_reported, call_silent, exit_silent}
 use Rattle.mgs_buffers.specs.MarkedBuffer.{MarkedBuffer}
 use Rattle.mgs_plan.specs.declared.key_act.KeyAct.{KeyAct}
 use Rattle.mgs_plan.specs.declared.key_act.KeyAct.TheVariants.{Unbound as unbound}
@@ -220,7 +220,7 @@ module _ (Sees : View → Type 0) (comes : View → Turn) (x new : Session) (c :
         playing = refl;
         fails = λ v k seen. exit_fails v n true (ap (λ (o : model.State). o.playing) seen ∙ plays);
         breaks = λ k. refl;
-        quiet = λ w id t. act_told w id (Run Exit n []) true t (exit_silent n true);
+        quiet = λ w id t. act_reported w id (Run Exit n []) true t (exit_silent n true) (λ v. refl);
         told = refl;
       })
 
@@ -238,7 +238,7 @@ module _ (Sees : View → Type 0) (comes : View → Turn) (x new : Session) (c :
         playing = refl;
         fails = λ v k seen. call_fails v n message true (ap (λ (o : model.State). setting CallMacro (acted_state o) n) seen ∙ r.0);
         breaks = r.1;
-        quiet = λ w id t. act_told w id (Run (Set CallMacro) n []) true t (call_silent n true);
+        quiet = λ w id t. act_reported w id (Run (Set CallMacro) n []) true t (call_silent n true) (λ v. refl);
         told = refl;
       })
 

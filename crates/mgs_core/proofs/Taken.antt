@@ -15,7 +15,7 @@ use Rattle.mgs_model.specs.Apply.{act, outcome_in, is_search_mode}
 use Rattle.mgs_model.specs.Acts.{without_all}
 use Rattle.mgs_model.specs.View.{View, view}
 use Rattle.mgs_model.specs.Turns.{Turn, Keep, Do, todo_turn}
-use Rattle.mgs_model.specs.Events.{act_effects, state_set, refused_state, settled, turn_in, with_state}
+use Rattle.mgs_model.specs.Events.{state_set, refused_state, settled, turn_in, with_state}
 use Rattle.mgs_laws.specs.Refusals.{may_be_refused}
 use Rattle.mgs_model.specs.declared.search.SearchStep.{SearchStep}
 use Rattle.mgs_model.specs.declared.session.Command.TheVariants as commands
@@ -49,6 +49,9 @@ use Rattle.mgs_plan.specs.Searching.{meant}
 use Rattle.mgs_buffers.specs.MarkedBuffer.{AreWithinLimit, MarkedBuffer}
 use Rattle.mgs_session.specs.declared.Session.{Session}
 use Rattle.mgs_session.specs.declared.search.Search.{Search}
+use Rattle.mgs_store.specs.Stores.{IsCounted}
+use Rattle.mgs_births.specs.Reports.{Report, act_refusals}
+use Rattle.mgs_births.specs.Tapes.{tape_after}
 use Rattle.mgs_births.specs.Telling.{StoreTold}
 use Rattle.mgs_world.specs.Worlds.{aim_input, aim_mode, aim_old, buffers_of, count_in, input_in, keys_in, mode_in, old_in, state_at, state_of, state_or_first, search_at, search_of, session_id, session_of, size_found, size_in, size_named, sizes_in, world_of}
 use Rattle.mgs_world.proofs.Sessions.{session_some}
@@ -66,19 +69,19 @@ use Rattle.mgs_core.specs.Calls.{closed}
 use Rattle.mgs_core.specs.ByteActs.{CanDo, IsReady, asked_of, before_turn, model_act, deciding_state, deciding_world, finds, is_finding, is_replacement, is_replacing, may_want_memory, refused, seek_act, starts_replacing}
 use Rattle.mgs_core.specs.AtPlace.{IsRefusedIn}
 use Rattle.mgs_core.specs.ByteSteps.{IsTurnStep, SearchStays, SeesNames, keyed_without_act}
-use Rattle.mgs_core.specs.Turns.{IsLess, IsWithin, TurnDone, TurnRefused, TurnedBy, IsFit, has_all, is_played, is_quiet, weight}
+use Rattle.mgs_core.specs.Turns.{ActReported, IsLess, IsWithin, TurnDone, denied_after, TurnRefused, TurnedBy, IsFit, has_all, is_played, is_quiet, weight}
 use Rattle.mgs_core.proofs.Begun.{closed_state, search_still}
 use Rattle.mgs_core.proofs.Commanded.{acted_single}
 use Rattle.mgs_core.proofs.Prompted.{answered_single}
 use Rattle.mgs_core.proofs.Sizes.{place_same, some_at, within_still}
-use Rattle.mgs_core.proofs.Started.{begun_act}
+use Rattle.mgs_core.proofs.Started.{begun_act, begun_refusals}
 use Rattle.mgs_core.proofs.Stays.{state_rests, settled_as}
 use Rattle.mgs_core.proofs.Steps.{session_there, set_there, world_changed}
 use Rattle.mgs_core.proofs.Turned.{AllLeft, all_less, all_none, all_same, all_without, more_weight, none_weight, some_left, without_same, without_within}
 use Rattle.mgs_core.proofs.Fitting.{replaced_fits}
 use Rattle.mgs_core.proofs.Stepped.{fit_empty, fit_none}
 use Rattle.mgs_core.proofs.Told.{nowhere_quietly, quietly}
-use Rattle.mgs_core.proofs.Silent.{act_told, replace_silent}
+use Rattle.mgs_core.proofs.Silent.{act_told, replace_silent, told_denied}
 use Rattle.mgs_core.proofs.Turns.{mode_replacing}
 
 -- what the session at a place holds
@@ -287,6 +290,13 @@ begun_byte_act w id o b byte_acts.StartReplacing state x new before after found 
     subst (λ (v : World). ActedBy v new before after id (Run (Seek StartReplace) None (asked_of b).input)) (begun_replacing w id o (asked_of b).first (asked_of b).input x found (none refl)) did
 begun_byte_act w id o b _ state x new before after found none did = did
 
+begun_denials : (w : World) (id : ℕ) (o : model.State) (b : ModeBefore) (byte_act : ByteAct) (state : model.State) (x : model.Session) → find_session id w.sessions ≡ Some x → (starts_replacing byte_act ≡ true → x.search ≡ None)
+    → act_refusals (deciding_world b byte_act id (with_state id (λ was. o) w)) id (model_act state b byte_act) ≡ act_refusals (with_state id (λ was. deciding_state b byte_act o) w) id (model_act state b byte_act)
+begun_denials w id o b (byte_acts.Act a) state x found none = begun_refusals w id o a x found
+begun_denials w id o b byte_acts.StartReplacing state x found none =
+    ap (λ (v : World). act_refusals v id (Run (Seek StartReplace) None (asked_of b).input)) (begun_replacing w id o (asked_of b).first (asked_of b).input x found (none refl))
+begun_denials w id o b _ state x found none = refl
+
 -- of the session h at the place, which the turn makes y, before an act
 module _ (d : Directory) (ks : List MarkedBuffer) (xs : List Session) (next : Option ℕ) (id at : ℕ) (h y : Session) (place : at ≡ position_or_len (session_id id) xs) (within : at < length xs) (is_h : h ≡ get_or xs at h) where
   abbrev pub old : World
@@ -404,6 +414,23 @@ module _ (d : Directory) (ks : List MarkedBuffer) (xs : List Session) (next : Op
         begun_byte_act old id (state_of y.state) b byte_act (state_of y.state) (session_of ks h) new before after (session_some d ks xs next id at h place within is_h) (λ starts. ap (search_of (buffers_of ks)) (s.begins starts))
         (rw (put, changed s.state s.stays) at did)
 
+    -- with what was denied to it
+    reported_from : (new : World) (before mid after : StoreTold) → ActedBy (deciding_world b byte_act id begun) new before mid id (model_act (state_at at (slice_set xs at y)) b byte_act) → after ≡ denied_after (deciding_world b byte_act id begun) id (model_act (state_at at (slice_set xs at y)) b byte_act) mid
+        → ActReported (with_state id (λ was. state) old) new before after id act_done
+    reported_from new before mid after by denied =
+        let did = done_from new before mid by in
+        let same : act_refusals (deciding_world b byte_act id begun) id (model_act (state_at at (slice_set xs at y)) b byte_act) ≡ act_refusals (with_state id (λ was. state) old) id act_done =
+        ap (λ (o : model.State). act_refusals (deciding_world b byte_act id begun) id (model_act o b byte_act)) put
+        ∙ ap (λ (v : World). act_refusals (deciding_world b byte_act id v) id act_done) (changed s.state s.stays)
+        ∙ begun_denials old id (state_of y.state) b byte_act (state_of y.state) (session_of ks h) (session_some d ks xs next id at h place within is_h) (λ starts. ap (search_of (buffers_of ks)) (s.begins starts)) in
+        let is : after ≡ denied_after (with_state id (λ was. state) old) id act_done mid = denied ∙ ap (λ (rs : List Report). let t : StoreTold = record mid { tape = tape_after rs mid.tape } in t) same in
+        record {
+          stored = did.stored;
+          world = did.world;
+          fault = λ e. subst (λ (t : StoreTold). IsCounted before.failed t.failed) (sym denied) (did.fault e);
+          tells = told_denied (with_state id (λ was. state) old) id act_done did.stored before mid after did.tells is;
+        }
+
     -- what holds of what is to be done, and of nothing, holds of what the act leaves
     byte_act_leaves : (P : List Todo → Type 0) → P [] → ((todo : List Todo) → P todo → P (without_all todo)) → P y.state.player.todo → (K : List MarkedBuffer) (ys : List Session) (before after : StoreTold) → sizes_in ys ≡ sizes_in xs
         → IsDoneBy K ys before after → P (state_at at ys).todo
@@ -466,16 +493,16 @@ module _ (d : Directory) (ks : List MarkedBuffer) (xs : List Session) (next : Op
             let most = more_weight n 1048576 (state_at at ys).todo (left_within at K ys limits) in
             subst (λ (todo : List Todo). IsLess m n todo (state_at at ys).todo) (sym todo_there) (omega (arith, left.0, most, s.left.less e, none_weight m 1048576 h.state.player.todo e), left.1)
 
-    pub acted_turn : (K : List MarkedBuffer) (ys : List Session) (before after : StoreTold) → sizes_in ys ≡ sizes_in xs → IsDoneBy K ys before after → TurnDone (is_played (state_at at xs).todo) (state_at at ys).todo old (world_of d K ys next) before after id
-    acted_turn K ys before after same by =
+    pub acted_turn : (K : List MarkedBuffer) (ys : List Session) (before mid after : StoreTold) → sizes_in ys ≡ sizes_in xs → IsDoneBy K ys before mid → after ≡ denied_after (deciding_world b byte_act id begun) id (model_act (state_at at (slice_set xs at y)) b byte_act) mid → TurnDone (is_played (state_at at xs).todo) (state_at at ys).todo old (world_of d K ys next) before after id
+    acted_turn K ys before mid after same by denied =
         record {
           state = state;
           act = Some act_done;
           turn = byte_act_turn;
           done = (
             λ plays. ap (λ (p : Bool). is_quiet p act_done) (byte_act_same b byte_act (state_of y.state)).1 ∙ s.playing (sym (ap is_played todo_there) ∙ plays),
-            λ typed. byte_act_leaves (λ (todo : List Todo). todo ≡ []) refl (λ todo e. ap without_all e) (s.typed (sym (ap is_played todo_there) ∙ typed)) K ys before after same by,
-            done_from (world_of d K ys next) before after by,
+            λ typed. byte_act_leaves (λ (todo : List Todo). todo ≡ []) refl (λ todo e. ap without_all e) (s.typed (sym (ap is_played todo_there) ∙ typed)) K ys before mid same by,
+            reported_from (world_of d K ys next) before mid after by denied,
           );
         }
 

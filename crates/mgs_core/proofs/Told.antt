@@ -1,5 +1,5 @@
 -- What the store tells of an act, of one that saves and of one that does not.
-use Rattle.std.proofs.Common.{◌≡◌, ℕ, true, false, [], Option, Some, refl, sym, subst}
+use Rattle.std.proofs.Common.{◌≡◌, ℕ, true, [], map, Option, Some, sym, subst}
 use Rattle.mgs_model.specs.World.{World}
 use Rattle.mgs_model.specs.Outcome as outcomes
 use Rattle.mgs_model.specs.Outcome.{Act}
@@ -11,8 +11,7 @@ use Rattle.mgs_model.specs.declared.session.Command.TheVariants.{Seek}
 use Rattle.mgs_model.specs.declared.session.Seeking.TheVariants.{StartSearch}
 use Rattle.mgs_model.specs.declared.touched.Touched.{Touched}
 use Rattle.mgs_model.specs.declared.touched.Touched.TheVariants.{Nowhere}
-use Rattle.mgs_model.specs.View.{View}
-use Rattle.mgs_model.specs.Acts.{outcome}
+use Rattle.mgs_births.specs.Reports.{Did}
 use Rattle.mgs_births.specs.Telling.{Tells}
 use Rattle.mgs_core.proofs.Silent.{nowhere_told}
 use Rattle.mgs_births.specs.Telling.{StoreTold}
@@ -28,7 +27,7 @@ use Rattle.mgs_core.specs.KeyActs.{started_by, started_world}
 use Rattle.mgs_core.specs.Calls.{KeyedBy}
 
 -- an act of which nothing is told leaves the store and the births
-pub quietly : (touched : Touched) (old new : World) (t : StoreTold) (id : ℕ) (c : Act) → Tells (act_effects old id c true) t t → new ≡ act old id c true → touched ≡ touched_in (outcome_in old id c true) → DoneBy touched old new t t id c
+pub quietly : (touched : Touched) (old new : World) (t : StoreTold) (id : ℕ) (c : Act) → Tells (map Did (act_effects old id c true)) t t → new ≡ act old id c true → touched ≡ touched_in (outcome_in old id c true) → DoneBy touched old new t t id c
 quietly touched old new t id c told world tells = record {
   acted = record { stored = true; world = world; fault = λ e. cc; tells = told };
   tells = tells;

@@ -1,15 +1,15 @@
 -- Turn after turn of an event, and the event that they make.
-use Rattle.std.proofs.Common.{◌≡◌, ℕ, zero, suc, ◌+◌, ◌≤◌, ◌<◌, Bool, true, false, List, [], ◌∷◌, ◌++◌, Option, Some, None, refl, sym, ap, subst, ◌∙◌, arith}
+use Rattle.std.proofs.Common.{◌≡◌, ℕ, zero, suc, ◌+◌, ◌≤◌, ◌<◌, Bool, true, false, List, map, [], ◌∷◌, ◌++◌, Option, Some, None, refl, sym, ap, subst, ◌∙◌, arith}
 use Rattle.std.specs.Prelude.{not, ◌||◌}
 use Rattle.std.specs.Option.{option_map}
 use Rattle.mgs_model.specs.World.{World, Session, State, Todo, Played, Replace_all, Play, find_session}
-use Rattle.mgs_model.specs.Outcome.{Act, Effect, Outcome, Run}
+use Rattle.mgs_model.specs.Outcome.{Act, Outcome, Run}
 use Rattle.mgs_model.specs.Apply.{applied, outcome_in}
 use Rattle.mgs_model.specs.declared.session.Command.TheVariants.{SaveBuffer}
 use Rattle.mgs_model.specs.Acts.{allowed, judged, needs, outcome, permitted, without_all}
 use Rattle.mgs_model.specs.Turns.{todo_turn}
 use Rattle.mgs_model.specs.View.{View, view, view_of}
-use Rattle.mgs_model.specs.Events.{act_effects, begun_state, effect_in, most_turns, rests, settled, turn_in, with_state}
+use Rattle.mgs_model.specs.Events.{begun_state, effect_in, most_turns, rests, settled, turn_in, with_state}
 use Rattle.mgs_laws.specs.Refusals.{may_be_refused}
 use Rattle.mgs_model.specs.declared.errors.Keyed.{Keyed}
 use Rattle.mgs_model.specs.declared.errors.Keyed.TheVariants.{Done, Short}
@@ -17,8 +17,9 @@ use Rattle.mgs_model.specs.declared.errors.Keyed.TheVariants as keyed
 use Rattle.mgs_core.proofs.Led.{Leads, LeadsOnce, acts_on, leads_kept, leads_nowhere, leads_on, leads_once, memory_behind}
 use Rattle.mgs_laws.proofs.Turned.{turn_todo}
 use Rattle.mgs_core.proofs.Played.{played_alike}
-use Rattle.mgs_core.proofs.Bytes.{act_short, effects_done, effects_short, step_done, step_short}
+use Rattle.mgs_core.proofs.Bytes.{act_short, reports_done, reports_short, step_done, step_short}
 use Rattle.mgs_store.specs.Stores.{IsCounted}
+use Rattle.mgs_births.specs.Reports.{Report, Did, act_refusals, act_reports}
 use Rattle.mgs_births.specs.Telling.{StoreTold, Tells}
 use Rattle.mgs_births.proofs.Tells.{tells_none, tells_twice}
 use Rattle.mgs_session.specs.Playing.{is_nothing}
@@ -63,16 +64,16 @@ without_within n _ h = h
 
 -- AN EVENT SO FAR: so many turns, which lead from its start to the world as it is, with this answer of the store
 pub record SoFar (id used : ℕ) (stored : Bool) (start now : World) (before after : StoreTold) : Type 0 where
-  pub effects : List Effect
-  pub leads : Leads id stored used effects start now
+  pub reports : List Report
+  pub leads : Leads id stored used reports start now
   pub fault : stored ≡ false → IsCounted before.failed after.failed
-  pub tells : Tells effects before after
+  pub tells : Tells reports before after
   -- no act asked it for anything
   pub still : leads.acts ≡ 0 → after ≡ before
 
 pub at_start : (id : ℕ) (w : World) (t : StoreTold) → SoFar id 0 true w w t t
 at_start id w t = record {
-  effects = [];
+  reports = [];
   leads = leads_nowhere id true w;
   fault = λ e. cc;
   tells = tells_none t;
@@ -84,14 +85,14 @@ some_act zero one none = cc
 some_act (suc n) one none = cc
 
 -- where the store has refused nothing, and one more turn leads on, of which this is told
-more : (id used : ℕ) (start now new : World) (before mid after : StoreTold) (es : List Effect) → SoFar id used true start now before mid → (on : Leads id true 1 es now new) → Tells es mid after → (on.acts ≡ 0 → after ≡ mid) → SoFar id (used + 1) true start new before after
+more : (id used : ℕ) (start now new : World) (before mid after : StoreTold) (es : List Report) → SoFar id used true start now before mid → (on : Leads id true 1 es now new) → Tells es mid after → (on.acts ≡ 0 → after ≡ mid) → SoFar id (used + 1) true start new before after
 more id used start now new before mid after es s on told still = record {
-  effects = s.effects ++ es;
-  leads = leads_on id true used 1 s.effects es start now new s.leads on;
+  reports = s.reports ++ es;
+  leads = leads_on id true used 1 s.reports es start now new s.leads on;
   fault = λ e. cc;
-  tells = tells_twice s.effects es before mid after s.tells told;
+  tells = tells_twice s.reports es before mid after s.tells told;
   still = λ e.
-      let none : s.leads.acts + on.acts ≡ 0 = sym (acts_on id true used 1 s.effects es start now new s.leads on) ∙ e in
+      let none : s.leads.acts + on.acts ≡ 0 = sym (acts_on id true used 1 s.reports es start now new s.leads on) ∙ e in
       still (omega arith) ∙ s.still (omega arith);
 }
 
@@ -125,9 +126,9 @@ more_by id used left start now new before mid after x s found state (Some c) tur
     let w : World = with_state id (λ was. state) now in
     let alike : outcome_in w id c did.stored ≡ outcome_in w id c true =
     quiet_by state.playing (asks c) (done.0 refl) (λ e. played_alike now id state x found e c did.stored true) (λ f. unasked_act w id c did.stored true f) in
-    let once : LeadsOnce id true (act_effects w id c did.stored) now new =
-    subst (λ (es : List Effect). LeadsOnce id true es now new) (ap effect_in (sym alike)) (leads_once id true now new state c turn (did.world ∙ ap (applied w id) alike)) in
-    more id used start now new before mid after (act_effects w id c did.stored) s once.0 did.tells (λ e. some_act once.0.acts once.1 e)
+    let once : LeadsOnce id true (act_reports w id c did.stored) now new =
+    subst (λ (es : List Report). LeadsOnce id true es now new) (ap (λ o. map Did (effect_in o) ++ act_refusals w id c) (sym alike)) (leads_once id true now new state c turn (did.world ∙ ap (applied w id) alike)) in
+    more id used start now new before mid after (act_reports w id c did.stored) s once.0 did.tells (λ e. some_act once.0.acts once.1 e)
 
 -- a turn of what a macro plays
 pub next_turn : (id used : ℕ) (left : List Todo) (start now new : World) (before mid after : StoreTold) (x : Session) → SoFar id used true start now before mid → find_session id now.sessions ≡ Some x → TurnDone true left now new mid after id → SoFar id (used + 1) true start new before after
@@ -192,7 +193,7 @@ began_by id start new before after n todo left within played state (Some c) turn
     record {
       used = 1;
       stored = did.stored;
-      so_far = record { effects = act_effects (with_state id (λ was. state) start) id c did.stored; leads = once.0; fault = did.fault; tells = did.tells; still = λ e. some_act once.0.acts once.1 e };
+      so_far = record { reports = act_reports (with_state id (λ was. state) start) id c did.stored; leads = once.0; fault = did.fault; tells = did.tells; still = λ e. some_act once.0.acts once.1 e };
       within = within;
       rest = λ h. absurd (h (done.1 refl));
       first = λ e. not_both (is_played left) played e;
@@ -247,13 +248,13 @@ event_over id start now before after n todo x found is keyed.Done none g = λ w 
     record {
       stored = g.stored;
       stop = None;
-      step = sym (step_done w now id byte g.stored g.used s.effects here s.leads within stops);
+      step = sym (step_done w now id byte g.stored g.used s.reports here s.leads within stops);
       short = (λ e. cc, λ e. cc);
       no_session = (λ e. cc, λ e. not_found (find_session id w.sessions) here e);
       quit = (λ e. cc, λ e. not_found (find_session id (settled now).sessions) there e.1);
       may = λ e. cc;
       fault = s.fault;
-      tells = subst (λ (es : List Effect). Tells es before after) (sym (effects_done w now id byte g.stored g.used s.effects here s.leads within stops)) s.tells;
+      tells = subst (λ (es : List Report). Tells es before after) (sym (reports_done w now id byte g.stored g.used s.reports here s.leads within stops)) s.tells;
       unasked = λ e. cc;
     }
 event_over id start now before after n todo x found is keyed.Short none b = λ w byte here there begins.
@@ -263,15 +264,15 @@ event_over id start now before after n todo x found is keyed.Short none b = λ w
     record {
       stored = true;
       stop = memory_behind s.leads.acts (Some 0);
-      step = ap settled t.told ∙ sym (step_short w b.last id byte true b.used s.effects here s.leads within t.state t.act b.session b.found t.turn);
+      step = ap settled t.told ∙ sym (step_short w b.last id byte true b.used s.reports here s.leads within t.state t.act b.session b.found t.turn);
       short = (λ e. refl, λ e. refl);
       no_session = (λ e. cc, λ e. not_found (find_session id w.sessions) here e);
       quit = (λ e. cc, λ e. not_found (find_session id (settled now).sessions) there e.1);
-      may = λ e. ap may_be_refused (act_short w b.last id byte true b.used s.effects here s.leads within t.state t.act b.session b.found t.turn) ∙ t.may;
+      may = λ e. ap may_be_refused (act_short w b.last id byte true b.used s.reports here s.leads within t.state t.act b.session b.found t.turn) ∙ t.may;
       fault = λ e. cc;
       tells =
-          subst (λ (es : List Effect). Tells es before after) (sym (effects_short w b.last id byte true b.used s.effects here s.leads within t.state t.act b.session b.found t.turn))
-          (subst (λ (u : StoreTold). Tells s.effects before u) (sym t.left) s.tells);
+          subst (λ (es : List Report). Tells es before after) (sym (reports_short w b.last id byte true b.used s.reports here s.leads within t.state t.act b.session b.found t.turn))
+          (subst (λ (u : StoreTold). Tells s.reports before u) (sym t.left) s.tells);
       unasked = λ e. (let none : s.leads.acts + 0 ≡ 0 = cc in t.left ∙ s.still (omega (arith, none)));
     }
 event_over id start now before after n todo x found is _ none t = t

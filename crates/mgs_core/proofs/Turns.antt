@@ -5,7 +5,7 @@ use Rattle.mgs_model.specs.Access.{Directory}
 use Rattle.mgs_model.specs.World.{Todo, Typed, Played, Replace_all, Play}
 use Rattle.mgs_model.specs.World as model
 use Rattle.mgs_model.specs.View.{View}
-use Rattle.mgs_model.specs.Outcome.{Act, Run}
+use Rattle.mgs_model.specs.Outcome.{Run}
 use Rattle.mgs_model.specs.Acts.{without_all}
 use Rattle.mgs_model.specs.Events.{refused_state}
 use Rattle.mgs_model.specs.declared.session.Replacement.TheVariants.{ReplaceMatch}

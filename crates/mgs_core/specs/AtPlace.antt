@@ -35,7 +35,7 @@ use Rattle.mgs_world.specs.Acted.{IsRefusable, IsSameWorld}
 use Rattle.mgs_core.specs.KeyActs.{started_by, started_world}
 use Rattle.mgs_core.specs.Calls.{IsStill, KeyedBy, closed, differs_at}
 use Rattle.mgs_core.specs.ByteActs.{deciding_world, is_replacement, may_want_memory, model_act, refused}
-use Rattle.mgs_core.specs.Turns.{EventBy, IsLess, TurnedBy, is_played}
+use Rattle.mgs_core.specs.Turns.{DoneReported, EventBy, IsLess, TurnedBy, is_played}
 
 -- a place is that of the session of an id
 abbrev pub IsPlace : ℕ → List Session → Type 0
@@ -131,6 +131,12 @@ IsDoneIn told at byte_act b xs w s v t result =
 
 abbrev pub IsActDone : {S T : Type 0} → (S → StoreTold) → ℕ → ByteAct → ModeBefore → code.World T → S → code.World T → S → Result Touched Short → Type 0
 IsActDone told at byte_act b old s new t result = IsDoneIn told at byte_act b old.sessions.items (seen old) s (seen_after old new) t result
+
+-- and what was denied to it is recorded
+abbrev pub IsActReported : {S T : Type 0} → (S → StoreTold) → ℕ → ByteAct → ModeBefore → code.World T → S → code.World T → S → Result Touched Short → Type 0
+IsActReported told at byte_act b old s new t result =
+    IfOk result (λ touched. (id : ℕ) (next : Option ℕ) → at ≡ position_or_len (session_id id) old.sessions.items
+    → DoneReported touched (deciding_world b byte_act id (seen old next)) (seen_after old new next) (told s) (told t) id (model_act (state_at at old.sessions.items) b byte_act))
 
 -- memory may be refused to it
 abbrev pub IsActRefusable : {T : Type 0} → ℕ → ByteAct → ModeBefore → code.World T → Type 0

@@ -9,7 +9,8 @@ use Rattle.mgs_model.specs.Apply.{is_search_mode}
 use Rattle.mgs_model.specs.Acts.{fails, outcome, without_all}
 use Rattle.mgs_model.specs.Plans.{count_of, failed_state, kind_failed}
 use Rattle.mgs_model.specs.Turns.{Turn, Keep, Do, first_played, todo_turn}
-use Rattle.mgs_model.specs.Events.{act_effects, refused_state}
+use Rattle.mgs_model.specs.Events.{refused_state}
+use Rattle.mgs_births.specs.Reports.{act_reports}
 use Rattle.mgs_births.specs.Telling.{StoreTold, Tells}
 use Rattle.mgs_model.specs.declared.errors.Keyed.{Keyed}
 use Rattle.mgs_model.specs.declared.errors.Keyed.TheVariants.{Done, Quit}
@@ -95,7 +96,7 @@ pub record StepFailed (Sees : View → Type 0) (comes : View → Turn) (plays : 
   pub playing : before.playing ≡ plays
   pub fails : (v : View) (k : Kind) → v.session.state ≡ record before { kind = k } → outcome v act true ≡ fails v.session.state message
   pub breaks : (k : Kind) → kind_failed message k ≡ Other
-  pub quiet : (w : World) (id : ℕ) (t : StoreTold) → Tells (act_effects w id act true) t t
+  pub quiet : (w : World) (id : ℕ) (t : StoreTold) → Tells (act_reports w id act true) t t
   pub told : state_of new.state ≡ failed_state message before
 
 -- or the session's end, which was typed

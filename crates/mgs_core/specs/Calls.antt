@@ -8,13 +8,14 @@ use Rattle.mgs_model.specs.declared.echo_text.Message.{Message}
 use Rattle.mgs_model.specs.declared.echo_text.Message.TheVariants.{Says}
 use Rattle.mgs_model.specs.declared.echo_text.Notice.TheVariants.{Silent}
 use Rattle.mgs_model.specs.declared.touched.Touched.{Touched}
-use Rattle.mgs_model.specs.Events.{Open, Byte, step, can_open, open_fault, event_effects, with_state}
+use Rattle.mgs_model.specs.Events.{Open, Byte, step, can_open, open_fault, with_state}
 use Rattle.mgs_laws.specs.Refusals.{refused_act, may_be_refused}
 use Rattle.mgs_model.specs.declared.errors.Keyed.{Keyed}
 use Rattle.mgs_model.specs.declared.errors.Keyed.TheVariants as keyed
 use Rattle.mgs_model.specs.declared.errors.OpenFault.{OpenFault}
 use Rattle.mgs_model.specs.declared.errors.OpenFault.TheVariants.{NoUser, Size, Full, Short}
 use Rattle.mgs_store.specs.Stores.{IsCounted}
+use Rattle.mgs_births.specs.Reports.{event_reports}
 use Rattle.mgs_births.specs.Telling.{StoreTold, Tells}
 use Rattle.mgs_world.specs.declared.size.Size as world
 use Rattle.mgs_world.specs.Worlds.{is_size_of}
@@ -26,7 +27,8 @@ new_world directory buffers = record { directory = directory; buffers = buffers;
 -- A BYTE: the world after is the step of the world before, for some answer of the store, and some number of acts for
 -- which there is memory. `Short` is answered exactly where memory was refused, `NoSession` exactly where no session has
 -- the id, and `Quit` exactly where the byte took its session away. Memory is refused only to an act that may be refused.
--- The store's answer is a refusal only where a fault was counted, and what the byte saves was accepted. Where memory was refused to the
+-- The store's answer is a refusal only where a fault was counted, what the byte saves was accepted, and its deeds and what was denied to
+-- it are on the tape. Where memory was refused to the
 -- byte's first act, as to each save that is refused, the store was not asked, and is as it was.
 pub record KeyedBy (old new : World) (before after : StoreTold) (id byte : ℕ) (result : Keyed) : Type 0 where
   pub stored : Bool
@@ -37,7 +39,7 @@ pub record KeyedBy (old new : World) (before after : StoreTold) (id byte : ℕ) 
   pub quit : (result ≡ keyed.Quit) ↔ (IsSome (find_session id old.sessions) × (find_session id new.sessions ≡ None))
   pub may : IsSome stop → may_be_refused (refused_act old id byte stored stop) ≡ true
   pub fault : stored ≡ false → IsCounted before.failed after.failed
-  pub tells : Tells (event_effects old (Byte id byte stored stop)) before after
+  pub tells : Tells (event_reports old (Byte id byte stored stop)) before after
   pub unasked : stop ≡ Some 0 → after ≡ before
 
 -- the world is as it was, but for what the session of an id holds, and of that what its screen shows is as it was

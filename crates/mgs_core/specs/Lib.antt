@@ -8,4 +8,5 @@ pub mod Prompted
 pub mod Turns
 pub mod ByteActs
 pub mod ByteSteps
+pub mod Denials
 pub mod AtPlace

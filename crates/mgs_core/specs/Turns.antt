@@ -2,7 +2,7 @@
 use Rattle.std.specs.Prelude.{◌≡◌, ◌≤◌, ◌<◌, IsSome, ℕ, ◌+◌, Bool, true, false, not, ◌||◌, List, [], ◌∷◌, length, Option, Some, None, cond}
 use Rattle.mgs_model.specs.World.{World, State, Todo, Typed, Played, Replace_all, Play, find_session}
 use Rattle.mgs_model.specs.Outcome.{Act, Run}
-use Rattle.mgs_model.specs.Apply.{outcome_in}
+use Rattle.mgs_model.specs.Apply.{act, outcome_in}
 use Rattle.mgs_model.specs.Turns.{Turn, Keep, Do}
 use Rattle.mgs_model.specs.Events.{begun_state, refused_state, settled, turn_in, with_state}
 use Rattle.mgs_laws.specs.Refusals.{may_be_refused}
@@ -13,9 +13,12 @@ use Rattle.mgs_model.specs.declared.errors.Keyed.{Keyed}
 use Rattle.mgs_model.specs.declared.errors.Keyed.TheVariants as keyed
 use Rattle.mgs_model.specs.declared.session.Command.TheVariants.{Exit, SaveBuffer}
 use Rattle.mgs_model.specs.declared.session.Mode.TheVariants.{Replacing}
-use Rattle.mgs_births.specs.Telling.{StoreTold}
+use Rattle.mgs_store.specs.Stores.{IsCounted}
+use Rattle.mgs_births.specs.Reports.{act_refusals, act_reports}
+use Rattle.mgs_births.specs.Tapes.{tape_after}
+use Rattle.mgs_births.specs.Telling.{StoreTold, Tells}
 use Rattle.mgs_session.specs.Playing.{is_nothing}
-use Rattle.mgs_act.specs.Doing.{ActedBy}
+use Rattle.mgs_act.specs.Doing.{DoneBy}
 use Rattle.mgs_core.specs.Calls.{KeyedBy, closed}
 
 -- A MEASURE of what is to be done, where so many characters are left of the text that is replaced in: a further replacement leaves fewer of
@@ -65,10 +68,27 @@ asks _ = false
 abbrev pub is_quiet : Bool → Act → Bool
 is_quiet playing c = playing || not (asks c)
 
+-- what is denied to an act is on the tape
+abbrev pub denied_after : World → ℕ → Act → StoreTold → StoreTold
+denied_after w id c t = record t { tape = tape_after (act_refusals w id c) t.tape }
+
+-- AN ACT, and all that it reports is told
+pub record ActReported (old new : World) (before after : StoreTold) (id : ℕ) (c : Act) : Type 0 where
+  pub stored : Bool
+  pub world : new ≡ act old id c stored
+  pub fault : stored ≡ false → IsCounted before.failed after.failed
+  pub tells : Tells (act_reports old id c stored) before after
+
+-- it is done, and then what was denied to it is recorded
+pub record DoneReported (touched : Touched) (old new : World) (before after : StoreTold) (id : ℕ) (c : Act) : Type 0 where
+  pub mid : StoreTold
+  pub done : DoneBy touched old new before mid id c
+  pub denied : after ≡ denied_after old id c mid
+
 -- an act of a byte that was typed leaves nothing to do
 abbrev pub IsTurnDone : Bool → List Todo → State → Option Act → World → World → StoreTold → StoreTold → ℕ → Type 0
 IsTurnDone playing left state None old new before after id = (new ≡ with_state id (λ was. state) old) × (after ≡ before)
-IsTurnDone playing left state (Some c) old new before after id = (playing ≡ true → is_quiet state.playing c ≡ true) × (playing ≡ false → left ≡ []) × ActedBy (with_state id (λ was. state) old) new before after id c
+IsTurnDone playing left state (Some c) old new before after id = (playing ≡ true → is_quiet state.playing c ≡ true) × (playing ≡ false → left ≡ []) × ActReported (with_state id (λ was. state) old) new before after id c
 
 -- IT IS DONE, of a byte that was typed or that a macro plays, and this is left
 pub record TurnDone (playing : Bool) (left : List Todo) (old new : World) (before after : StoreTold) (id : ℕ) : Type 0 where

@@ -77,7 +77,7 @@ pub struct Due<'a> {
 }
 
 /// The prompt that was answered.
-fn asked(before: &ModeBefore) -> &Prompt
+pub fn asked(before: &ModeBefore) -> &Prompt
     requires { is_asked before.now ≡ true }
     ensures { result.now ≡ asked_of before.now }
 {

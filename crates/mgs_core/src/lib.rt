@@ -2,6 +2,7 @@
 #![tactic(auto)]
 
 mod byte_acts;
+mod denial;
 mod key_byte;
 mod laws;
 mod secrecy;

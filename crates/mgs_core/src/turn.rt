@@ -12,7 +12,7 @@ ghost use Rattle.mgs_session.specs.Sessions.{begun};
 ghost use Rattle.mgs_session.specs.declared.search.Search.{Search};
 ghost use Rattle.mgs_world.specs.Sound.{IsSound};
 ghost use Rattle.mgs_world.specs.Worlds.{IsUnique, state_at, state_of, session_id, sizes_in};
-ghost use Rattle.mgs_core.specs.AtPlace.{AreApart, AreApartAt, IsActDone, IsActRefused, IsBare, IsEvent, IsPlace, IsSameBut, IsTurned, IsTyped, LeavesFewer, LeavesLess, StateAlone, SettlesApart, StaySettled, StaysStill};
+ghost use Rattle.mgs_core.specs.AtPlace.{AreApart, AreApartAt, IsActRefused, IsActReported, IsBare, IsEvent, IsPlace, IsSameBut, IsTurned, IsTyped, LeavesFewer, LeavesLess, StateAlone, SettlesApart, StaySettled, StaysStill};
 ghost use Rattle.mgs_core.specs.declared.byte_acts.ModeBefore.TheVariants.{Plain};
 ghost use Rattle.mgs_core.specs.Held.{AreSettled};
 ghost use Rattle.mgs_core.specs.Judged.{judged_touched};
@@ -21,6 +21,7 @@ ghost use Rattle.mgs_core.specs.ByteSteps.{IsFirstStep, IsTurnStep, keyed_withou
 ghost use Rattle.mgs_core.specs.Turns.{IsFit, goes_on, has_all, touched_both, weight};
 
 use crate::byte_acts::{Before, ByteAct, Due, ModeBefore, do_byte_act};
+use crate::denial::record_denial;
 use crate::key_byte::ByteStep;
 use crate::typed_byte::step_byte;
 use crate::world::World;
@@ -166,7 +167,7 @@ fn forget_touched(judge: &mut Judge, touched: &Touched)
     }
 }
 
-/// Does what a turn asks for by the session at `at`, where this was there before.
+/// Does what a turn asks for by the session at `at`, where this was there before, and records what is denied to it.
 fn act_turn<T: Marked + Drop, S: Store + Drop>(
     world: &mut World<T>,
     judge: &mut Judge,
@@ -185,13 +186,15 @@ fn act_turn<T: Marked + Drop, S: Store + Drop>(
     ensures sound { IsSound world.new.buffers world.new.sessions.items }
     ensures directory { world.new.directory ≡ world.old.directory }
     ensures sizes { sizes_in world.new.sessions.items ≡ sizes_in world.old.sessions.items }
-    ensures ok { IsActDone (store_and_births S.failed S.accepted) at act was.old.mode world.old store.old world.new store.new result }
+    ensures ok { IsActReported (store_and_births S.failed S.accepted) at act was.old.mode world.old store.old world.new store.new result }
     ensures err { OnErr result (IsActRefused at was.old act world.old world.new) }
     ensures unasked { OnErr result (store.new ≡ store.old) }
     ensures further { OnOk result (LeavesFewer act at world.old.buffers world.new.buffers world.old.sessions.items world.new.sessions.items) }
     ensures touched { IfOk result (λ touched. AreApartAt touched at world.old world.new) }
     ensures births { IfOk result (λ touched. is_anywhere touched ≡ false → store.new.births ≡ store.old.births) }
 {
+    // No buffer has an empty name.
+    prove!(world.buffers.name_typed(&[]).is_none());
     let due = Due {
         act,
         before: &was.mode,
@@ -199,6 +202,8 @@ fn act_turn<T: Marked + Drop, S: Store + Drop>(
     match do_byte_act(world, at, store, due) {
         Ok(touched) => {
             forget_touched(judge, &touched);
+            let session = &world.sessions[at];
+            record_denial(&world.buffers, session, act, &was.mode, &mut store.tape);
             Ok(touched)
         }
         Err(Short) => {

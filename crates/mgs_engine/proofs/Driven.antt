@@ -9,7 +9,8 @@ use Rattle.std.proofs.Math.Nat.{le-max_left, le-max_right}
 use Rattle.mgs_model.proofs.Firsts.{find-change_first, find-change_first_other}
 use Rattle.mgs_model.specs.Apply.{change_first, remove_first}
 use Rattle.mgs_model.specs.Draw.{screen}
-use Rattle.mgs_model.specs.Events.{Event, Open, Byte, Close, can_open, is_open, opened, run, run_effects, settled}
+use Rattle.mgs_model.specs.Events.{Event, Open, Byte, Close, can_open, is_open, opened, run, settled}
+use Rattle.mgs_births.specs.Reports.{run_reports}
 use Rattle.mgs_births.specs.Telling.{Tells}
 use Rattle.mgs_model.specs.Picture.{Picture}
 use Rattle.mgs_model.specs.World.{World, Session, find_session, has_id}
@@ -51,7 +52,7 @@ record Made (r : Taped) (c : Asked) (s : Taped) : Type 0 where
   events : List Event
   of : HasEvents r.serving c answer s.serving events
   world : s.serving.world ≡ run r.serving.world events
-  tells : Tells (run_effects r.serving.world events) r.serving.store s.serving.store
+  tells : Tells (run_reports r.serving.world events) r.serving.store s.serving.store
 
 made_open : (r s : Taped) (user : List ℕ) (rows cols : ℕ) (a : Result ℕ OpenFault) → Does r.serving (wire.Open user rows cols a) s.serving → s.tape ≡ answered (answers.Open a) r.tape → Made r (Opens user rows cols) s
 made_open r s user rows cols (Ok id) d t = record {

@@ -1,9 +1,9 @@
 -- What events come to, one after another: of any list of calls (Driven), and of a server's turn.
 use Rattle.std.proofs.Common.{◌≡◌, ℕ, List, [], ◌∷◌, ◌++◌, map, refl, sym, ap, subst, ◌∙◌, append-nil, append_assoc}
+use Rattle.mgs_births.specs.Reports.{Report, event_reports, run_reports}
 use Rattle.mgs_births.specs.Telling.{StoreTold, Tells}
 use Rattle.mgs_births.proofs.Tells.{tells_none, tells_twice}
-use Rattle.mgs_model.specs.Events.{Event, Close, event_effects, run, run_effects, step}
-use Rattle.mgs_model.specs.Outcome.{Effect}
+use Rattle.mgs_model.specs.Events.{Event, Close, run, step}
 use Rattle.mgs_model.specs.World.{World}
 use Rattle.mgs_engine.specs.declared.session_end.Cause.{Cause}
 use Rattle.mgs_engine.specs.Serving.{Serving, all_ended_by, ended_by}
@@ -19,19 +19,19 @@ store_left cause (id ∷ ids) s = store_left cause ids (ended_by cause id s)
 
 -- WHAT RUNS DO
 
-closes_do_nothing : (w : World) (ids : List ℕ) → run_effects w (map (λ i. Close i) ids) ≡ []
-closes_do_nothing w [] = refl
-closes_do_nothing w (id ∷ ids) = closes_do_nothing (step w (Close id)) ids
+closes_report_nothing : (w : World) (ids : List ℕ) → run_reports w (map (λ i. Close i) ids) ≡ []
+closes_report_nothing w [] = refl
+closes_report_nothing w (id ∷ ids) = closes_report_nothing (step w (Close id)) ids
 
 -- an event, and closes after it
-pub effects_first : (w : World) (e : Event) (ids : List ℕ) → run_effects w (e ∷ map (λ i. Close i) ids) ≡ event_effects w e
-effects_first w e ids = ap (λ (es : List Effect). event_effects w e ++ es) (closes_do_nothing (step w e) ids) ∙ append-nil (event_effects w e)
+pub reports_first : (w : World) (e : Event) (ids : List ℕ) → run_reports w (e ∷ map (λ i. Close i) ids) ≡ event_reports w e
+reports_first w e ids = ap (λ (es : List Report). event_reports w e ++ es) (closes_report_nothing (step w e) ids) ∙ append-nil (event_reports w e)
 
-pub effects_behind : (w : World) (es fs : List Event) → run_effects w (es ++ fs) ≡ run_effects w es ++ run_effects (run w es) fs
-effects_behind w [] fs = refl
-effects_behind w (e ∷ es) fs =
-    ap (λ (xs : List Effect). event_effects w e ++ xs) (effects_behind (step w e) es fs)
-    ∙ sym (append_assoc (event_effects w e) (run_effects (step w e) es) (run_effects (run (step w e) es) fs))
+pub reports_behind : (w : World) (es fs : List Event) → run_reports w (es ++ fs) ≡ run_reports w es ++ run_reports (run w es) fs
+reports_behind w [] fs = refl
+reports_behind w (e ∷ es) fs =
+    ap (λ (xs : List Report). event_reports w e ++ xs) (reports_behind (step w e) es fs)
+    ∙ sym (append_assoc (event_reports w e) (run_reports (step w e) es) (run_reports (run (step w e) es) fs))
 
 -- WHAT IS TOLD OF RUNS
 
@@ -40,12 +40,12 @@ pub stays_told : (s t : StoreTold) → t ≡ s → Tells [] s t
 stays_told s t same = subst (λ (u : StoreTold). Tells [] s u) (sym same) (tells_none s)
 
 -- of an event, and closes after it
-pub told_first : (w : World) (e : Event) (ids : List ℕ) (s t u : StoreTold) → u ≡ t → Tells (event_effects w e) s t → Tells (run_effects w (e ∷ map (λ i. Close i) ids)) s u
+pub told_first : (w : World) (e : Event) (ids : List ℕ) (s t u : StoreTold) → u ≡ t → Tells (event_reports w e) s t → Tells (run_reports w (e ∷ map (λ i. Close i) ids)) s u
 told_first w e ids s t u same told =
-    subst (λ (xs : List Effect). Tells xs s u) (sym (effects_first w e ids)) (subst (λ (v : StoreTold). Tells (event_effects w e) s v) (sym same) told)
+    subst (λ (xs : List Report). Tells xs s u) (sym (reports_first w e ids)) (subst (λ (v : StoreTold). Tells (event_reports w e) s v) (sym same) told)
 
 -- of some events, and others after them
-pub told_behind : (w v : World) (es fs : List Event) (s t u : StoreTold) → v ≡ run w es → Tells (run_effects w es) s t → Tells (run_effects v fs) t u → Tells (run_effects w (es ++ fs)) s u
+pub told_behind : (w v : World) (es fs : List Event) (s t u : StoreTold) → v ≡ run w es → Tells (run_reports w es) s t → Tells (run_reports v fs) t u → Tells (run_reports w (es ++ fs)) s u
 told_behind w v es fs s t u leads first rest =
-    subst (λ (xs : List Effect). Tells xs s u) (sym (effects_behind w es fs))
-    (tells_twice (run_effects w es) (run_effects (run w es) fs) s t u first (subst (λ (x : World). Tells (run_effects x fs) t u) leads rest))
+    subst (λ (xs : List Report). Tells xs s u) (sym (reports_behind w es fs))
+    (tells_twice (run_reports w es) (run_reports (run w es) fs) s t u first (subst (λ (x : World). Tells (run_reports x fs) t u) leads rest))

@@ -1,10 +1,11 @@
 -- What the calls of connections do to the world of an engine.
 use Rattle.std.proofs.Common.{◌≡◌, ℕ, List, [], ◌∷◌, ◌++◌, map, Result, Ok, Err, refl, sym, ap, ◌∙◌, subst}
-use Rattle.mgs_model.specs.Events.{Event, run, run_effects}
+use Rattle.mgs_model.specs.Events.{Event, run}
 use Rattle.mgs_model.specs.Events as model
 use Rattle.mgs_model.specs.World.{World}
 use Rattle.mgs_model.specs.declared.errors.Keyed.{Keyed}
 use Rattle.mgs_model.specs.declared.errors.OpenFault.{OpenFault}
+use Rattle.mgs_births.specs.Reports.{run_reports}
 use Rattle.mgs_births.specs.Telling.{StoreTold, Tells}
 use Rattle.mgs_wire.specs.Calls.{AreMade, Call, Open, Refuse, Byte, Close, Took}
 use Rattle.mgs_engine.specs.declared.session_end.Cause.TheVariants.{Slow}
@@ -24,7 +25,7 @@ record Came (old : Serving) (asked : Asked) (answer : Answer) (new : Serving) : 
   events : List Event
   has : HasEvents old asked answer new events
   world : new.world ≡ run old.world events
-  tells : Tells (run_effects old.world events) old.store new.store
+  tells : Tells (run_reports old.world events) old.store new.store
 
 came_open : (old new : Serving) (user : List ℕ) (rows cols : ℕ) (a : Result ℕ OpenFault) → Does old (Open user rows cols a) new → Came old (Opens user rows cols) (answers.Open a) new
 came_open old new user rows cols (Ok id) d = record {
@@ -105,7 +106,7 @@ has_run served new told first calls made =
       events = r.events;
       each = r.each;
       world = ap (λ (s : Serving). s.world) told ∙ r.world;
-      tells = subst (λ (t : StoreTold). Tells (run_effects first.world r.events) first.store t) (sym (ap (λ (s : Serving). s.store) told)) r.tells;
+      tells = subst (λ (t : StoreTold). Tells (run_reports first.world r.events) first.store t) (sym (ap (λ (s : Serving). s.store) told)) r.tells;
     }
 
 -- TELLING: there is one less to be told, until none is left

@@ -1,12 +1,13 @@
 -- WHAT A LIST OF CALLS DOES: the world is the run of its events, and the bytes draw the last screens.
 use Rattle.std.specs.Prelude.{◌≡◌, ℕ, ◌<◌, List, [], ◌∷◌, ◌++◌, Some, None, Ok, Err, length, take, drop, map, slice_get}
 use Rattle.mgs_model.specs.Draw.{screen}
-use Rattle.mgs_model.specs.Events.{Event, Open, Byte, Close, run, run_effects}
+use Rattle.mgs_model.specs.Events.{Event, Open, Byte, Close, run}
 use Rattle.mgs_model.specs.Picture.{Picture}
 use Rattle.mgs_model.specs.World.{Session, find_session}
 use Rattle.mgs_term.specs.Drawing.{Anything, Draws}
 use Rattle.mgs_term.specs.Screen.{Screen, IsScreen}
 use Rattle.mgs_paint.specs.Painting.{shown}
+use Rattle.mgs_births.specs.Reports.{run_reports}
 use Rattle.mgs_births.specs.Telling.{Tells}
 use Rattle.mgs_wire.specs.Calls as wire
 use Rattle.mgs_engine.specs.declared.tape.Answer.{Answer}
@@ -43,8 +44,9 @@ pub record IsRun (r : Taped) (cs : List Asked) (s : Taped) : Type 0 where
   pub events : List Event
   pub each : HaveEvents r.serving cs answers s.serving events
   pub world : s.serving.world ≡ run r.serving.world events
-  -- what the store accepted is what they save, and the buffers that they make and kill are recorded
-  pub tells : Tells (run_effects r.serving.world events) r.serving.store s.serving.store
+  -- what the store accepted is what they save, the buffers that they make and kill are recorded, and their deeds and what was denied are on
+  -- the tape of the store
+  pub tells : Tells (run_reports r.serving.world events) r.serving.store s.serving.store
 
 -- the same of those in front, and no others
 abbrev pub IsRunOfSome : Taped → List Asked → Taped → Type 0

@@ -1,7 +1,8 @@
 -- WHAT CALLS DO to what an engine serves, and those that ended are told.
 use Rattle.std.specs.Prelude.{◌≡◌, List, [], ◌∷◌}
+use Rattle.mgs_births.specs.Reports.{run_reports}
 use Rattle.mgs_births.specs.Telling.{Tells}
-use Rattle.mgs_model.specs.Events.{Event, run, run_effects}
+use Rattle.mgs_model.specs.Events.{Event, run}
 use Rattle.mgs_wire.specs.Calls.{Call, Open, Refuse, Byte, Close, Took}
 use Rattle.mgs_engine.specs.declared.tape.Answer.{Answer}
 use Rattle.mgs_engine.specs.declared.tape.Answer.TheVariants as answers
@@ -27,13 +28,13 @@ answers_of (Byte id byte answer ∷ calls) = answers.Byte answer ∷ answers_of 
 answers_of (Close id ∷ calls) = answers.Close ∷ answers_of calls
 answers_of (Took id n ∷ calls) = answers.Took n ∷ answers_of calls
 
--- The world is that of the events of the calls, the store accepted what these save, and the buffers that they make and kill are recorded. Of a byte, the store's answer, the number of acts
--- for which there was memory and the sessions that fell behind are those with which it was handled.
+-- The world is that of the events of the calls, the store accepted what these save, the buffers that they make and kill are recorded, and
+-- their deeds and what was denied are on the tape. Of a byte, the store's answer, the number of acts for which there was memory and the sessions that fell behind are those with which it was handled.
 pub record RanBy (old : Serving) (asked : List Asked) (answered : List Answer) (served new : Serving) : Type 0 where
   pub events : List Event
   pub each : HaveEvents old asked answered served events
   pub world : new.world ≡ run old.world events
-  pub tells : Tells (run_effects old.world events) old.store new.store
+  pub tells : Tells (run_reports old.world events) old.store new.store
 
 -- so of the events of these calls
 abbrev pub Ran : Serving → List Call → Serving → Serving → Type 0

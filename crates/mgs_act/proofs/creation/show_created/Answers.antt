@@ -1,5 +1,6 @@
 use Rattle.std.proofs.Common.{[], ◌∷◌, get_or, refl, sym, subst, ap}
 use Rattle.mgs_births.specs.StoreBirths.{store_and_births}
+use Rattle.mgs_births.specs.Reports.{Did}
 use Rattle.mgs_births.specs.Telling.{StoreTold, Tells}
 use Rattle.mgs_model.specs.declared.touched.Touched.TheVariants.{Anywhere}
 use Rattle.mgs_buffers.specs.MarkedBuffer.{HasBuffer}
@@ -8,7 +9,7 @@ use Rattle.mgs_plan.specs.declared.outcome.Outcome.TheVariants.{Creates}
 use Rattle.mgs_world.specs.Sound.{IsSound}
 use Rattle.mgs_act.proofs.Created.{created_kept, created_sound, made_granted, made_kept, made_world, unmade_sound, unmade_world}
 use Rattle.mgs_model.specs.Outcome.{Create}
-use Rattle.mgs_births.proofs.Tells.{tells_born}
+use Rattle.mgs_births.proofs.Tells.{tells_ruled}
 use Rattle.mgs_act.proofs.Done.{can_at, granted_done, here_is, tellingly}
 use Rattle.mgs_act.proofs.Switches.{created_done}
 use Rattle.mgs_act.proofs.creation.show_created.Goals as goal
@@ -37,13 +38,13 @@ returns-in_default-clause-done g c =
     let xs = c.args.sessions.now in
     let r = c.index-sessions-at.result in
     let s = store_and_births g.S.Store.failed g.S.Store.accepted c.args.store.now in
-    let t : StoreTold = record { failed = s.failed; accepted = s.accepted; births = c.record_creation.new.self } in
+    let t : StoreTold = record { failed = s.failed; accepted = s.accepted; births = c.record_creation.new.self; tape = c.record_creation-in_default.new.self } in
     tellingly d c.args.at (Creates c.args.name) ks _ xs _ Anywhere s t (λ id next h place found. (
       created_done d ks xs next id c.args.at h found place c.requires.within c.requires.fresh _ c.args.name c.show.ensures.selected
           (λ x there known. made_world d ks c.create.new.self c.show.new.buffers xs c.show.new.sessions next id c.args.at c.args.name (get_or xs c.args.at r) x c.in_ok-create.ensures.ok there c.requires.within (ap (get_or xs c.args.at) c.index-sessions-at.is) known
           (λ seen. c.in_default.ensures.ok d id next x there seen)),
       refl,
-      subst (λ (y : Session). Tells (Create c.args.name y.user ∷ []) s t) (here_is xs c.args.at r h c.requires.within found) (tells_born s t (Create c.args.name (get_or xs c.args.at r).user) refl refl (c.record_creation.ensures (get_or xs c.args.at r).user)),
+      subst (λ (y : Session). Tells (Did (Create c.args.name y.user) ∷ []) s t) (here_is xs c.args.at r h c.requires.within found) (tells_ruled s t (Create c.args.name (get_or xs c.args.at r).user) refl refl (c.record_creation.ensures (get_or xs c.args.at r).user) c.record_creation-in_default.ensures),
     ))
 
 pub returns : goal.returns

@@ -8,7 +8,9 @@ use Rattle.mgs_model.specs.World.{Buffer}
 use Rattle.mgs_world.proofs.Attributes.{sound_by}
 use Rattle.mgs_world.proofs.Soundness.{sound_set}
 use Rattle.mgs_plan.proofs.Deeds.{fresh_state}
-use Rattle.mgs_act.proofs.Done.{can_at, here_is, quietly}
+use Rattle.mgs_model.specs.Outcome.{SetOwners}
+use Rattle.mgs_births.proofs.Tells.{tells_ruled}
+use Rattle.mgs_act.proofs.Done.{can_at, here_is, tellingly}
 use Rattle.mgs_act.proofs.Rulings.{owners_set_so}
 use Rattle.mgs_act.proofs.deeds.assign.Goals as goal
 
@@ -26,7 +28,7 @@ returns-clause-done g c =
     let d = c.args.directory.now in
     let ks = c.args.buffers.now in
     let xs = c.args.sessions.now in
-    quietly d c.args.at (SetsOwners c.args.name.now c.args.new) ks _ xs _ Anywhere
+    tellingly d c.args.at (SetsOwners c.args.name.now c.args.new) ks _ xs _ Anywhere _ _
     (λ id next h place found.
     let same = c.set_kind.ensures ∙ ap (acted Other) (here_is xs c.args.at c.index-sessions-at-2.result h c.requires.within found) in
-    (rw (c.set_owner.ensures, same) (owners_set_so d ks xs next id c.args.at h place c.requires.within found (fresh_state xs c.args.at h found c.requires.fresh) c.args.name.now c.args.new), refl, (refl, λ b. refl)))
+    (rw (c.set_owner.ensures, same) (owners_set_so d ks xs next id c.args.at h place c.requires.within found (fresh_state xs c.args.at h found c.requires.fresh) c.args.name.now c.args.new), refl, tells_ruled _ _ (SetOwners c.args.name.now c.args.new) refl refl refl c.record_owners.ensures))

@@ -10,7 +10,7 @@ use Rattle.mgs_world.proofs.Soundness.{sound_set}
 use Rattle.mgs_plan.proofs.Deeds.{fresh_state}
 use Rattle.mgs_act.proofs.Kills.{killed_so}
 use Rattle.mgs_model.specs.Outcome.{Kill}
-use Rattle.mgs_births.proofs.Tells.{tells_born}
+use Rattle.mgs_births.proofs.Tells.{tells_ruled}
 use Rattle.mgs_act.proofs.Done.{can_at, granted_done, here_is, tellingly}
 use Rattle.mgs_act.proofs.deeds.kill.Goals as goal
 
@@ -36,5 +36,5 @@ returns-clause-done g c =
           ∙ ap (λ y. world_without name (world_of d ks (slice_set xs c.args.at y) next)) (c.set_kind.ensures ∙ ap (acted Other) (here_is xs c.args.at c.index-sessions-at-2.result h c.requires.within found))
           ∙ killed_so d ks xs next id c.args.at h name place c.requires.within found (fresh_state xs c.args.at h found c.requires.fresh),
       refl,
-      tells_born _ _ (Kill name) refl refl c.record_kill.ensures,
+      tells_ruled _ _ (Kill name) refl refl c.record_kill.ensures c.record_kill-2.ensures,
     ))

@@ -38,7 +38,7 @@ returns-in-Ok-clause-done g c =
           record {
             world = rw (c.in-Ok.ensures.ok, same) (wrote_so d ks xs next id c.args.at h name text place c.requires.within found (fresh_state xs c.args.at h found c.requires.fresh));
             touches = refl;
-            tells = tells_saved _ _ (Save name text) (λ b. refl) (saved_as _ _ name text _ _ c.save_as.ensures.saved c.in-Ok.is) refl;
+            tells = tells_saved _ _ (Save name text) (λ b. refl) (saved_as _ _ name text _ _ c.save_as.ensures.saved c.in-Ok.is) refl (c.record_save.ensures text);
           };
     }
 
@@ -62,6 +62,6 @@ returns-in-Store-clause-done g c =
           record {
             world = rw (c.in-Err.ensures.err, same) (failed_so d ks xs next id c.args.at h (Says SaveFailed) place c.requires.within found (fresh_state xs c.args.at h found c.requires.fresh));
             touches = refl;
-            tells = tells_saved _ _ No_effect (λ b. refl) (saved_as _ _ name text _ _ c.save_as.ensures.saved c.in-Err.is) refl;
+            tells = tells_saved _ _ No_effect (λ b. refl) (saved_as _ _ name text _ _ c.save_as.ensures.saved c.in-Err.is) refl refl;
           };
     }

@@ -1,12 +1,19 @@
-use Rattle.std.proofs.Common.{◌∙◌, None, refl, arith}
+use Rattle.std.proofs.Common.{◌∙◌, List, None, ap, refl, arith}
+use Rattle.mgs_model.specs.Events.{effect_in}
+use Rattle.mgs_model.specs.Outcome.{Effect}
 use Rattle.mgs_model.specs.declared.touched.Touched.TheVariants.{Nowhere}
 use Rattle.mgs_laws.proofs.Apart.{apart_same}
+use Rattle.mgs_births.specs.Births.{births_after}
+use Rattle.mgs_births.proofs.Reported.{did_effects}
+use Rattle.mgs_plan.proofs.Rulings.{no_empty_name}
 use Rattle.mgs_world.specs.Worlds.{world_of}
 use Rattle.mgs_world.proofs.Sizes.{sizes_seen}
 use Rattle.mgs_world.proofs.Soundness.{sound_set, sizes_set}
 use Rattle.mgs_core.proofs.Births.{births_still}
 use Rattle.mgs_core.proofs.Acted.{byte_act_apart, byte_act_sizes}
 use Rattle.mgs_core.proofs.Judged.{touched_judged}
+use Rattle.mgs_core.proofs.Sizes.{place_same, within_still}
+use Rattle.mgs_core.proofs.Denials.{denied_told}
 use Rattle.mgs_core.proofs.Taken.{refused_in_world}
 use Rattle.mgs_core.proofs.turn.act_turn.Goals as goal
 
@@ -58,4 +65,25 @@ returns-in-Err-clause-err g c = record {
 pub returns-in-Ok-clause-births : goal.returns-in-Ok-clause-births
 returns-in-Ok-clause-births g c apart =
     let did = c.in-Ok.ensures.ok c.requires.place.0 None c.requires.place.1 in
-    did.acted.tells.births ∙ births_still _ c.in-Ok.touched c.args.store.now.births did.tells apart
+    did.acted.tells.births
+    ∙ ap (λ (es : List Effect). births_after es c.args.store.now.births) (did_effects (effect_in _))
+    ∙ births_still _ c.in-Ok.touched c.args.store.now.births did.tells apart
+
+pub returns-in-Ok-clause-ok : goal.returns-in-Ok-clause-ok
+returns-in-Ok-clause-ok g c id next place =
+    let named = c.name_typed.ensures in
+    let d = c.args.world.now.directory in
+    let ks = c.args.world.now.buffers in
+    let ls = c.do_byte_act.new.world.buffers in
+    let xs = c.args.world.now.sessions.items in
+    let ys = c.do_byte_act.new.world.sessions.items in
+    let b = c.args.was.now.mode in
+    let done = c.in-Ok.ensures.ok id next place in
+    let same = byte_act_sizes c.in-Ok.touched b c.args.act d ks ls xs ys id c.args.at _ _ _ place c.requires.within c.do_byte_act.ensures.count (c.in-Ok.ensures.ok id None place) in
+    record {
+      mid = _;
+      done = done;
+      denied =
+          denied_told d ks ls xs ys next id c.args.at c.index-session.result.now b c.args.act _ _ place c.requires.within (place_same id c.args.at xs ys place same) (within_still c.args.at xs ys c.requires.within same) c.index-session.ensures
+          c.requires.ready c.requires.here (no_empty_name ks c.name_typed.result named.value named.form named.there) done.acted _ c.record_denial.ensures;
+    }

@@ -91,7 +91,7 @@ returns-in-Ok g c =
     let same = did.ensures.sizes ∙ put in
     let touched = c.in-Ok.touched in
     let still = place_same id at xs (slice_set xs at y) place put in
-    let done = (c.in-Ok.ensures.ok id None still).acted in
+    let done = (c.in-Ok.ensures.ok id None still).done.acted in
     record {
       judged = did.ensures.judged;
       sound = did.ensures.sound;
@@ -99,7 +99,7 @@ returns-in-Ok g c =
       sizes = same;
       less = λ e. acts_less d ks xs None id at h y place within is_h b act s ls ys _ _ c.len-in-Acts.ensures.limits same done c.in-Ok.ensures.further;
       fit = λ e. acted_fit d ks xs None id at h y place within is_h b act s ls ys _ _ same done;
-      turned = λ id place next. acted_turn d ks xs next id at h y place within is_h b act s ls ys _ _ same (c.in-Ok.ensures.ok id next (place_same id at xs (slice_set xs at y) place put)).acted;
+      turned = λ id place next. let told = c.in-Ok.ensures.ok id next (place_same id at xs (slice_set xs at y) place put) in acted_turn d ks xs next id at h y place within is_h b act s ls ys _ told.mid _ same told.done.acted told.denied;
       stands = λ still. cc;
       alone = λ still. cc;
       touched = λ id place next.

@@ -9,7 +9,6 @@ use Rattle.mgs_laws.proofs.Apart.{apart_same}
 use Rattle.mgs_core.proofs.Births.{both_apart}
 use Rattle.mgs_births.specs.StoreBirths.{store_and_births}
 use Rattle.mgs_world.specs.Worlds.{session_id, state_at, world_of}
-use Rattle.mgs_core.specs.Turns.{goes_on}
 use Rattle.mgs_core.proofs.Joined.{apart_both}
 use Rattle.mgs_core.proofs.Sizes.{place_same, within_still}
 use Rattle.mgs_core.proofs.Still.{alone_none, alone_then}

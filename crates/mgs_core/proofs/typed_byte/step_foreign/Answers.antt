@@ -1,5 +1,4 @@
 use Rattle.std.proofs.Common.{◌∙◌}
-use Rattle.mgs_core.specs.ByteSteps.{search_for}
 use Rattle.mgs_core.proofs.Sought.{search_leaves}
 use Rattle.mgs_core.proofs.typed_byte.step_foreign.Goals as goal
 
