@@ -857,6 +857,20 @@ def try_messages(programs):
 
 # --- All of it ---------------------------------------------------------------------------------------------------------------------
 
+def try_quotes():
+    """Each line that docs/PROOF-TUTORIAL.md quotes stands in the file that was named last before it."""
+    path, lines = None, []
+    with open(os.path.join(TOP, "docs", "PROOF-TUTORIAL.md"), encoding="utf-8") as file:
+        for number, line in enumerate(file, 1):
+            named = re.findall(r"`(crates/[^`]+)`", line)
+            if named:
+                path = named[-1]
+                with open(os.path.join(TOP, path), encoding="utf-8") as source:
+                    lines = source.read()
+            elif line.startswith("    "):
+                expect(f"docs/PROOF-TUTORIAL.md:{number} stands in {path}", line.strip() in lines, line.strip())
+
+
 def inside(part, programs, look):
     """One part, in namespaces of its own."""
     sys.argv[1:] = []
@@ -881,6 +895,8 @@ def main():
     if chosen.script:
         print(tutorial_script()[0], end="")
         return 0
+    if not chosen.inside and not chosen.only:
+        try_quotes()
     programs = chosen.programs or [os.path.join(TOP, "crates", name, "out", name) for name in ("mgd", "mgd_keep")]
     programs = [os.path.abspath(path) for path in programs]
     if chosen.inside:
@@ -890,7 +906,7 @@ def main():
     if len(programs) != 2 or missing or os.geteuid() != 0 or shutil.which("unshare") is None:
         print(f"this needs root, unshare and the two programs {' '.join(programs)}; ./mgd prove builds them")
         return 1
-    total = [0, 0]
+    total = [passed, failed]
     for part in [chosen.only] if chosen.only else PARTS:
         command = ["unshare", "--mount", "--net", "--pid", "--fork", "--kill-child", "--mount-proc", sys.executable, os.path.abspath(__file__),
                    "--inside", part, *(["--look"] if chosen.look else []), *programs]
