@@ -398,7 +398,7 @@ class Shell:
     def do(self, block, lines):
         if not lines:
             return
-        done = subprocess.run(["bash", "-e", "-o", "pipefail", "-c", "\n".join(lines)], cwd=self.world.tree, capture_output=True, text=True,
+        done = subprocess.run(["bash", "-e", "-c", "\n".join(lines)], cwd=self.world.tree, capture_output=True, text=True,
                               stdin=subprocess.DEVNULL, timeout=300)
         self.said = done.stdout
         first = lines[0].split("\n")[0]
@@ -551,8 +551,7 @@ def try_operating(world, look):
             moves = block
         else:
             shell.run(block)
-        if block.heading == "Watch it" or any("audit" in line for line in block.lines):
-            pass
+    shell.end_servers()
     run(["systemctl", "start", "mgd-keep"])
     for number, command in tables_of("OPERATING"):
         done = subprocess.run(["bash", "-c", command], cwd="/root", capture_output=True, text=True, timeout=60)
@@ -663,10 +662,9 @@ def out_of_memory():
     said = ""
     with Desk() as desk:
         changed(desk)
-        for megabytes in range(80, 4, -4):
-            said = at_start(desk, before=limited(megabytes << 20))
-            if "memory" in said:
-                break
+        for megabytes in range(96, 4, -4):
+            words = at_start(desk, before=limited(megabytes << 20))
+            said += words if words not in said else ""
     return said
 
 
@@ -791,10 +789,12 @@ def memory_is_full():
     with Desk() as desk:
         server = serving(desk, before=limited(150 << 20), surroundings={**os.environ, "MALLOC_MMAP_THRESHOLD_": "131072"})
         ann = server.join("ann")
-        type_in(ann, "\x18h\x1bw\x1b>" + "\x19" * 8)
-        for _ in range(400):
-            type_in(ann, "\x18h\x1bw\x1b>\x19\x18h\x17\x19")
-            ann.read(quiet=0.02)
+        # The text is doubled until it is full, and then killed and put back: each of these edits keeps 4 MB.
+        type_in(ann, "\x18h\x1bw\x1b>\x19" * 16)
+        ann.read(quiet=0.5)
+        for keys in ("\x18h\x17", "\x19") * 100:
+            type_in(ann, keys)
+            ann.read(quiet=0.05)
             if "No memory" in ann.shows(ann.rows):
                 break
         said = ann.shows(ann.rows)
@@ -821,6 +821,7 @@ def save_fails():
 MESSAGES = {
     "journal failed": journal_failed,
     "journal: the disk is full": disk_is_full,
+    "journal: no memory": out_of_memory,
     "journal: out of memory": out_of_memory,
     "journal: the file is damaged or no database": file_is_damaged,
     "journal: the log is damaged: no crash leaves it so": log_is_damaged,
