@@ -517,30 +517,102 @@ def try_script(world):
         expect(f"{name}: {who} sees the same in a script", label == who and is_screen(shown, *rows), shown)
 
 
-# What has to be so before the blocks below a heading can run.
-
-def before_remove(shell):
-    """dan has made a buffer by C-x b."""
+def ticket_of(name):
     with open("/etc/mgd.toml") as file:
-        ticket = re.search(r'name = "dan"\nticket = "(\w+)"', file.read())[1]
-    one = terminal(f"dan {ticket}")
-    one.send(keys_of("C-x b page RET text"))
-    settle([one], lambda: "page" in rows_of(one)[-2])
+        return re.search(rf'name = "{name}"\nticket = "(\w+)"', file.read())[1]
+
+
+def answer_to(login):
+    """The first line that a login is answered by, or what its screen begins with."""
+    with socket.create_connection(("127.0.0.1", 7000)) as one:
+        one.sendall(f"login {login} 24 80\n".encode())
+        one.settimeout(5)
+        return one.recv(200).decode(errors="replace")
+
+
+def typed(name, keys, is_so):
+    """Whether what a user types brings the screen to something."""
+    one = terminal(f"{name} {ticket_of(name)}")
+    one.send(keys_of(keys))
+    seen = settle([one], lambda: is_so(rows_of(one)), 10)
+    one.send(keys_of("C-x C-c"))
+    time.sleep(0.2)
+    return seen
+
+
+def audit(*words):
+    return run(["mgd-keep", "audit", "/var/lib/private/mgd-keep/journal", *words]).stdout
+
+
+# What is done before the n-th block below a heading, and what has to be so after it.
+
+def make_page(state):
+    """dan makes a buffer by C-x b."""
+    typed("dan", "C-x b page RET text", lambda rows: "page" in rows[-2])
+    state["dan"] = ticket_of("dan")
     time.sleep(1.5)
 
 
-BEFORE = {"Remove a user": before_remove}
+def dan_is_gone(state):
+    return answer_to(f"dan {state['dan']}").startswith("refused 2 NoUser") and "\towner\tpage\tdan -> ann" in audit()
+
+
+def note_ticket(state):
+    state["ann"] = ticket_of("ann")
+
+
+def ticket_is_new(state):
+    return answer_to(f"ann {state['ann']}").startswith("refused 3 Ticket") and not answer_to(f"ann {ticket_of('ann')}").startswith("refused")
+
+
+def shut_bob_out(state):
+    typed("ann", "C-x b notes RET C-u 1 M-x acl-insert RET DENY bob r RET M-x acl-list RET", lambda rows: rows[0] == "1 DENY bob r")
+    state["shut"] = typed("bob", "C-x b notes RET", lambda rows: rows[0] == "[no read: entry 1]")
+
+
+def bob_reads(state):
+    return state["shut"] and typed("bob", "C-x b notes RET", lambda rows: rows[0].startswith("Notes of the office"))
+
+
+def type_and_save(state):
+    typed("ann", "C-x b notes RET M-< later: C-x C-s", lambda rows: rows[-1] == "Wrote notes")
+
+
+def text_is_back(state):
+    return typed("ann", "C-x b notes RET M-<", lambda rows: rows[0].startswith("Notes of the office"))
+
+
+def backup_is_whole(state):
+    folder = f"/srv/backup/mgd-keep-{time.strftime('%F')}"
+    names = set(os.listdir(folder)) | set(os.listdir(f"{folder}/journal"))
+    return {"notes.txt", "mgd.toml", "journal.sqlite3", "journal.sqlite3-wal"} <= names and os.stat("/srv/backup").st_mode & 0o077 == 0
+
+
+BEFORE = {("Remove a user", 0): make_page, ("Rotate a ticket, or shut somebody out", 0): note_ticket, ("Change a list", 0): shut_bob_out,
+          ("Backup and restore", 3): type_and_save}
+AFTER = {
+    ("Serve at boot", 0): ("ann can log in", lambda state: typed("ann", "", lambda rows: rows[0].startswith("Notes of the office"))),
+    ("Add a user", 0): ("dan can log in", lambda state: not answer_to(f"dan {ticket_of('dan')}").startswith("refused")),
+    ("Remove a user", 0): ("dan cannot log in, and ann owns the page", dan_is_gone),
+    ("Rotate a ticket, or shut somebody out", 0): ("only the new ticket is ann's", ticket_is_new),
+    ("Change a list", 0): ("bob, whom ann had shut out, reads again", bob_reads),
+    ("Add a text", 0): ("the new text can be saved", lambda state: typed("ann", "C-x b plan RET x C-x C-s", lambda rows: rows[-1] == "Wrote plan")),
+    ("Backup and restore", 0): ("the backup has texts, journal and configuration, for root alone", backup_is_whole),
+    ("Backup and restore", 3): ("the text is that of the backup", text_is_back),
+    ("Begin a new journal", 1): ("the journal begins anew", lambda state: "\towner\tpage" not in audit() and "\tcreate\tnotes" in audit()),
+}
 
 
 def try_operating(world, look):
     shell = Shell(world, look)
-    moves = None
+    moves, state, heading, count = None, {}, "", 0
     for block in blocks_of("OPERATING"):
         if block.heading == "By hand":
             shell.end_servers()
             run(["systemctl", "stop", "mgd-keep"])
-        if block.heading in BEFORE:
-            BEFORE.pop(block.heading)(shell)
+        count = count + 1 if block.heading == heading else 0
+        heading = block.heading
+        BEFORE.get((heading, count), lambda state: None)(state)
         if block.kind() == "output":
             wanted = [line.split() for line in block.lines]
             got = [line.split() for line in shell.said.splitlines()]
@@ -551,6 +623,9 @@ def try_operating(world, look):
             moves = block
         else:
             shell.run(block)
+        if (heading, count) in AFTER:
+            what, is_so = AFTER[heading, count]
+            expect(f"{block.name}: then {what}", is_so(state))
     shell.end_servers()
     run(["systemctl", "start", "mgd-keep"])
     for number, command in tables_of("OPERATING"):
