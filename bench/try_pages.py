@@ -11,7 +11,7 @@ units do; bench/try_systemd.sh tries the units. The copy of the sources takes th
 everything are named and left out; `./mgd try` runs the given program, and with --look the sources without proof (some minutes).
 --only README, TUTORIAL, OPERATING or messages runs one part. --script prints the tutorial as a script for `mgd replay`.
 """
-import argparse, atexit, os, pty, re, select, shutil, signal, socket, subprocess, sys, tempfile, time
+import argparse, os, pty, re, select, shutil, signal, socket, subprocess, sys, tempfile, time
 
 TOP = os.path.dirname(os.path.dirname(os.path.abspath(__file__)))
 PARTS = ["README", "TUTORIAL", "OPERATING", "messages"]
@@ -225,7 +225,8 @@ def start():
         os.makedirs(f"{private}/journal", 0o700, exist_ok=True)
         if os.path.exists(once):
             options = open(once).read().split("=", 1)[1].split()
-    command = ["mgd-keep", "serve", f"{private}/journal", "/etc/mgd.toml", "7000", *options] if name == "mgd-keep" else ["mgd", "serve", "/etc/mgd.toml", "7000"]
+    command = ["mgd-keep", "serve", f"{private}/journal"] if name == "mgd-keep" else ["mgd", "serve"]
+    command += ["/etc/mgd.toml", "7000", *options]
     before = os.path.getsize(log) if os.path.exists(log) else 0
     with open(log, "a") as out:
         subprocess.run(["mgd-check", "/etc/mgd.toml"], cwd=private, stdout=out, stderr=out)
@@ -466,7 +467,8 @@ def try_readme(world, look):
     for block in blocks_of("README"):
         if block.kind() == "entries":
             lines = [line.split("   ")[0].rstrip() for line in block.lines]
-            expect(f"{block.name}: the entries are those of examples/two-users.mgd", lines == [line for line in example if line.startswith("entry ")], lines)
+            wanted = [line for line in example if line.startswith("entry ")]
+            expect(f"{block.name}: the entries are those of examples/two-users.mgd", lines == wanted, lines)
         elif block.kind() == "keys":
             ann, bob = (terminal(f"{name} {tickets[name]}") for name in ("ann", "bob"))
             text = rows_of(bob)[0]
@@ -834,7 +836,8 @@ def port_is_taken():
 
 
 def foreign_program():
-    listen = "import os, socket, time; os.setuid(65534); one = socket.create_server(('127.0.0.1', 0)); print(one.getsockname()[1], flush=True); time.sleep(60)"
+    listen = ("import os, socket, time; os.setuid(65534); one = socket.create_server(('127.0.0.1', 0)); "
+              "print(one.getsockname()[1], flush=True); time.sleep(60)")
     other = subprocess.Popen([sys.executable, "-c", listen], stdout=subprocess.PIPE, text=True)
     port = other.stdout.readline().strip()
     done = subprocess.run([os.path.join(TOP, "join"), "--server-user", "mgd", "--port", port, "ann"], capture_output=True, text=True, timeout=20,
@@ -860,7 +863,7 @@ def server_is_full():
 
 
 def memory_is_full():
-    from keep_desk import Desk, see, serving, type_in
+    from keep_desk import Desk, serving, type_in
     with Desk() as desk:
         server = serving(desk, before=limited(150 << 20), surroundings={**os.environ, "MALLOC_MMAP_THRESHOLD_": "131072"})
         ann = server.join("ann")
