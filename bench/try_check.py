@@ -299,6 +299,7 @@ def try_owners(folder):
     os.chown(inside, 65534, 65534)
     words = f"warning: {notes} belongs to root, and its folder to nobody; a server that runs as the folder's owner may not be able to read or save it (chown --reference={inside} {notes})"
     try_one("a file of root in another user's folder", folder, with_file(notes), 0, words, "file =")
+    try_one("the same by a path that counts from here", folder, with_file("served/notes.txt"), 0, words.replace(f"warning: {notes}", "warning: served/notes.txt"), "file =")
     os.chown(notes, 65534, 65534)
     ran = check(folder, with_file(notes))
     expect("with the owner of its folder it is no mistake", ran.stdout == f"{folder}/it.toml: mgd serves it\n", ran.stdout)
@@ -309,12 +310,12 @@ def try_owners(folder):
 
 
 def try_accounts(folder):
-    """An account that has the name of a unit. It is put into a list of accounts that this process alone sees."""
+    """An account that has the name of the service's user. It is put into a list of accounts that this process alone sees."""
     listed = os.path.join(folder, "passwd")
     with open("/etc/passwd") as file:
         accounts = file.read()
     check(folder, BASE)
-    for account, is_told in [("mgd:x:1234:1234::/home/mgd:/bin/sh", True), ("mgd-keep:x:1234:1234::/home/mgd:/bin/sh", True),
+    for account, is_told in [("mgd:x:1234:1234::/home/mgd:/bin/sh", True), ("mgd:x:900:900::/:/usr/sbin/nologin", True),
                              ("mgd:x:61999:61999::/:/usr/sbin/nologin", False), ("mgdx:x:1234:1234::/:/bin/sh", False)]:
         with open(listed, "w") as file:
             file.write(accounts + account + "\n")
@@ -322,8 +323,7 @@ def try_accounts(folder):
         ran = subprocess.run(words, capture_output=True, text=True, cwd=folder)
         if "mgd serves it" not in ran.stdout:
             return print("left out: an account called mgd, for which this has to be root with a list of mounts of its own")
-        name = account.partition(":")[0]
-        wanted = f"it.toml: warning: this machine has an account {name}: the unit of that name runs as it, and whoever has the account reads all tickets and texts"
+        wanted = "it.toml: warning: this machine has an account mgd: the service runs as it, and whoever has the account reads all tickets and texts"
         expect(f"the account {account[:11]} is {'' if is_told else 'not '}warned of", (wanted in ran.stdout) == is_told and ("account" in ran.stdout) == is_told, ran.stdout)
 
 
@@ -337,11 +337,11 @@ def try_lists(folder):
     check(folder, text)
     wanted = ('notes: warning: entry 2, "ALLOW guss w", matches nobody: guss is no user\n'
               'notes: warning: entry 4, "DENY ann r", decides nothing: entry 3 decides r before it; a DENY has to stand before what it takes away\n'
-              'it.toml: the lists of NAME have 2 warnings\nuser  notes     mine\nann   rwat----  --------\nbob   r-at----  rwatdcCo\n')
+              'it.toml: the lists were judged with its users and groups: 2 warnings\nuser  notes     mine\nann   rwat----  --------\nbob   r-at----  rwatdcCo\n')
     for name, given in [("now.toml", None), ("-", now)]:
         ran = subprocess.run([CHECK, "--rights", "--lists", name, "it.toml"], input=given, capture_output=True, text=True, cwd=folder)
         expect(f"--lists {name} judges other buffers, and asks no program", (ran.returncode, ran.stdout, ran.stderr)
-               == (0, wanted.replace("NAME", "standard input" if name == "-" else name), ""), (ran.stdout, ran.stderr))
+               == (0, wanted, ""), (ran.stdout, ran.stderr))
     for given, words in [(now.replace('owner = "bob"', 'owner = "eve"'), 'buffer 2: Unknown: the owner "eve" is no user'), ("x = \n", "standard input: a value is missing")]:
         ran = subprocess.run([CHECK, "--lists", "-", "it.toml"], input=given, capture_output=True, text=True, cwd=folder)
         expect(f"a fault there is told: {words}", ran.returncode == 1 and words in ran.stdout, ran.stdout)
