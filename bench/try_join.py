@@ -918,6 +918,31 @@ def try_changed_holder(server):
         drop(server, one)
 
 
+def try_unseen_holder(server):
+    """If it cannot be seen who holds the port, the ticket is sent again for RET alone."""
+    leader = ["unshare", "--mount", "sh", "-c", 'mount -t tmpfs none /proc && exec "$@"', "sh"]
+    if os.getuid() or subprocess.run([*leader, "true"], stderr=subprocess.DEVNULL).returncode:
+        return print("left out: a port whose holder cannot be seen, for which this has to be root with a list of mounts of its own")
+    one = joined(server, [], leader=leader)
+    one.resize(30, 90)
+    one.screen.resize(30, 90, "X")
+    is_told = one.wait_until(lambda: "C-] s fits the size" in one.screen.lines()[23])
+    expect("an unseen holder: no size is fitted by itself", is_told, one.screen.lines()[23])
+    server.close()
+    is_told = one.wait_until(lambda: "who holds the port cannot be seen here; RET joins again" in one.screen.lines()[23])
+    one.type(b"for the text")
+    server.socket.settimeout(1)
+    try:
+        server.socket.accept()
+        is_waiting = False
+    except TimeoutError:
+        is_waiting = True
+    one.type(b"\r")
+    login = server.accept()
+    expect("an unseen holder: no connection until RET", is_told and is_waiting and login == b"login ann apple 30 90\n", (is_told, is_waiting, login))
+    drop(server, one)
+
+
 def drop(server, one):
     """Ends one that would come back."""
     one.process.terminate()
@@ -1244,6 +1269,13 @@ def seats(rows):
     return [(upper, "----notes-L120-C28"), (rows - 2, "----plans-L77-C0")]
 
 
+def is_connected(process):
+    """Whether the server has the connection of a join still: its socket is established."""
+    numbers = {os.readlink(f"/proc/{process}/fd/{name}") for name in os.listdir(f"/proc/{process}/fd")}
+    with open("/proc/net/tcp") as file:
+        return any(f"socket:[{row.split()[9]}]" in numbers and row.split()[3] == "01" for row in file.readlines()[1:])
+
+
 def try_seats():
     """Loss and return, and other sizes, over the program."""
     if not os.path.exists(PROGRAM):
@@ -1315,6 +1347,31 @@ def try_seats():
     one.type(b"\x1ds")
     is_fitted = one.shows("a new session of this size: kills, marks and macros are gone") and "plans-L77" in one.screen.lines()[38]
     expect("a kill is not lost by itself, and C-] s fits the size", is_told and is_fitted, one.screen.lines())
+    one.type(QUIT)
+    one.end()
+
+    one = Joined(program.words)
+    one.shows("-notes-L1-C0")
+    one.type(TWO).shows("plans-L77-C0")
+    one.wait_until(lambda: False, 0.3)
+    before = mode_lines(one.screen.lines())
+    os.kill(one.process.pid, signal.SIGSTOP)
+    with socket.create_connection((program.words[2], int(program.port))) as other:
+        other.sendall(b" ".join([b"login", *(word.encode() for word in program.words[:2]), b"64 160\n"]))
+        other.settimeout(0.01)
+        for turn in range(4000):
+            other.sendall(b"\x18bplans\r\x18g77\r\x0f\x04" if turn == 0 else b"\x0f\x04" * 100)
+            try:
+                while other.recv(65536):
+                    pass
+            except TimeoutError:
+                pass
+            if turn % 10 == 9 and not is_connected(one.process.pid):
+                break
+        other.sendall(b"\x18\x03")
+    os.kill(one.process.pid, signal.SIGCONT)
+    is_back = one.shows("the session was ended as slow; a new session: kills, marks and macros are gone", 20)
+    expect("a session that was ended as slow is begun again", is_back and [place for place, _ in mode_lines(one.screen.lines())] == [place for place, _ in before], one.screen.lines())
     one.type(QUIT)
     one.end()
 
@@ -1425,6 +1482,7 @@ def main():
     try_strangers_port(server)
     try_return(server)
     try_changed_holder(server)
+    try_unseen_holder(server)
     try_size_of_what_is_lost(server)
     try_screen_and_title(server)
     try_words_in_windows(server)
