@@ -183,6 +183,7 @@ def try_warnings(folder):
         ("nobody writes", listed('"ALLOW EVERYONE@ rt", "DENY EVERYONE@ w"'), "warning: nobody may change notes, which needs a, or r and w", "list ="),
         ("nobody saves", listed('"ALLOW EVERYONE@ at"') + f'file = "{notes}"\n', "warning: nobody may save notes, which needs r and w", "list ="),
         ("nobody of that name", changed("ALLOW bob", "ALLOW bbo"), 'warning: entry 2, "ALLOW bbo rwat", matches nobody: bbo is no user', "bbo"),
+        ("a denial of nobody", changed('"ALLOW OWNER@', '"DENY bbo r",\n "ALLOW OWNER@'), 'warning: entry 1, "DENY bbo r", matches nobody: bbo is no user', "bbo"),
         ("a group without its word", BASE.replace("ALLOW bob", "ALLOW staff") + GROUP, "matches nobody: staff is no user; the group is written group:staff", "ALLOW staff"),
         ("no owning group", changed("ALLOW bob", "ALLOW GROUP@"), "matches nobody: notes has no owning group", "GROUP@"),
         ("a denial behind", listed('"ALLOW EVERYONE@ rwat",\n "DENY bob w"'), 'warning: entry 2, "DENY bob w", decides nothing: entry 1 decides w before it; a DENY has to stand before', "DENY bob"),
@@ -268,6 +269,97 @@ def try_from(folder):
         expect(f"{words} is answered by the usage line", ran.returncode == 2 and ran.stderr.startswith("usage: mgd-check"), ran.stderr)
 
 
+def try_reasons(folder):
+    """What the system says of what cannot be read, which another user than root tries."""
+    who = {"user": 65534, "group": 65534, "extra_groups": []} if os.getuid() == 0 else {}
+    name = "nobody" if who else subprocess.run(["id", "-un"], capture_output=True, text=True).stdout.strip()
+    ran = check(folder, BASE, mode=0, **who)
+    wanted = f"mgd-check: {folder}/it.toml cannot be read by {name}: Permission denied\n"
+    expect("a configuration that may not be read, with the reason", ran.returncode == 1 and ran.stderr.endswith(wanted), (ran.returncode, ran.stderr))
+    secret = os.path.join(folder, "secret.txt")
+    with open(secret, "w") as file:
+        file.write("secret\n")
+    os.chmod(secret, 0)
+    text = with_file(secret)
+    ran = check(folder, text, mode=0o644, **who)
+    wanted = f"/it.toml:{line_of(text, 'secret.txt')}: buffer 1: File: \"{secret}\" cannot be read by {name}: Permission denied\n"
+    expect("a file that may not be read, with the reason", ran.returncode == 1 and wanted in ran.stdout, (ran.returncode, ran.stdout, ran.stderr))
+    os.unlink(secret)
+
+
+def try_owners(folder):
+    """A file that root made in the folder of another user, who serves."""
+    if os.getuid():
+        return print("left out: a file of another owner, for which this has to be root")
+    inside = os.path.join(folder, "served")
+    os.mkdir(inside)
+    notes = os.path.join(inside, "notes.txt")
+    with open(notes, "w") as file:
+        file.write("notes\n")
+    os.chown(inside, 65534, 65534)
+    words = f"warning: {notes} belongs to root, and its folder to nobody; a server that runs as the folder's owner may not be able to read or save it (chown --reference={inside} {notes})"
+    try_one("a file of root in another user's folder", folder, with_file(notes), 0, words, "file =")
+    try_one("the same by a path that counts from here", folder, with_file("served/notes.txt"), 0, words.replace(f"warning: {notes}", "warning: served/notes.txt"), "file =")
+    os.chown(notes, 65534, 65534)
+    ran = check(folder, with_file(notes))
+    expect("with the owner of its folder it is no mistake", ran.stdout == f"{folder}/it.toml: mgd serves it\n", ran.stdout)
+    os.chown(notes, 0, 0)
+    os.chmod(inside, 0o1777)
+    ran = check(folder, with_file(notes))
+    expect("nor is it in a folder that all may write and none may clear", "belongs to" not in ran.stdout, ran.stdout)
+
+
+def try_accounts(folder):
+    """An account that has the name of the service's user. It is put into a list of accounts that this process alone sees."""
+    listed = os.path.join(folder, "passwd")
+    with open("/etc/passwd") as file:
+        accounts = file.read()
+    check(folder, BASE)
+    for account, is_told in [("mgd:x:1234:1234::/home/mgd:/bin/sh", True), ("mgd:x:900:900::/:/usr/sbin/nologin", True),
+                             ("mgd:x:61999:61999::/:/usr/sbin/nologin", False), ("mgdx:x:1234:1234::/:/bin/sh", False)]:
+        with open(listed, "w") as file:
+            file.write(accounts + account + "\n")
+        words = ["unshare", "--mount", "sh", "-c", 'mount --bind "$1" /etc/passwd && shift && exec "$@"', "sh", listed, CHECK, "it.toml", "--", PROGRAM]
+        ran = subprocess.run(words, capture_output=True, text=True, cwd=folder)
+        if "mgd serves it" not in ran.stdout:
+            return print("left out: an account called mgd, for which this has to be root with a list of mounts of its own")
+        wanted = "it.toml: warning: this machine has an account mgd: the service runs as it, and whoever has the account reads all tickets and texts"
+        expect(f"the account {account[:11]} is {'' if is_told else 'not '}warned of", (wanted in ran.stdout) == is_told and ("account" in ran.stdout) == is_told, ran.stdout)
+
+
+def try_lists(folder):
+    """Buffers of another file in the place of those of the configuration, and the form in which buffers are printed."""
+    text = BASE + 'file = "none.txt"\n' + GROUP
+    now = '[[buffer]]\nname = "notes"\nowner = "ann"\nlist = ["DENY bob w", "ALLOW guss w", "ALLOW EVERYONE@ rwat", "DENY ann r"]\n\n' \
+          '[[buffer]]\nname = "mine"\nowner = "bob"\nlist = ["ALLOW OWNER@ rwatdcCo"]\n'
+    with open(os.path.join(folder, "now.toml"), "w") as file:
+        file.write(now)
+    check(folder, text)
+    wanted = ('notes: warning: entry 2, "ALLOW guss w", matches nobody: guss is no user\n'
+              'notes: warning: entry 4, "DENY ann r", decides nothing: entry 3 decides r before it; a DENY has to stand before what it takes away\n'
+              'it.toml: the lists were judged with its users and groups: 2 warnings\nuser  notes     mine\nann   rwat----  --------\nbob   r-at----  rwatdcCo\n')
+    for name, given in [("now.toml", None), ("-", now)]:
+        ran = subprocess.run([CHECK, "--rights", "--lists", name, "it.toml"], input=given, capture_output=True, text=True, cwd=folder)
+        expect(f"--lists {name} judges other buffers, and asks no program", (ran.returncode, ran.stdout, ran.stderr)
+               == (0, wanted, ""), (ran.stdout, ran.stderr))
+    for given, words in [(now.replace('owner = "bob"', 'owner = "eve"'), 'buffer 2: Unknown: the owner "eve" is no user'), ("x = \n", "standard input: a value is missing")]:
+        ran = subprocess.run([CHECK, "--lists", "-", "it.toml"], input=given, capture_output=True, text=True, cwd=folder)
+        expect(f"a fault there is told: {words}", ran.returncode == 1 and words in ran.stdout, ran.stdout)
+    ran = subprocess.run([CHECK, "--lists", "nowhere", "it.toml"], capture_output=True, text=True, cwd=folder)
+    expect("a file that is not there", ran.returncode == 1 and "nowhere cannot be read by" in ran.stderr and "No such file" in ran.stderr, ran.stderr)
+    check(folder, text.replace("ALLOW bob rwat", "  ALLOW   bob  tawr ") + '[[buffer]]\nname = "q\\"\\\\"\nowner = "bob"\ngroup = "staff"\nlist = []\ntext = "a\\n\\u0001"\n')
+    ran = subprocess.run([CHECK, "--tables", "it.toml"], capture_output=True, text=True, cwd=folder)
+    wanted = ('[[buffer]]\nname = "notes"\nowner = "ann"\nlist = ["ALLOW OWNER@ rwatcCo", "ALLOW bob rwat"]\nfile = "none.txt"\n\n'
+              '[[buffer]]\nname = "q\\"\\\\"\nowner = "bob"\ngroup = "staff"\nlist = []\ntext = "a\\u000A\\u0001"\n\n')
+    expect("--tables prints the buffers in one form", (ran.returncode, ran.stdout) == (0, wanted), (ran.stdout, ran.stderr))
+    check(folder, changed('owner = "ann"', 'owner = "eve"'))
+    ran = subprocess.run([CHECK, "--tables", "it.toml"], capture_output=True, text=True, cwd=folder)
+    expect("--tables of one with a fault", ran.returncode == 1 and 'the owner "eve" is no user' in ran.stdout and "[[buffer]]" not in ran.stdout, ran.stdout)
+    for words in [["--lists"], ["--lists", "now.toml"], ["--lists", "now.toml", "it.toml", "--", PROGRAM]]:
+        ran = subprocess.run([CHECK, *words], capture_output=True, text=True, cwd=folder)
+        expect(f"{words[:3]} is answered by the usage line", ran.returncode == 2 and ran.stderr.startswith("usage: mgd-check"), ran.stderr)
+
+
 def try_sizes(folder):
     """What is long or deep is read in a time that goes with its length."""
     for what, text in [
@@ -304,6 +396,10 @@ with tempfile.TemporaryDirectory() as folder:
     try_access_lists(folder)
     try_rights(folder)
     try_from(folder)
+    try_reasons(folder)
+    try_owners(folder)
+    try_accounts(folder)
+    try_lists(folder)
     try_sizes(folder)
     try_locales(folder)
 print(f"{failed} failed")

@@ -10,11 +10,12 @@ import fcntl, os, pty, random, re, select, shutil, signal, socket, stat, struct,
 TOP = os.path.dirname(os.path.dirname(os.path.abspath(__file__)))
 PROGRAM = sys.argv[1] if len(sys.argv) > 1 else os.path.join(TOP, "crates", "mgd", "out", "mgd")
 JOIN = os.path.join(TOP, "join")
-USAGE = "usage: join [--raw] [--host HOST] [--port PORT] [--ticket-file FILE] [--server-user USER] NAME [TICKET [HOST PORT]]\r\n"
+USAGE = "usage: join [--once] [--raw] [--host HOST] [--port PORT] [--ticket-file FILE] [--server-user USER] NAME [TICKET [HOST PORT]]\r\n"
 FOLDER = tempfile.TemporaryDirectory()
 FIRST = b"\x1b[?7l\x1b[m\x1b[2J\x1b[1;1Hhello\x1b[1;3H"
 QUIT = b"\x18\x03"
 PAUSE = 0.25  # longer than join waits for the rest of a sequence
+GIVEN_BACK = "\x1b[?7h\x1b[m\x1b[24;1H\r\n\x1b[J\x1b[?1049l"
 results = []
 
 
@@ -31,10 +32,10 @@ class Screen:
     """A terminal: its cells, each a character and whether it is in reverse, where "" is a right half. What it is not made for, and each
     place outside of it, is noted in faults."""
 
-    SEQUENCE = re.compile(r"\x1b\[([?\d;]*)([A-Za-z])|[\r\n]|[^\x00-\x1f]", re.S)
+    SEQUENCE = re.compile(r"\x1b\[([?\d;]*)([A-Za-z])|\x1b\]2;([^\x00-\x1f]*)\x07|[\r\n]|[^\x00-\x1f]", re.S)
 
     def __init__(self, rows, cols):
-        self.faults, self.unread = [], b""
+        self.faults, self.unread, self.other, self.titles = [], b"", None, [""]
         self.is_wrapping, self.is_reversed, self.is_past = True, False, False
         self.resize(rows, cols)
 
@@ -52,9 +53,11 @@ class Screen:
             done = found.end()
             if found[2]:
                 self.control(found[1], found[2])
+            elif found[3] is not None:
+                self.titles[-1] = found[3]
             else:
                 self.put(found[0])
-        if not re.fullmatch(r"(\x1b(\[[?\d;]*)?)?", text[done:]):
+        if not re.fullmatch(r"(\x1b(\[[?\d;]*|\][^\x00-\x1f]*)?)?", text[done:]):
             self.faults.append(text[done:])
         self.unread = self.unread[len(text[:done].encode()):]
 
@@ -75,6 +78,20 @@ class Screen:
             self.is_reversed = given == "7"
         elif given == "?7" and letter in "hl":
             self.is_wrapping = letter == "h"
+        elif given == "?1049" and letter == "h":
+            if not self.other:
+                self.other = self.cells, self.row, self.col
+                self.cells = [[(" ", False)] * self.cols for _ in range(self.rows)]
+        elif given == "?1049" and letter == "l":
+            if self.other:
+                (saved, row, col), self.other = self.other, None
+                blank = [(" ", False)] * self.cols
+                self.cells = [(cells + blank)[:self.cols] for cells in (saved + [blank] * self.rows)[:self.rows]]
+                self.row, self.col = min(row, self.rows - 1), min(col, self.cols - 1)
+        elif given == "22;2" and letter == "t":
+            self.titles.append(self.titles[-1])
+        elif given == "23;2" and letter == "t" and len(self.titles) > 1:
+            self.titles.pop()
         else:
             self.faults.append(given + letter)
 
@@ -114,14 +131,19 @@ class Screen:
         return ["".join(cell[0] for cell in row).rstrip() for row in self.cells]
 
     def cut(self, places, cols):
-        """What a terminal of another size shows of this one, where these rows are in sight."""
+        """What a terminal of another size shows of this one, if these rows are in sight: the columns from a multiple of half of its own on,
+        so that the cursor's is among them."""
+        half = max(1, cols // 2)
+        left = 0 if self.col < cols or cols >= self.cols else min(self.cols - cols, (self.col - half) // half * half)
         cells = [[(" ", False)] * cols for _ in places]
         for row, place in enumerate(places):
-            for col in range(min(cols, self.cols)):
-                cells[row][col] = self.cells[place][col]
-            if cols < self.cols and self.cells[place][cols][0] == "":
-                cells[row][cols - 1] = (" ", self.cells[place][cols - 1][1])
-        return cells, (places.index(self.row), min(self.col, cols - 1))
+            for col in range(left, min(left + cols, self.cols)):
+                cells[row][col - left] = self.cells[place][col]
+            if self.cells[place][left][0] == "":
+                cells[row][0] = (" ", self.cells[place][left][1])
+            if left + cols < self.cols and self.cells[place][left + cols][0] == "":
+                cells[row][cols - 1] = (" ", self.cells[place][left + cols - 1][1])
+        return cells, (places.index(self.row), self.col - left)
 
     def sights(self, rows):
         """The rows that can be in sight in a terminal of so many: that of the cursor, the last two, and rows that follow each other."""
@@ -167,6 +189,14 @@ class Server:
                 self.got += more
         got, self.got = self.got, b""
         return got
+
+    def stop(self):
+        """Ends as a server does: its port is free then."""
+        self.peer.close()
+        self.socket.close()
+
+    def start(self):
+        self.socket = socket.create_server(("127.0.0.1", int(self.port)))
 
     def close(self, is_reset=False):
         if is_reset:
@@ -255,8 +285,8 @@ class Joined:
         return self.process.returncode, self.state()[:2] + (self.before[2],) == self.before and self.state() == self.before
 
 
-def joined(server, words=(), answer=FIRST, **more):
-    """One that has begun."""
+def joined(server, words=("--once",), answer=FIRST, **more):
+    """One that has begun, and does not come back."""
     one = Joined([*words, "ann", "apple", *server.to], **more)
     one.login = server.accept(answer)
     if answer == FIRST:
@@ -363,7 +393,7 @@ def try_slow_keys(server):
     server.close()
     one.end()
 
-    one = joined(server, ["--raw"])
+    one = joined(server, ["--once", "--raw"])
     keys = b"\x1b[1~\x08\x1d\x1d\xff\x1b[200~\x1bOA"
     got = typed(server, one, keys)
     expect("--raw sends all bytes as they are", got == keys + b".", got)
@@ -441,7 +471,7 @@ def try_pictures(server):
     for rows, cols in [(6, 20), (24, 80), (70, 170)]:
         chance = random.Random(rows)
         model = Screen(min(rows, 64), min(cols, 160))
-        one = Joined(["ann", "apple", *server.to], rows=rows, cols=cols)
+        one = Joined(["--once", "ann", "apple", *server.to], rows=rows, cols=cols)
         one.screen.resize(rows, cols, "X")
         first = b"\x1b[?7l\x1b[m\x1b[2J\x1b[1;1H"
         login = server.accept(first)
@@ -492,7 +522,7 @@ def try_strangers(server):
 def try_own_keys(server):
     one = joined(server)
     one.type(b"\x1d?")
-    expect("C-] ? says what there is", one.shows("r repaints, q leaves, C-] sends C-]"), one.screen.lines())
+    expect("C-] ? says what there is", one.shows("r repaints, q leaves, s fits the size, C-] sends C-]"), one.screen.lines())
     expect("the cursor is where it was", (one.screen.row, one.screen.col) == (0, 2), one.screen.col)
     one.type(b"x")
     server.take(b"x", terminal=one)
@@ -502,7 +532,7 @@ def try_own_keys(server):
     expect("so does the next paint", one.wait_until(lambda: one.screen.lines()[23] == "" and one.screen.lines()[1] == "more"), one.screen.lines())
     one.type(b"\x1dq")
     seen = one.end(), server.take(b"?", most=0.5), one.got[-60:]
-    tail = "\x1b[?7h\x1b[m\x1b[24;1H\r\n\x1b[Jjoin: the session is over\r\n"
+    tail = GIVEN_BACK + "join: the session is over\r\n"
     expect("C-] q leaves", seen[0] == (0, True) and seen[1] == b"" and one.got.endswith(tail), seen)
 
     one = joined(server, rows=6, cols=20)
@@ -523,7 +553,7 @@ def try_ends(server):
     seen = got, more, one.end(), one.got[-60:]
     expect("C-x C-c ends it, and what is typed behind it is not sent", seen[:3] == (QUIT, b"", (0, True)), seen)
     expect("what is typed behind it stays for the next reader", select.select([one.slave], [], [], 1)[0] != [], "")
-    tail = "\x1b[?7h\x1b[m\x1b[24;1H\r\n\x1b[Jjoin: the session is over\r\n"
+    tail = GIVEN_BACK + "join: the session is over\r\n"
     expect("the cursor is left below the screen", one.got.endswith(tail), one.got[-80:])
 
     for what, keys, paint, is_end in [
@@ -687,7 +717,7 @@ def try_tickets(server):
     os.chmod(path, 0o600)
     with open(path, "w") as file:
         file.write("a" * 64 + "\r\n")
-    one = Joined([*place, "--ticket-file", path, "ann"])
+    one = Joined([*place, "--once", "--ticket-file", path, "ann"])
     login = server.accept()
     server.close()
     expect("a ticket of 64 characters", login == b"login ann " + b"a" * 64 + b" 24 80\n" and one.end() == (3, True), login)
@@ -698,7 +728,7 @@ def try_tickets(server):
         one = Joined([*place, "--ticket-file", file, "ann"])
         seen = one.end(), one.got
         expect(f"more than 64 bytes of {os.path.basename(file)}", seen[0] == (1, True) and f"the first line of {file} is no ticket" in seen[1], seen)
-    one = Joined(["--raw", "--", "-x", "apple", *server.to])
+    one = Joined(["--once", "--raw", "--", "-x", "apple", *server.to])
     login = server.accept()
     one.shows("hello")
     server.close()
@@ -733,7 +763,7 @@ def try_signals(server):
         one.process.send_signal(number)
         ended = one.end()
         expect(f"{number.name} ends it", ended == (128 + number, True), ended)
-        expect(f"{number.name}: the screen is given back", one.got.endswith("\x1b[?7h\x1b[m\x1b[24;1H\r\n\x1b[J"), one.got[-60:])
+        expect(f"{number.name}: the screen is given back", one.got.endswith(GIVEN_BACK), one.got[-60:])
         expect(f"{number.name}: the terminal was its own", during[0] != one.before[0] and during[2] & 0o022 == 0, during)
 
     one = joined(server, leader=[sys.executable, "-c", LEADER])
@@ -801,7 +831,7 @@ def try_full_terminal(server):
 STRANGER = """
 import os, socket, sys
 os.setgid(65534), os.setuid(65534)
-sock = socket.create_server(("127.0.0.1", 0))
+sock = socket.create_server(("127.0.0.1", int((sys.argv + ["0"])[1])))
 print(sock.getsockname()[1], flush=True)
 while True:
     peer, _ = sock.accept()
@@ -810,9 +840,190 @@ while True:
 """
 
 
+def try_return(server):
+    """A connection that is lost, and what is typed until it is there again."""
+    lost = "join: the connection was lost: the server closed it\r\n"
+    for what, keys in [("C-c", b"\x03"), ("C-x C-c", b"\x18\x03"), ("C-] q", b"\x1dq")]:
+        one = joined(server, [])
+        server.stop()
+        is_told = one.shows("the server is away; C-c leaves")
+        one.type(b"for the text\r")
+        is_counted = one.shows("the server is away (2 s); C-c leaves", 4)
+        one.type(keys)
+        ended = one.end()
+        is_left = select.select([one.slave], [], [], 0)[0] != []
+        seen = is_told, is_counted, ended, one.got.endswith(GIVEN_BACK + lost), is_left
+        expect(f"a lost connection is told in the last row, and {what} leaves", seen == (True, True, (3, True), True, False), (seen, one.got[-300:]))
+        server.start()
+
+    for answer, wanted in [(b"refused 3 Ticket\n", "refused: this is not the ticket of ann (3 Ticket)"), (b"refused 2 NoUser\n", "refused: no user is called ann (2 NoUser)"),
+                           (b"SSH-2.0-x\r\n", "what answers at 127.0.0.1 port {} is not mgd")]:
+        one = joined(server, [])
+        server.close()
+        login = server.accept(answer)
+        ended = one.end()
+        server.close()
+        expect(f"at the return the answer {answer!r} ends it", login == b"login ann apple 24 80\n" and ended == (1, True)
+               and one.got.endswith(GIVEN_BACK + f"join: {wanted.format(server.port)}\r\n"), (login, ended, one.got[-120:]))
+    one = joined(server, [])
+    server.close()
+    for _ in range(2):
+        server.accept(b"refused 5 Full\n")
+        server.close()
+        is_told = one.shows("refused: all sessions are taken; try again later (5 Full)")
+    login = server.accept()
+    got = server.take(b"\x07", terminal=one)
+    expect("a full server is asked again, and the first key is C-g", is_told and login == b"login ann apple 24 80\n" and got == b"\x07", (is_told, login, got))
+    one.type(b"for the text \x1d")
+    time.sleep(0.3)
+    more = server.take(b"?", most=0.3, terminal=one)
+    one.type(b"q")
+    ended = one.end()
+    server.close()
+    expect("until the windows are there no key is sent, and C-] q leaves", more == b"" and ended == (3, True), (more, ended))
+
+    for what, words, keys in [("--once", ["--once"], b""), ("after C-x C-c", [], QUIT)]:
+        one = joined(server, words)
+        one.type(keys)
+        server.take(keys, terminal=one)
+        server.close()
+        ended = one.end()
+        expect(f"{what}: it does not come back", ended == (0 if keys else 3, True), ended)
+    done = subprocess.Popen([JOIN, "ann", "apple", *server.to], stdin=subprocess.PIPE, stdout=subprocess.PIPE, stderr=subprocess.PIPE)
+    server.accept()
+    server.close()
+    seen = done.wait(10), done.stderr.read()
+    expect("one whose input is no terminal does not come back", seen == (3, lost.replace("\r", "").encode()), seen)
+
+
+def try_changed_holder(server):
+    """The port of a server that is gone is another user's: nothing is sent there. If it is the first one's again, it comes back."""
+    if os.getuid() or not os.path.exists("/proc/net/tcp"):
+        return print("left out: a port that changes hands, for which this has to be root of Linux")
+    for number in range(3):
+        one = joined(server, ["--server-user", "root"] if number else [])
+        server.stop()
+        stranger = subprocess.Popen([sys.executable, "-c", STRANGER, server.port], stdout=subprocess.PIPE, text=True)
+        stranger.stdout.readline()
+        is_told = one.shows(f"port {server.port} of 127.0.0.1 belongs to a program of nobody; the ticket is not sent")
+        time.sleep(1.5)
+        got = select.select([stranger.stdout], [], [], 0)[0] and stranger.stdout.readline()
+        expect(f"a foreign holder of the port gets 0 bytes, and no connection ({number + 1})", is_told and not got, (is_told, got, one.screen.lines()[23]))
+        stranger.kill()
+        stranger.wait()
+        stranger.stdout.close()
+        server.start()
+        login = server.accept()
+        expect("the first holder gets the login line again", login == b"login ann apple 24 80\n", login)
+        drop(server, one)
+
+
+def try_unseen_holder(server):
+    """If it cannot be seen who holds the port, the ticket is sent again for RET alone."""
+    leader = ["unshare", "--mount", "sh", "-c", 'mount -t tmpfs none /proc && exec "$@"', "sh"]
+    if os.getuid() or subprocess.run([*leader, "true"], stderr=subprocess.DEVNULL).returncode:
+        return print("left out: a port whose holder cannot be seen, for which this has to be root with a list of mounts of its own")
+    one = joined(server, [], leader=leader)
+    one.resize(30, 90)
+    one.screen.resize(30, 90, "X")
+    is_told = one.wait_until(lambda: "C-] s fits the size" in one.screen.lines()[23])
+    expect("an unseen holder: no size is fitted by itself", is_told, one.screen.lines()[23])
+    server.close()
+    is_told = one.wait_until(lambda: "who holds the port cannot be seen here; RET joins again" in one.screen.lines()[23])
+    one.type(b"for the text")
+    server.socket.settimeout(1)
+    try:
+        server.socket.accept()
+        is_waiting = False
+    except TimeoutError:
+        is_waiting = True
+    one.type(b"\r")
+    login = server.accept()
+    expect("an unseen holder: no connection until RET", is_told and is_waiting and login == b"login ann apple 30 90\n", (is_told, is_waiting, login))
+    drop(server, one)
+
+
+def drop(server, one):
+    """Ends one that would come back."""
+    one.process.terminate()
+    one.end()
+    server.close()
+
+
+def try_size_of_what_is_lost(server):
+    """Where a session has more than its screen shows, another size is told of, and waits for C-] s."""
+    for keys, is_lost in [(b"\x0b", True), (b"\x00", True), (b"\x13a\r", True), (b"\x1bx", True), (b"\x18(", True), (b"\x18k", True), (b"\x1f", True), (b"\x1530\x18f", True),
+                          (b"abc\r\x0e\x1b[A\x1bv\x182\x18o\x18g12\r\x18\x13\xe6\xbc\xa2\x18bnotes\r\x181\x18\x02", False), (b"", False)]:
+        one = joined(server, [])
+        one.type(keys)
+        server.take(keys, terminal=one)
+        one.resize(30, 90)
+        one.screen.resize(30, 90, "X")
+        if is_lost:
+            is_told = one.wait_until(lambda: "C-] s fits the size; kills, marks and macros go" in one.screen.lines()[23])
+            server.socket.settimeout(0.3)
+            try:
+                server.socket.accept()
+                is_told = False
+            except TimeoutError:
+                pass
+            expect(f"after {keys!r} another size is told of", is_told, one.screen.lines()[23])
+            one.type(b"\x1ds")
+        before = server.peer
+        login = server.accept()
+        expect(f"after {keys!r} " + ("C-] s logs in" if is_lost else "it logs in by itself") + " in the new size", login == b"login ann apple 30 90\n", login)
+        before.settimeout(5)
+        expect("and ends the session of before", before.recv(1) == b"")
+        before.close()
+        drop(server, one)
+    one = joined(server, [])
+    one.type(b"\x18")
+    server.take(b"\x18", terminal=one)
+    one.resize(30, 90)
+    server.socket.settimeout(1)
+    try:
+        server.socket.accept()
+        is_waiting = False
+    except TimeoutError:
+        is_waiting = True
+    one.type(b"o")
+    login = server.accept()
+    expect("what is half typed is waited for", is_waiting and login == b"login ann apple 30 90\n", (is_waiting, login))
+    drop(server, one)
+    one = joined(server, [])
+    before = server.peer
+    one.resize(30, 90)
+    server.accept(b"refused 5 Full\n")
+    server.peer.close()
+    is_told = one.shows("the size stays: refused: all sessions are taken; try again later (5 Full)")
+    one.type(b"\x1dq")
+    expect("if no session is free the one that there is stays", is_told and one.end()[0] == 0, one.screen.lines())
+    before.close()
+    one = joined(server, [])
+    one.type(b"\x1ds")
+    expect("C-] s in the same size does nothing", one.shows("the screen has the size of the terminal"), one.screen.lines())
+    drop(server, one)
+
+
+def try_screen_and_title(server):
+    """What the terminal showed is there again, with its title."""
+    for kind in ["xterm-256color", "tmux-256color", "screen", "linux"]:
+        one = Joined(["--once", "ann", "apple", *server.to], TERM=kind)
+        one.screen.feed(b"\x1b]2;a shell\x07before\r\n$ join\r\n")
+        server.accept()
+        wanted = "a shell" if kind == "linux" else f"ann on mgd, 127.0.0.1 {server.port}"
+        expect(f"{kind}: the title", one.shows("hello") and one.screen.titles[-1] == wanted, one.screen.titles)
+        one.type(b"\x1dq")
+        ended = one.end()
+        lines = one.screen.lines()[:4]
+        expect(f"{kind}: the screen of before is there again", ended == (0, True) and lines == ["before", "$ join", "join: the session is over", ""]
+               and one.screen.titles == ["a shell"] and not one.screen.faults, (ended, lines, one.screen.titles, one.screen.faults))
+        server.close()
+
+
 def try_strangers_port(server):
     """Who listens is looked at before the ticket is sent."""
-    one = Joined(["--server-user", "root", "ann", "apple", *server.to])
+    one = Joined(["--once", "--server-user", "root", "ann", "apple", *server.to])
     if os.getuid() or not os.path.exists("/proc/net/tcp"):
         one.process.kill()
         return print("left out: a port of another user, for which this has to be root of Linux")
@@ -846,7 +1057,7 @@ def try_tmux(server):
     place = ["tmux", "-u", "-L", f"mgd-try-{os.getpid()}", "-f", "/dev/null"]
     surroundings = {**os.environ, "LC_ALL": "C.UTF-8", "TERM": "xterm", "MGD_TICKET": "apple"}
     run = lambda *words: subprocess.run([*place, *words], env=surroundings, capture_output=True, text=True).stdout
-    run("new", "-d", "-x", "80", "-y", "24", f"{JOIN} --port {server.port} ann")
+    run("new", "-d", "-x", "80", "-y", "24", f"{JOIN} --once --port {server.port} ann")
     login = server.accept()
     expect("tmux: it joins", login == b"login ann apple 24 80\n", login)
     strange = ["\u2028", "\u0378", "\u2630", "\u4dc0", "\U0001d300", "\ufdd0", "\ue000", "\u6f22", "\u00e9", "\U0001f600", "\u00ad", "\U000e0001"]
@@ -867,6 +1078,359 @@ def try_tmux(server):
     expect("tmux: what it leaves out or narrows leaves nothing behind", not wrong, wrong)
     server.close()
     run("kill-server")
+
+
+class Multiplexed:
+    """A window of tmux or of screen that was opened for a join, and what it shows."""
+
+    def __init__(self, kind, words, rows=24, cols=80):
+        self.kind, self.name = kind, f"mgd-try-{os.getpid()}"
+        self.surroundings = {"PATH": os.environ["PATH"], "LC_ALL": "C.UTF-8", "TERM": "xterm", "SCREENDIR": os.path.join(FOLDER.name, "screens"), "HOME": FOLDER.name}
+        self.terminal, self.slave = pty.openpty()
+        fcntl.ioctl(self.slave, termios.TIOCSWINSZ, struct.pack("HHHH", rows, cols, 0, 0))
+        if kind == "tmux":
+            start = ["tmux", "-u", "-L", self.name, "-f", "/dev/null", "new", "-s", self.name, " ".join([JOIN, *words]), ";", "set", "status", "off"]
+        else:
+            os.makedirs(self.surroundings["SCREENDIR"], mode=0o700, exist_ok=True)
+            start = ["screen", "-U", "-c", "/dev/null", "-S", self.name, JOIN, *words]
+        self.process = subprocess.Popen(start, env=self.surroundings, stdin=self.slave, stdout=self.slave, stderr=self.slave, start_new_session=True,
+                                        preexec_fn=lambda: fcntl.ioctl(0, termios.TIOCSCTTY, 0))
+
+    def resize(self, rows, cols):
+        fcntl.ioctl(self.slave, termios.TIOCSWINSZ, struct.pack("HHHH", rows, cols, 0, 0))
+        self.process.send_signal(signal.SIGWINCH)
+
+    def type(self, keys):
+        os.write(self.terminal, keys)
+
+    def pump(self, most):
+        while select.select([self.terminal], [], [], most)[0]:
+            try:
+                os.read(self.terminal, 65536)
+            except OSError:
+                return
+            most = 0
+
+    def lines(self):
+        self.pump(0.1)
+        if self.kind == "tmux":
+            run = subprocess.run(["tmux", "-u", "-L", self.name, "capture-pane", "-p"], env=self.surroundings, capture_output=True, text=True)
+            return run.stdout.splitlines()
+        path = os.path.join(FOLDER.name, "hardcopy")
+        with open(path, "w"):
+            pass
+        subprocess.run(["screen", "-S", self.name, "-X", "hardcopy", path], env=self.surroundings, capture_output=True)
+        self.pump(0.1)
+        with open(path, encoding="utf-8", errors="replace") as file:
+            return [line.rstrip() for line in file.read().splitlines()]
+
+    def wait_until(self, is_so, most=10.0):
+        end = time.monotonic() + most
+        while time.monotonic() < end:
+            lines = self.lines()
+            if is_so(lines):
+                return True
+        return False
+
+    def shows(self, *texts, most=10.0):
+        return self.wait_until(lambda lines: all(any(text in line for line in lines) for text in texts), most)
+
+    def end(self):
+        """Waits until the window is closed."""
+        end = time.monotonic() + 5
+        while self.process.poll() is None and time.monotonic() < end:
+            self.pump(0.1)
+        is_over = self.process.poll() is not None
+        if not is_over:
+            kill = ["tmux", "-L", self.name, "kill-server"] if self.kind == "tmux" else ["screen", "-S", self.name, "-X", "quit"]
+            subprocess.run(kill, env=self.surroundings, capture_output=True)
+            self.process.kill()
+        self.process.wait()
+        os.close(self.terminal)
+        os.close(self.slave)
+        return is_over
+
+
+def multiplexers():
+    for kind in ["tmux", "screen"]:
+        if shutil.which(kind):
+            yield kind
+        else:
+            print(f"left out: {kind} is not there")
+
+
+def try_words_in_windows(server):
+    """A window that was opened for a join shows its last words, and closes at RET."""
+    for kind in multiplexers():
+        window = Multiplexed(kind, ["ann", "apple", *server.to])
+        server.accept(b"refused 3 Ticket\n")
+        server.close()
+        is_told = window.shows("join: refused: this is not the ticket of ann (3 Ticket)", "join: RET closes this window")
+        expect(f"{kind}: the words of a refused login stay in the window", is_told, window.lines())
+        window.type(b"\r")
+        expect(f"{kind}: RET closes it", window.end())
+        window = Multiplexed(kind, ["--once", "ann", "apple", *server.to])
+        server.accept()
+        window.shows("hello")
+        server.close()
+        is_told = window.shows("join: the connection was lost: the server closed it", "join: RET closes this window")
+        expect(f"{kind}: so do those of a lost connection", is_told, window.lines())
+        window.type(b"\r")
+        expect(f"{kind}: RET closes it", window.end())
+        window = Multiplexed(kind, ["ann", "apple", *server.to])
+        server.accept()
+        window.shows("hello")
+        server.close()
+        server.accept()
+        window.type(b"\x03")
+        window.type(b"\r")
+        window.pump(0.5)
+        expect(f"{kind}: C-c leaves while the server is away", window.shows("join: the connection was lost", most=0.5) or window.process.poll() is not None)
+        server.close()
+        window.type(b"\r")
+        window.end()
+        window = Multiplexed(kind, ["--once", "ann", "apple", *server.to])
+        server.accept()
+        window.shows("hello")
+        window.type(QUIT)
+        server.take(QUIT)
+        server.close()
+        expect(f"{kind}: after C-x C-c it closes at once", window.end())
+
+
+SEATS = """[[user]]
+name = "ann"
+ticket = "q7RzL0c2VnWb5XtYd8Ks3GmP"
+[[buffer]]
+name = "notes"
+owner = "ann"
+list = ["ALLOW OWNER@ rwatdcCo"]
+file = "notes.txt"
+[[buffer]]
+name = "plans"
+owner = "ann"
+list = ["ALLOW OWNER@ rwatc"]
+file = "plans.txt"
+[[buffer]]
+name = "box"
+owner = "ann"
+list = ["ALLOW OWNER@ atc"]
+[[buffer]]
+name = "a-very-long-name-of-32-letters-x"
+owner = "ann"
+list = ["ALLOW OWNER@ rwat"]
+text = "long\\n"
+"""
+
+
+class Program:
+    """The program over a configuration of four buffers, which is started and ended."""
+
+    def __init__(self):
+        self.folder = os.path.join(FOLDER.name, "seats")
+        os.mkdir(self.folder)
+        with open(os.path.join(self.folder, "seats.toml"), "w") as file:
+            file.write(SEATS)
+        for name, line in [("notes", "note {0}\twith a \u6f22 wide one, a TAB and {0} more of it\n"), ("plans", "plan {0}\n")]:
+            with open(os.path.join(self.folder, f"{name}.txt"), "w", encoding="utf-8") as file:
+                file.write("".join(line.format(number) for number in range(1, 301)))
+        self.port = "0"
+        self.start()
+        self.words = ["ann", "q7RzL0c2VnWb5XtYd8Ks3GmP", "127.0.0.1", self.port]
+
+    def start(self):
+        for _ in range(20):
+            self.process = subprocess.Popen([PROGRAM, "serve", "seats.toml", self.port], stdout=subprocess.PIPE, stderr=subprocess.DEVNULL, cwd=self.folder)
+            line = self.process.stdout.readline().decode()
+            if line:
+                self.port = line.strip().rpartition(":")[2]
+                return
+            self.process.wait()
+            time.sleep(0.1)
+        sys.exit(f"{PROGRAM} does not serve")
+
+    def stop(self):
+        self.process.kill()
+        self.process.wait()
+
+
+# Two windows: line 120 of notes from its column 28 on, and line 77 of plans, which is selected; and their mode lines.
+TWO = b"\x18g120\r\x1520\x06\x182\x18o\x18bplans\r\x18g77\r\x153\x18^"
+FOUR = TWO + b"\x182\x18o\x18bbox\r\x182\x18o\x18\x02\x18p\x18p"
+
+
+def mode_lines(lines):
+    return [(number, line.rstrip("-")) for number, line in enumerate(lines) if line.startswith("-")]
+
+
+def seats(rows):
+    """The mode lines of TWO in as many rows: the windows keep their proportions, and the longer one has what is over."""
+    upper = {24: 8, 40: 14, 20: 6}[rows]
+    return [(upper, "----notes-L120-C28"), (rows - 2, "----plans-L77-C0")]
+
+
+def is_connected(process):
+    """Whether the server has the connection of a join still: its socket is established."""
+    numbers = {os.readlink(f"/proc/{process}/fd/{name}") for name in os.listdir(f"/proc/{process}/fd")}
+    with open("/proc/net/tcp") as file:
+        return any(f"socket:[{row.split()[9]}]" in numbers and row.split()[3] == "01" for row in file.readlines()[1:])
+
+
+def try_seats():
+    """Loss and return, and other sizes, over the program."""
+    if not os.path.exists(PROGRAM):
+        return print(f"      {PROGRAM} is not there: a return to the windows is not tried")
+    program = Program()
+    for what, keys, last in [("one window", b"\x18g250\r", "notes-L250-C0"), ("two windows", TWO, "plans-L77-C0"), ("four windows", FOUR, "-Buffers"),
+                             ("a shown list", b"\x182\x1bxacl-list\r", "-Acl-notes"), ("a prompt", TWO + b"\x18o\x18bpl", "plans-L77-C0"),
+                             ("a long name", b"\x18ba-very-long-name-of-32-letters-x\r\x182", "32-letters-x-L1-C0")]:
+        one = Joined(program.words)
+        one.shows("-notes-L1-C0")
+        one.type(keys).shows(last)
+        one.wait_until(lambda: False, 0.4)
+        before = mode_lines(one.screen.lines())
+        cursor = [number for number, _ in before if number > one.screen.row][:1] if "prompt" not in what else [before[0][0]]
+        program.stop()
+        is_away = one.shows("the server is away")
+        program.start()
+        start = time.monotonic()
+        is_back = one.shows("a new session: kills, marks and macros are gone")
+        taken = time.monotonic() - start
+        after = mode_lines(one.screen.lines())
+        selected = [number for number, _ in after if number > one.screen.row][:1]
+        expect(f"{what}: after a restart they are there again, at their lines, within 2 s", is_away and is_back and taken < 2 and before == after
+               and selected == cursor and len(before) >= 1, (is_away, is_back, taken, before, after, selected, cursor))
+        one.type(b"\x18o")
+        is_typing = one.wait_until(lambda: one.screen.lines()[23].strip() == "")
+        one.type(QUIT)
+        ended = one.end()
+        expect(f"{what}: it goes on, and C-x C-c ends it", is_typing and ended == (0, True), ended)
+
+    one = Joined(program.words)
+    one.shows("-notes-L1-C0")
+    for keys, last in [(b"\x18g99\r\x157\x06", "notes-L99-C"), (b"\x18bplans\r\x18g66\r\x05", "plans-L66-C7"), (b"\x18bbox\r", "-box-(no read)")]:
+        one.type(keys).shows(last)
+    one.wait_until(lambda: False, 0.3)
+    program.stop()
+    one.shows("the server is away")
+    program.start()
+    is_back = one.shows("a new session")
+    is_there = [one.type(b"\x18b" + name + b"\r").shows(last) for name, last in [(b"plans", "plans-L66-C7"), (b"notes", "notes-L99-C7")]]
+    expect("buffers out of sight are at their places too", is_back and all(is_there), (is_back, is_there, one.screen.lines()))
+    one.type(QUIT)
+    one.end()
+
+    one = Joined(program.words)
+    one.shows("-notes-L1-C0")
+    one.type(TWO + b"\x182\x18o\x18bmine\r").shows("-mine-L1-C0")
+    program.stop()
+    one.shows("the server is away")
+    program.start()
+    is_told = one.shows("a new session: kills, marks and macros are gone; there is no mine")
+    names = [line[4:].split("-")[0] for _, line in mode_lines(one.screen.lines())]
+    one.type(b"\x18\x02")
+    one.shows("-Buffers")
+    is_made = any(" mine ann" in line for line in one.screen.lines())
+    expect("a buffer that is gone is told of, and not made", is_told and names == ["notes", "plans", "notes"] and not is_made, (is_told, names, one.screen.lines()))
+    one.type(QUIT)
+    one.end()
+
+    one = Joined(program.words)
+    one.shows("-notes-L1-C0")
+    one.type(b"\x0b").shows("-**-notes-")  # a kill
+    one.type(TWO).shows("plans-L77-C0")
+    one.wait_until(lambda: False, 0.3)
+    before = mode_lines(one.screen.lines())
+    one.screen.resize(40, 120)
+    one.resize(40, 120)
+    is_told = one.wait_until(lambda: "C-] s fits the size" in one.screen.lines()[23])
+    one.type(b"\x1ds")
+    is_fitted = one.shows("a new session of this size: kills, marks and macros are gone") and "plans-L77" in one.screen.lines()[38]
+    expect("a kill is not lost by itself, and C-] s fits the size", is_told and is_fitted, one.screen.lines())
+    one.type(QUIT)
+    one.end()
+
+    one = Joined(program.words)
+    one.shows("-notes-L1-C0")
+    one.type(TWO).shows("plans-L77-C0")
+    one.wait_until(lambda: False, 0.3)
+    before = mode_lines(one.screen.lines())
+    os.kill(one.process.pid, signal.SIGSTOP)
+    with socket.create_connection((program.words[2], int(program.port))) as other:
+        other.sendall(b" ".join([b"login", *(word.encode() for word in program.words[:2]), b"64 160\n"]))
+        other.settimeout(0.01)
+        for turn in range(4000):
+            other.sendall(b"\x18bplans\r\x18g77\r\x0f\x04" if turn == 0 else b"\x0f\x04" * 100)
+            try:
+                while other.recv(65536):
+                    pass
+            except TimeoutError:
+                pass
+            if turn % 10 == 9 and not is_connected(one.process.pid):
+                break
+        other.sendall(b"\x18\x03")
+    os.kill(one.process.pid, signal.SIGCONT)
+    is_back = one.shows("the session was ended as slow; a new session: kills, marks and macros are gone", 20)
+    expect("a session that was ended as slow is begun again", is_back and [place for place, _ in mode_lines(one.screen.lines())] == [place for place, _ in before], one.screen.lines())
+    one.type(QUIT)
+    one.end()
+
+    one = Joined(program.words)
+    one.shows("-notes-L1-C0")
+    one.type(TWO).shows("plans-L77-C0")
+    program.process.send_signal(signal.SIGSTOP)
+    start = time.monotonic()
+    one.type(b"x")
+    is_told = one.shows("the server does not answer (3 s); C-] q leaves", 6)
+    is_counted = one.shows("the server does not answer (5 s); C-] q leaves", 4)
+    program.process.send_signal(signal.SIGCONT)
+    is_going_on = one.wait_until(lambda: one.screen.lines()[23] == "" and "xplan 77" in "".join(one.screen.lines()))
+    expect("a server that stands still is told of, and goes on", is_told and is_counted and is_going_on, (is_told, is_counted, one.screen.lines()))
+    one.type(b"\x07").wait_until(lambda: False, 4)
+    expect("one that has nothing to show is not", "does not answer" not in one.screen.lines()[23], one.screen.lines()[23])
+    program.process.send_signal(signal.SIGSTOP)
+    one.type(b"y")
+    one.shows("does not answer")
+    one.type(b"\x1dq")
+    seen = one.end()
+    expect("and C-] q leaves it", seen == (0, True), seen)
+    program.process.send_signal(signal.SIGCONT)
+
+    program.stop()
+    program.start()
+    sizes = [(40, 120), (20, 60), (24, 80)]
+    one = Joined(program.words)
+    one.shows("-notes-L1-C0")
+    one.type(TWO).shows("plans-L77-C0")
+    one.wait_until(lambda: False, 0.3)
+    first = mode_lines(one.screen.lines())
+    for rows, cols in sizes:
+        one.screen.resize(rows, cols, "X")
+        one.resize(rows, cols)
+        is_fitted = one.wait_until(lambda: mode_lines(one.screen.lines()) == seats(rows) and len(one.screen.lines()[rows - 2]) == cols)
+        expect(f"plain: {rows} by {cols} has both windows at their lines", is_fitted and not one.screen.faults, (one.screen.lines(), one.screen.faults))
+    expect("plain: and back in the first size they are as they were", mode_lines(one.screen.lines()) == first, (first, one.screen.lines()))
+    one.type(QUIT)
+    one.end()
+    for kind in multiplexers():
+        window = Multiplexed(kind, program.words)
+        window.shows("-notes-L1-C0")
+        window.type(TWO)
+        window.shows("plans-L77-C0")
+        first = mode_lines(window.lines())
+        for rows, cols in sizes:
+            window.resize(rows, cols)
+            is_fitted = window.wait_until(lambda lines: mode_lines(lines) == seats(rows) and len(lines[rows - 2]) == cols)
+            expect(f"{kind}: {rows} by {cols} has both windows at their lines", is_fitted, window.lines())
+        expect(f"{kind}: and back in the first size they are as they were", window.wait_until(lambda lines: mode_lines(lines) == first), (first, window.lines()))
+        program.stop()
+        is_away = window.shows("the server is away")
+        program.start()
+        is_back = window.shows("a new session: kills, marks and macros are gone") and mode_lines(window.lines()) == first
+        expect(f"{kind}: after a restart both windows are there again", is_away and is_back, (is_away, window.lines()))
+        window.type(QUIT)
+        expect(f"{kind}: C-x C-c closes the window", window.end())
+    program.stop()
 
 
 def try_program():
@@ -895,12 +1459,12 @@ def try_program():
     one = Joined(["ann", "pear", *place])
     seen = one.end(), one.got
     expect("mgd: a refused login is told in words", seen == ((1, True), "join: refused: this is not the ticket of ann (3 Ticket)\r\n"), seen)
-    one = Joined(["ann", ticket, *place])
+    one = Joined(["--once", "ann", ticket, *place])
     one.shows("-notes-")
     process.kill()
     process.wait()
     seen = one.end(), one.got[-70:]
-    expect("mgd: a server that is killed is told", seen[0] == (3, True) and "join: the connection was lost: " in seen[1], seen)
+    expect("mgd: with --once a server that is killed is told", seen[0] == (3, True) and "join: the connection was lost: " in seen[1], seen)
     one = Joined(["ann", ticket, *place])
     seen = one.end(), one.got
     expect("mgd: no server is told in words", seen[0] == (1, True) and "nothing answers" in seen[1], seen)
@@ -916,6 +1480,13 @@ def main():
     try_full_terminal(server)
     try_strangers(server)
     try_strangers_port(server)
+    try_return(server)
+    try_changed_holder(server)
+    try_unseen_holder(server)
+    try_size_of_what_is_lost(server)
+    try_screen_and_title(server)
+    try_words_in_windows(server)
+    try_seats()
     try_tmux(server)
     try_own_keys(server)
     try_slow_keys(server)
