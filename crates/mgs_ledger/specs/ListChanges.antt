@@ -35,16 +35,17 @@ common_end (suc k) xs ys = if are_alike (last_entries (suc k) xs) (last_entries 
 abbrev pub longest_end : List Entry → List Entry → ℕ
 longest_end xs ys = common_end (min (length xs) (length ys)) xs ys
 
--- the place of the first entry that differs, counted from 1, and the entries that differ, what they were and what they are
+-- the place of the first entry that differs, and what the entries were and are, without so many that they have in common up to the last
 abbrev pub change_text : ℕ → ℕ → List Entry → List Entry → List ℕ
-change_text start end was is = decimal (start + 1) ++ (codes ": " ++ arrow (listed (without_last end was)) (listed (without_last end is)))
+change_text place end was is = decimal place ++ codes ": " ++ arrow (listed (without_last end was)) (listed (without_last end is))
 
--- of two lists whose first so many entries are the same
+-- the same of the entries from the place on
 abbrev pub change_from : ℕ → List Entry → List Entry → List ℕ
-change_from start was is = change_text start (longest_end was is) was is
+change_from place was is = change_text place (longest_end was is) was is
 
+-- of two lists whose first so many entries are alike
 abbrev pub change_at : ℕ → List Entry → List Entry → List ℕ
-change_at start old new = change_from start (drop start old) (drop start new)
+change_at start old new = change_from (start + 1) (drop start old) (drop start new)
 
 -- how an event tells that a list changed
 abbrev pub list_change : List Entry → List Entry → List ℕ
