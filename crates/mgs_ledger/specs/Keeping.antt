@@ -12,7 +12,8 @@ use Rattle.mgs_journal.specs.Kept.{place_of}
 use Rattle.mgs_journal.specs.Rows.{KeptRights, rules_in_rows}
 use Rattle.mgs_journal.specs.declared.change.Change.{Change}
 use Rattle.mgs_journal.specs.declared.change.Change.TheVariants.{Add, Set, Remove}
-use Rattle.mgs_ledger.specs.Spelling.{text_or_empty, values_of, listed, told_rights, arrow}
+use Rattle.mgs_ledger.specs.ListChanges.{are_alike, list_change}
+use Rattle.mgs_ledger.specs.Spelling.{text_or_empty, values_of, told_rights, arrow}
 use Rattle.mgs_ledger.specs.declared.batch.Words.{Words}
 use Rattle.mgs_ledger.specs.declared.planned.RowText.{RowText}
 use Rattle.mgs_ledger.specs.declared.planned.PlannedRow.{PlannedRow}
@@ -42,7 +43,7 @@ planned_statement (planned.Drop name) = record { sql = delete_buffer; values = T
 -- the three parts of rights are spelled alike
 abbrev pub is_spelled_alike : Rules → Rules → Bool
 is_spelled_alike old new =
-    bytes_eq (listed old.entries) (listed new.entries) && (bytes_eq old.owners.owner new.owners.owner && bytes_eq (text_or_empty old.owners.group) (text_or_empty new.owners.group))
+    are_alike old.entries new.entries && (bytes_eq old.owners.owner new.owners.owner && bytes_eq (text_or_empty old.owners.group) (text_or_empty new.owners.group))
 
 -- rights in the place of others are one statement, unless they are the same
 abbrev pub set_statements : Rules → Rules → List Statement
@@ -52,8 +53,9 @@ set_statements old new = if is_spelled_alike old new then [] else record { sql =
 abbrev pub part_events : ℤ → Option (List ℕ) → List ℕ → List ℕ → List ℕ → List ℕ → List Row
 part_events at user what name old new = if bytes_eq old new then [] else event_row at user what name (arrow old new) ∷ []
 
+-- a list that is another one is one event, which names the entries that differ
 abbrev pub list_events : ℤ → Option (List ℕ) → Rules → Rules → List Row
-list_events at user old new = part_events at user (codes "list") new.name (listed old.entries) (listed new.entries)
+list_events at user old new = if are_alike old.entries new.entries then [] else event_row at user (codes "list") new.name (list_change old.entries new.entries) ∷ []
 
 abbrev pub owner_events : ℤ → Option (List ℕ) → Rules → Rules → List Row
 owner_events at user old new = part_events at user (codes "owner") new.name old.owners.owner new.owners.owner

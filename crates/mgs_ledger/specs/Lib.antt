@@ -2,6 +2,7 @@ pub mod Agreement
 pub mod Counting
 pub mod Gathering
 pub mod Keeping
+pub mod ListChanges
 pub mod NewFile
 pub mod Reading
 pub mod Refused

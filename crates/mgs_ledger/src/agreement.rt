@@ -18,7 +18,7 @@ fn is_told(alloc: Global, told: &ToldRights, row: &RightsValue) -> Result<bool, 
     ensures same { IfOk result (λ is. is ≡ true → told.now ≡ told_of row.now.rules) }
     ensures all { IfOk result (λ is. told.now ≡ told_of row.now.rules → is ≡ true) }
 {
-    let list = listed_text(alloc, &row.list)?;
+    let list = listed_text(alloc, row.list.as_slice())?;
     Ok(
         told.name() == row.name.as_bytes()
             && told.owner() == row.owners.owner.as_bytes()

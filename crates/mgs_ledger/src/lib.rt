@@ -15,6 +15,7 @@ mod history;
 mod laws;
 mod ledger;
 mod ledger_fault;
+mod list_change;
 mod log;
 mod new_file;
 mod planned;

@@ -7,6 +7,7 @@ ghost use Rattle.mgs_ledger.specs.Spelling.{arrow, listed, text_or_empty, told_r
 
 use crate::batch::Words;
 use crate::ledger_fault::LedgerFault;
+use crate::list_change::{are_alike, arrow_text, list_change};
 use crate::rights_spelling::{entry_lines, listed_text, name_text, text_or_empty};
 use crate::snapshot::SnapshotValue;
 use crate::value::{RightsValue, lent, value_of};
@@ -106,20 +107,11 @@ pub(crate) fn push_event(
     Ok(())
 }
 
-fn arrow_text(alloc: Global, old: &str, new: &str) -> Result<String, AllocError>
-    ensures { IfOk result (λ text. string_bytes text ≡ arrow old.now new.now) }
-{
-    let mut text = String::from_str(alloc, old)?;
-    text.push_str(" -> ")?;
-    text.push_str(new)?;
-    Ok(text)
-}
-
 /// The rights in one line, without the name.
 pub(crate) fn rights_text(alloc: Global, rights: &Rights<'_>) -> Result<String, AllocError>
     ensures { IfOk result (λ text. string_bytes text ≡ told_rights rights.now) }
 {
-    let list = listed_text(alloc, rights.list)?;
+    let list = listed_text(alloc, rights.list.as_slice())?;
     let mut text = String::from_str(alloc, name_text(&rights.owners.owner))?;
     text.push_str(":")?;
     text.push_str(text_or_empty(&rights.owners.group))?;
@@ -160,18 +152,13 @@ fn push_list(
 ) -> Result<(), LedgerFault>
     ensures { OnOk result (map word_values events.new.items ≡ map word_values events.old.items ++ list_events at user.now old.now new.now) }
 {
-    let was = listed_text(alloc, old.list)?;
-    let is = listed_text(alloc, new.list)?;
-    push_part(
-        alloc,
-        events,
-        at,
-        user,
-        "list",
-        new.name,
-        was.as_str(),
-        is.as_str(),
-    )
+    let was = old.list.as_slice();
+    let is = new.list.as_slice();
+    if are_alike(was, is) {
+        return Ok(());
+    }
+    let detail = list_change(alloc, was, is)?;
+    push_event(events, at, user, "list", new.name, detail)
 }
 
 // Adds an event that a buffer's owner is another, if it is.
@@ -238,16 +225,12 @@ fn push_parts(
 }
 
 // Whether the three parts of rights are spelled alike.
-fn is_spelled_alike(alloc: Global, old: &Rights<'_>, new: &Rights<'_>) -> Result<bool, AllocError>
-    ensures { IfOk result (λ is. is ≡ is_spelled_alike old.now new.now) }
+fn is_spelled_alike(old: &Rights<'_>, new: &Rights<'_>) -> bool
+    ensures { result ≡ is_spelled_alike old.now new.now }
 {
-    let was = listed_text(alloc, old.list)?;
-    let is = listed_text(alloc, new.list)?;
-    Ok(
-        was.as_str() == is.as_str()
-            && (name_text(&old.owners.owner) == name_text(&new.owners.owner)
-                && text_or_empty(&old.owners.group) == text_or_empty(&new.owners.group)),
-    )
+    are_alike(old.list.as_slice(), new.list.as_slice())
+        && (name_text(&old.owners.owner) == name_text(&new.owners.owner)
+            && text_or_empty(&old.owners.group) == text_or_empty(&new.owners.group))
 }
 
 // Plans the row of other rights, unless they are the same.
@@ -259,7 +242,7 @@ fn plan_row(
 ) -> Result<(), LedgerFault>
     ensures { OnOk result (map planned_statement planned.new.items ≡ map planned_statement planned.old.items ++ set_statements old.now new.now) }
 {
-    if is_spelled_alike(alloc, old, new)? {
+    if is_spelled_alike(old, new) {
         return Ok(());
     }
     planned.push(PlannedRow::Set(row_text(alloc, new)?))?;

@@ -82,12 +82,12 @@ fn parted_text(alloc: Global, entries: &[Entry]) -> Result<String, AllocError>
     Ok(text)
 }
 
-/// The entries of a list, parted by `; `, or `-` if there is none.
-pub(crate) fn listed_text(alloc: Global, list: &List) -> Result<String, AllocError>
-    ensures { IfOk result (λ text. string_bytes text ≡ listed list.now) }
+/// The entries, parted by `; `, or `-` if there is none.
+pub(crate) fn listed_text(alloc: Global, entries: &[Entry]) -> Result<String, AllocError>
+    ensures { IfOk result (λ text. string_bytes text ≡ listed entries.now) }
 {
-    if list.is_empty() {
+    if entries.is_empty() {
         return String::from_str(alloc, "-");
     }
-    parted_text(alloc, list.as_slice())
+    parted_text(alloc, entries)
 }

@@ -23,6 +23,9 @@ fn name_if(text: &str) -> Result<Option<Name>, Fail> {
 
 fn list(entries: &str) -> Result<List, Fail> {
     let mut list = List::new();
+    if entries.is_empty() {
+        return Ok(list);
+    }
     for entry in entries.split(';') {
         let entry = read_entry(entry).ok().ok_or("no entry")?;
         list.insert(list.len(), entry).ok().ok_or("no room")?;

@@ -23,7 +23,7 @@ fn a_change_is_told_with_what_was_before(rt: HostRuntime) -> Result<(), Fail> {
     assert_eq!(rt;
         text.as_str(),
         "2026-11-29T01:22:33Z\t1\tann\tcreate\tnotes\tann:staff ALLOW OWNER@ rw; DENY bob w\n\
-         2026-11-29T01:22:33Z\t2\tann\tlist\tnotes\tALLOW OWNER@ rw; DENY bob w -> ALLOW OWNER@ r\n\
+         2026-11-29T01:22:33Z\t2\tann\tlist\tnotes\t1: ALLOW OWNER@ rw; DENY bob w -> ALLOW OWNER@ r\n\
          2026-11-29T01:22:33Z\t3\tann\towner\tnotes\tann -> bob\n\
          2026-11-29T01:22:33Z\t4\tann\tgroup\tnotes\tstaff -> \n\
          2026-11-29T01:22:33Z\t5\t\tkill\tnotes\t\n"
@@ -107,7 +107,7 @@ fn a_kill_and_a_create_in_one_change_are_told_apart(rt: HostRuntime) -> Result<(
         "2026-11-29T01:22:33Z\t1\tann\tcreate\t-\tann: ALLOW OWNER@ rw\n\
          2026-11-29T01:22:33Z\t2\t-\tkill\t-\t\n\
          2026-11-29T01:22:33Z\t3\t-\tcreate\t-\tann: ALLOW EVERYONE@ rw\n\
-         2026-11-29T01:22:33Z\t4\t-\tlist\t-\tALLOW EVERYONE@ rw -> ALLOW OWNER@ r\n\
+         2026-11-29T01:22:33Z\t4\t-\tlist\t-\t1: ALLOW EVERYONE@ rw -> ALLOW OWNER@ r\n\
          2026-11-29T01:22:33Z\t5\t-\towner\t-\tann -> bob\n\
          2026-11-29T01:22:33Z\t6\t-\tgroup\t-\t -> -\n"
     );

@@ -15,6 +15,8 @@ mod gathered;
 #[cfg(test)]
 mod kept;
 #[cfg(test)]
+mod lists;
+#[cfg(test)]
 mod taken;
 #[cfg(test)]
 mod texts;

@@ -1,6 +1,7 @@
 -- Worked events, computed by the definitions.
-use Rattle.std.proofs.Common.{◌≡◌, ℕ, List, [], ◌∷◌, Some, None, refl, pos, true, false}
-use Rattle.std.specs.Prelude.{codes}
+use Rattle.std.proofs.Common.{◌≡◌, ℕ, List, [], ◌∷◌, Some, None, refl, pos, true, false, arith}
+use Rattle.std.specs.Prelude.{codes, decimal}
+use Rattle.std.proofs.lemmas.Fmt.{decimal_digit}
 use Rattle.mgs_rewind.specs.Account.{is_next, rows_told, wrong_after}
 use Rattle.mgs_rewind.specs.RowChanges.{ToldRights}
 
@@ -16,6 +17,15 @@ anns = row (codes "ann") [] (codes "ALLOW ann rw; DENY bob r")
 -- a row whose rights are not known
 abbrev unknown : ToldRights
 unknown = row [] [] []
+
+one : decimal 1 ≡ codes "1"
+one = decimal_digit 1 (omega arith)
+
+two : decimal 2 ≡ codes "2"
+two = decimal_digit 2 (omega arith)
+
+three : decimal 3 ≡ codes "3"
+three = decimal_digit 3 (omega arith)
 
 create_first : rows_told (codes "create") notes (codes "ann: ALLOW ann rw; DENY bob r") [] ≡ Some (anns ∷ [])
 create_first = refl
@@ -57,13 +67,31 @@ kill_without_row : rows_told (codes "kill") (codes "plans") [] (anns ∷ []) ≡
 kill_without_row = refl
 
 list_change : rows_told (codes "list") notes (codes "ALLOW ann rw; DENY bob r -> -") (anns ∷ []) ≡ Some (row (codes "ann") [] (codes "-") ∷ [])
-list_change = refl
+list_change = rw (one, two, three) refl
 
 list_of_other : rows_told (codes "list") notes (codes "ALLOW ann rw -> -") (anns ∷ []) ≡ None
-list_of_other = refl
+list_of_other = rw (one, two, three) refl
 
 list_to_nothing : rows_told (codes "list") notes (codes "ALLOW ann rw; DENY bob r -> ") (anns ∷ []) ≡ None
-list_to_nothing = refl
+list_to_nothing = rw (one, two, three) refl
+
+list_entry : rows_told (codes "list") notes (codes "2: DENY bob r -> ALLOW bob r; DENY cat w") (anns ∷ []) ≡ Some (row (codes "ann") [] (codes "ALLOW ann rw; ALLOW bob r; DENY cat w") ∷ [])
+list_entry = rw (one, two) refl
+
+list_first : rows_told (codes "list") notes (codes "1: ALLOW ann rw -> -") (anns ∷ []) ≡ Some (row (codes "ann") [] (codes "DENY bob r") ∷ [])
+list_first = rw one refl
+
+list_end : rows_told (codes "list") notes (codes "3: - -> ALLOW cat r") (anns ∷ []) ≡ Some (row (codes "ann") [] (codes "ALLOW ann rw; DENY bob r; ALLOW cat r") ∷ [])
+list_end = rw (one, two, three) refl
+
+list_all : rows_told (codes "list") notes (codes "1: ALLOW ann rw; DENY bob r -> -") (anns ∷ []) ≡ Some (row (codes "ann") [] (codes "-") ∷ [])
+list_all = rw one refl
+
+list_other_entry : rows_told (codes "list") notes (codes "1: DENY bob r -> -") (anns ∷ []) ≡ None
+list_other_entry = rw one refl
+
+list_past_end : rows_told (codes "list") notes (codes "4: - -> ALLOW cat r") (anns ∷ []) ≡ None
+list_past_end = rw (one, two, three) refl
 
 list_of_unknown : rows_told (codes "list") notes (codes "- -> ALLOW bob r") (unknown ∷ []) ≡ Some (unknown ∷ [])
 list_of_unknown = refl

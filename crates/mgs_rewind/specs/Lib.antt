@@ -1,2 +1,4 @@
 pub mod Account
+pub mod Details
+pub mod ListChanges
 pub mod RowChanges

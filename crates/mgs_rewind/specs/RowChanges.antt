@@ -1,7 +1,9 @@
 -- What one event does to the rights that the events before it tell.
-use Rattle.std.specs.Prelude.{ℕ, Bool, true, not, ◌||◌, ◌==◌, List, [], ◌∷◌, ◌++◌, Option, None, Some, length, take, drop, position, remove, slice_get, is_some, bytes_eq, codes, option_map, option_and_then, if◌then◌else◌}
+use Rattle.std.specs.Prelude.{ℕ, Bool, true, not, ◌||◌, ◌==◌, List, [], ◌∷◌, ◌++◌, Option, None, Some, length, position, remove, slice_get, is_some, bytes_eq, option_map, option_and_then, if◌then◌else◌}
 use Rattle.std.specs.List.{before_first, after_first}
 use Rattle.std.specs.Prelude.{slice_set}
+use Rattle.mgs_rewind.specs.Details.{is_colon, is_space, new_text}
+use Rattle.mgs_rewind.specs.ListChanges.{list_told}
 use Rattle.mgs_rewind.specs.declared.part.Part.{Part}
 use Rattle.mgs_rewind.specs.declared.part.Part.TheVariants as part
 
@@ -14,12 +16,6 @@ pub record ToldRights : Type 0 where
 
 abbrev pub is_known : ToldRights → Bool
 is_known r = not (length r.list == 0)
-
-abbrev pub is_colon : ℕ → Bool
-is_colon byte = byte == 58
-
-abbrev pub is_space : ℕ → Bool
-is_space byte = byte == 32
 
 -- what stands after the first colon
 abbrev pub after_colon : List ℕ → List ℕ
@@ -71,14 +67,6 @@ rows_without (Some i) rows = remove rows i
 abbrev pub rows_killed : List ℕ → List ToldRights → List ToldRights
 rows_killed name rows = rows_without (row_place name rows) rows
 
--- the text after a prefix that it must begin with
-abbrev pub stripped : List ℕ → List ℕ → Option (List ℕ)
-stripped prefix text = if bytes_eq (take (length prefix) text) prefix then Some (drop (length prefix) text) else None
-
--- NEW of the detail OLD -> NEW, if OLD is this text
-abbrev pub new_text : List ℕ → List ℕ → Option (List ℕ)
-new_text old detail = option_and_then (stripped (codes " -> ")) (stripped old detail)
-
 abbrev pub part_text : Part → ToldRights → List ℕ
 part_text part.Owner row = row.owner
 part_text part.Group row = row.group
@@ -99,9 +87,15 @@ abbrev pub part_if_allowed : Part → Option (List ℕ) → Option (List ℕ)
 part_if_allowed p None = None
 part_if_allowed p (Some text) = if can_be p text then Some text else None
 
--- what a part of a row becomes, if the detail begins with what it is
+-- what the detail of an event makes of a part, if it fits it
+abbrev pub told_part : Part → List ℕ → List ℕ → Option (List ℕ)
+told_part part.Owner text detail = new_text text detail
+told_part part.Group text detail = new_text text detail
+told_part part.List text detail = list_told text detail
+
+-- what a part of a row becomes, if the detail fits what it is
 abbrev pub new_part : Part → List ℕ → ToldRights → Option (List ℕ)
-new_part p detail row = part_if_allowed p (new_text (part_text p row) detail)
+new_part p detail row = part_if_allowed p (told_part p (part_text p row) detail)
 
 -- a part of the row at an index is another text. A row that is not known stays as it is.
 abbrev pub row_changed : Part → List ℕ → ℕ → List ToldRights → ToldRights → Option (List ToldRights)

@@ -5,9 +5,11 @@
 #![tactic(auto)]
 
 mod account;
+mod list_change;
 mod part;
 mod row_changes;
 mod told_rights;
+mod whole_part;
 
 pub use account::Account;
 pub use told_rights::ToldRights;

@@ -1,8 +1,11 @@
 // The parts of rights that change one by one.
-ghost use Rattle.std.specs.Prelude.{◌≡◌, option_copied};
-ghost use Rattle.mgs_rewind.specs.RowChanges.{can_be, new_part, new_text, part_text, stripped, with_part};
+ghost use Rattle.std.specs.Prelude.{◌≡◌, option_map, IfOk};
+ghost use Rattle.mgs_rewind.specs.RowChanges.{can_be, new_part, part_if_allowed, part_text, told_part, with_part};
 
+use crate::list_change::list_told;
 use crate::told_rights::ToldRights;
+use crate::whole_part::whole_part;
+use std::alloc::{AllocError, Global};
 
 /// A part of rights of which an event tells a change.
 #[derive(Clone, Copy)]
@@ -13,23 +16,6 @@ pub(crate) enum Part {
     Group,
     /// The list.
     List,
-}
-
-// The text after a prefix that it must begin with.
-fn strip<'a>(prefix: &[u8], text: &'a [u8]) -> Option<&'a [u8]>
-    ensures { option_copied result ≡ stripped prefix.now text.now }
-{
-    text.strip_prefix(prefix)
-}
-
-// NEW of the detail `OLD -> NEW`, if OLD is this text.
-fn new_text<'a>(old: &[u8], detail: &'a [u8]) -> Option<&'a [u8]>
-    ensures { option_copied result ≡ new_text old.now detail.now }
-{
-    match strip(old, detail) {
-        Some(rest) => strip(b" -> ", rest),
-        None => None,
-    }
 }
 
 // The text of a part.
@@ -54,14 +40,49 @@ fn can_be(part: Part, text: &[u8]) -> bool
     }
 }
 
-/// What a part of a row becomes, if the detail begins with what it is.
-pub(crate) fn new_part<'a>(part: Part, detail: &'a [u8], row: &ToldRights) -> Option<&'a [u8]>
-    ensures { option_copied result ≡ new_part part detail.now row.now }
+// What the detail of an event makes of a part, if it fits it.
+fn told_part(
+    alloc: Global,
+    part: Part,
+    text: &[u8],
+    detail: &[u8],
+) -> Result<Option<Vec<u8>>, AllocError>
+    ensures { IfOk result (λ new. option_map (λ v. v.items) new ≡ told_part part text.now detail.now) }
 {
-    match new_text(part_text(part, row), detail) {
-        Some(text) => { if can_be(part, text) { Some(text) } else { None } }
+    match part {
+        Part::Owner => whole_part(alloc, text, detail),
+        Part::Group => whole_part(alloc, text, detail),
+        Part::List => list_told(alloc, text, detail),
+    }
+}
+
+// The part, if it can be this text.
+fn part_if_allowed(part: Part, text: Option<Vec<u8>>) -> Option<Vec<u8>>
+    ensures { option_map (λ v. v.items) result ≡ part_if_allowed part (option_map (λ v. v.items) text) }
+{
+    match text {
+        Some(text) => {
+            if can_be(part, text.as_slice()) {
+                Some(text)
+            } else {
+                None
+            }
+        }
         None => None,
     }
+}
+
+/// What a part of a row becomes, if the detail fits what it is.
+pub(crate) fn new_part(
+    alloc: Global,
+    part: Part,
+    detail: &[u8],
+    row: &ToldRights,
+) -> Result<Option<Vec<u8>>, AllocError>
+    ensures { IfOk result (λ new. option_map (λ v. v.items) new ≡ new_part part detail.now row.now) }
+{
+    let text = told_part(alloc, part, part_text(part, row), detail)?;
+    Ok(part_if_allowed(part, text))
 }
 
 /// Replaces a part of a row.

@@ -142,10 +142,9 @@ fn change_row(
     if !rows[i].is_known() {
         return Ok(true);
     }
-    match new_part(part, detail, &rows[i]) {
+    match new_part(alloc, part, detail, &rows[i])? {
         None => Ok(false),
         Some(text) => {
-            let text = Vec::from_slice(alloc, text)?;
             put_part(rows, i, part, text);
             Ok(true)
         }

@@ -67,16 +67,16 @@ impl ToldRights {
     }
 }
 
-// The index of the first byte of that value.
-fn place_of(text: &[u8], byte: u8) -> Option<usize>
+/// The index of the first byte of that value.
+pub(crate) fn place_of(text: &[u8], byte: u8) -> Option<usize>
     ensures at { result ≡ position (λ b. b == byte) text.now }
     ensures within { IfSome result (λ i. i < length text.now) }
 {
     text.iter().position(|b| *b == byte)
 }
 
-// The text up to the first byte of that value, and the text after it.
-fn cut_at(text: &[u8], byte: u8) -> (&[u8], &[u8])
+/// The text up to the first byte of that value, and the text after it.
+pub(crate) fn cut_at(text: &[u8], byte: u8) -> (&[u8], &[u8])
     ensures piece { result.0.now ≡ before_first (λ b. b == byte) text.now }
     ensures rest { result.1.now ≡ after_first (λ b. b == byte) text.now }
 {
