@@ -279,6 +279,8 @@ class Joined:
         self.wait_until(lambda: self.process.poll() is not None, most)
         self.pump(0.1)
         self.pump(0)
+        if re.search(r" at \S+ line \d+", self.got):
+            expect("perl warns of nothing", False, re.findall(r".* at \S+ line \d+.*", self.got)[:3])
         if self.process.poll() is None:
             self.process.kill()
             return "it goes on", False
@@ -1370,7 +1372,7 @@ def try_seats():
                 break
         other.sendall(b"\x18\x03")
     os.kill(one.process.pid, signal.SIGCONT)
-    is_back = one.shows("the session was ended as slow; a new session: kills, marks and macros are gone", 20)
+    is_back = one.shows("the session was ended as slow; a new session: kills, marks and macros are gone", 60)
     expect("a session that was ended as slow is begun again", is_back and [place for place, _ in mode_lines(one.screen.lines())] == [place for place, _ in before], one.screen.lines())
     one.type(QUIT)
     one.end()
