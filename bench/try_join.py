@@ -279,6 +279,8 @@ class Joined:
         self.wait_until(lambda: self.process.poll() is not None, most)
         self.pump(0.1)
         self.pump(0)
+        if re.search(r" at \S+ line \d+", self.got):
+            expect("perl warns of nothing", False, re.findall(r".* at \S+ line \d+.*", self.got)[:3])
         if self.process.poll() is None:
             self.process.kill()
             return "it goes on", False
@@ -1322,6 +1324,25 @@ def try_seats():
 
     one = Joined(program.words)
     one.shows("-notes-L1-C0")
+    program.stop()
+    one.shows("the server is away")
+    program.start()
+    words = "a new session: kills, marks and macros are gone"
+    one.shows(words)
+    with socket.create_connection((program.words[2], int(program.port))) as other:
+        other.sendall(b" ".join([b"login", *(word.encode() for word in program.words[:2]), b"24 80\nfrom another: "]))
+        is_changed = one.shows("from another: ")
+        is_kept = words in one.screen.lines()[23]
+        one.wait_until(lambda: False, 5.5)
+        other.sendall(b"more ")
+        is_gone = one.shows("from another: more ") and one.wait_until(lambda: one.screen.lines()[23] == "")
+        other.sendall(b"\x18\x03")
+    expect("what others type does not take the words of a return away before 5 s", is_changed and is_kept and is_gone, (is_changed, is_kept, is_gone, one.screen.lines()))
+    one.type(QUIT)
+    one.end()
+
+    one = Joined(program.words)
+    one.shows("-notes-L1-C0")
     one.type(TWO + b"\x182\x18o\x18bmine\r").shows("-mine-L1-C0")
     program.stop()
     one.shows("the server is away")
@@ -1370,7 +1391,7 @@ def try_seats():
                 break
         other.sendall(b"\x18\x03")
     os.kill(one.process.pid, signal.SIGCONT)
-    is_back = one.shows("the session was ended as slow; a new session: kills, marks and macros are gone", 20)
+    is_back = one.shows("the session was ended as slow; a new session: kills, marks and macros are gone", 60)
     expect("a session that was ended as slow is begun again", is_back and [place for place, _ in mode_lines(one.screen.lines())] == [place for place, _ in before], one.screen.lines())
     one.type(QUIT)
     one.end()
