@@ -154,7 +154,7 @@ elsif ($what eq 'health') {
     syswrite $server, "health\n";
     print drain($server, 20, 5) =~ s/\n.*//sr, "\n";
 }
-elsif ($what eq 'flood') {    # NUMBER: logins that are refused, each by another name, and denials
+elsif ($what eq 'flood') {    # NUMBER: logins that are refused, each by another name, and denials, up to 150 a second
     my $session = login('bob');
     drain($session, 20, 0.5);
     for my $number (1 .. $words[0]) {
@@ -162,6 +162,7 @@ elsif ($what eq 'flood') {    # NUMBER: logins that are refused, each by another
         syswrite $server, "login u$number x 24 80\n";
         sysread $server, my $answer, 100;
         syswrite $session, 'x' unless $number % 10;
+        select undef, undef, undef, 0.1 unless $number % 15;
     }
     drain($session, 20, 1);
     print "flooded\n";
@@ -348,7 +349,7 @@ expect "all logins were refused" "$(wait_for 600 'grep -q flooded /root/flood.ou
 on 'sleep 2'
 # Every line of the audit since the part began, and as many in the journal of systemd, which strips the TABs at the end of a line.
 on "journalctl -q --after-cursor='$cursor' -o cat -u mgd-keep --no-pager | grep -P '^20[^\t]*Z\t' > /root/lines; mgd-keep audit /var/lib/private/mgd-keep/journal | grep -P '^20[^\t]*Z\t' | sed 's/\t*\$//' | tail -n \$(wc -l < /root/lines) > /root/audit" > /dev/null
-expect "more than 1,000 lines in a second or two" "$(on 'wc -l < /root/lines' | awk '{ print ($1 > 1000) ? "yes" : $1 }')" yes
+expect "mgd-keep has more than 1,000" "$(on 'wc -l < /root/lines' | awk '{ print ($1 > 1000) ? "yes" : $1 }')" yes
 expect "the journal has each line of the audit" "$(on 'cmp /root/lines /root/audit && echo same')" same
 
 part "a journal that fails"
