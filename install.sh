@@ -184,6 +184,9 @@ put_text "$top/contrib/mgd.service" "$to/share/doc/mgd/mgd.service"
 put_text "$top/contrib/mgd-keep.service" "$to/share/doc/mgd/mgd-keep.service"
 put_text "$top/contrib/mgd.rc" "$to/share/doc/mgd/mgd.rc"
 put 0644 "$to/share/doc/mgd/LICENSE" < "$top/LICENSE"
+for page in CHANGELOG.md SECURITY.md docs/OPERATING.md docs/TUTORIAL.md; do
+    [ ! -f "$top/$page" ] || put_text "$top/$page" "$to/share/doc/mgd/${page##*/}"
+done
 if [ -f "$top/archive.sha256" ]; then
     cat "$top/version" > "$text"
 else

@@ -51,6 +51,10 @@ take() {
 
 mkdir -p "$work/tree/crates/mgd/out" "$work/tree/crates/mgd_keep/out"
 cp -r "$top"/{mgd,join,install.sh,LICENSE,VERSION,COMMIT,.gitattributes,.gitignore,crates.txt,contrib,examples,man} "$work/tree/"
+mkdir -p "$work/tree/docs"
+for page in CHANGELOG.md SECURITY.md docs/OPERATING.md docs/TUTORIAL.md; do
+    echo "/usr/local/bin/mgd, $page" > "$work/tree/$page"
+done
 built=$work/tree/crates/mgd/out
 kept=$work/tree/crates/mgd_keep/out
 take "$program" "$built/mgd" "mgd replay | mgd serve CONFIG PORT"
@@ -96,6 +100,10 @@ expect "the unit names the program" "$(grep -c "$work/a/bin/mgd serve" "$work/a/
 expect "so does the other" "$(grep -c "$work/a/bin/mgd-keep serve" "$work/a/share/doc/mgd/mgd-keep.service")" 1
 expect "the program is that which was built" "$(cmp "$built/mgd" "$work/a/bin/mgd" && echo same)" same
 expect "so is the one that keeps" "$(cmp "$kept/mgd_keep" "$work/a/bin/mgd-keep" && echo same)" same
+expect "the operator's pages name it too" "$(cat "$work"/a/share/doc/mgd/*.md)" "$work/a/bin/mgd, CHANGELOG.md
+$work/a/bin/mgd, docs/OPERATING.md
+$work/a/bin/mgd, SECURITY.md
+$work/a/bin/mgd, docs/TUTORIAL.md"
 expect "its version is kept" "$("$work/a/bin/mgd-check" --version)" "$("$work/tree/mgd" --version)"
 expect "with the version and the commit that were recorded at the proof" "$(head -n 1 "$work/a/share/doc/mgd/version")" "mgd $version, commit 0123456789ab"
 expect "and the kit" "$(sed -n 2p "$work/a/share/doc/mgd/version")" "the kit of the proof"

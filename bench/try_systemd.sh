@@ -110,7 +110,7 @@ sub login {
     syswrite $server, "login $user $ticket{$user} 24 80\n";
     return $server;
 }
-# Reads for some seconds, or until there is as much quiet.
+# Reads for some seconds, or until something came and nothing more comes for so long.
 sub drain {
     my ($server, $seconds, $quiet) = @_;
     my ($end, $all) = (time + $seconds, '');
@@ -118,7 +118,7 @@ sub drain {
         my $bits = '';
         vec($bits, fileno $server, 1) = 1;
         my $count = select my $ready = $bits, undef, undef, $quiet // 0.2;
-        return $all if !$count && defined $quiet;
+        return $all if !$count && defined $quiet && $all ne '';
         next if $count <= 0;
         return "$all\nended" unless sysread $server, $all, 65_536, length $all;
     }
@@ -138,8 +138,10 @@ if ($what eq 'type') {    # USER KEYS SECONDS: types, says so, and stays
 elsif ($what eq 'screen') {    # USER KEYS: prints all that is painted
     my $server = login($words[0]);
     my $painted = drain($server, 20, 0.5);
-    syswrite $server, $words[1] // '';
-    $painted .= drain($server, 20, 0.5);
+    if (defined $words[1]) {
+        syswrite $server, $words[1];
+        $painted .= drain($server, 20, 0.5);
+    }
     print $painted =~ s/\e\[[0-9;?]*[A-Za-z]/ /gr, "\n";
 }
 elsif ($what eq 'fill') {    # NUMBER SECONDS: connections that say nothing
@@ -152,7 +154,7 @@ elsif ($what eq 'health') {
     syswrite $server, "health\n";
     print drain($server, 20, 5) =~ s/\n.*//sr, "\n";
 }
-elsif ($what eq 'flood') {    # NUMBER: logins that are refused, each by another name, and denials
+elsif ($what eq 'flood') {    # NUMBER: logins that are refused, each by another name, and denials, up to 150 a second
     my $session = login('bob');
     drain($session, 20, 0.5);
     for my $number (1 .. $words[0]) {
@@ -160,6 +162,7 @@ elsif ($what eq 'flood') {    # NUMBER: logins that are refused, each by another
         syswrite $server, "login u$number x 24 80\n";
         sysread $server, my $answer, 100;
         syswrite $session, 'x' unless $number % 10;
+        select undef, undef, undef, 0.1 unless $number % 15;
     }
     drain($session, 20, 1);
     print "flooded\n";
@@ -227,12 +230,15 @@ done
 part "mgd starts, and a stop saves"
 configure
 on "$ticket_of_ops"
-on 'mkdir -p /var/lib/private && chmod 0700 /var/lib/private && mkdir -m 0700 /var/lib/private/mgd && (echo first; yes line | head -n 40) > /var/lib/private/mgd/notes.txt'
+on 'mkdir /var/lib/mgd && (echo first; yes line | head -n 40) > /var/lib/mgd/notes.txt'
 expect "it starts" "$(on 'systemctl start mgd; echo $?')" 0
 expect "'Started' comes after 'listening'" "$(said mgd | grep -n -e '^listening 127.0.0.1:7000$' -e '^Started mgd.service' | sed 's/^[0-9]*://; s/ .*//' | tr '\n' ' ')" "listening Started "
 expect "it is healthy" "$(on 'perl client.pl health')" "refused 1 Line"
 expect "it is not root, and has no root's groups" "$(on 'ps -o uid=,gid= -p $(systemctl show -P MainPID mgd)' | awk '{ print ($1 >= 61184 && $2 >= 61184) ? "yes" : $0 }')" yes
-expect "others cannot read its folder" "$(on 'stat -c %a /var/lib/private/mgd /var/lib/private | tr "\n" " "')" "700 700 "
+# With systemd 257 all files there belong to nobody outside of the unit.
+expect "the folder that root made is not root's any more, with what is in it" \
+    "$(on 'stat -c %u /var/lib/private/mgd/. /var/lib/private/mgd/notes.txt' | sort -u | awk '$1 >= 61184 { count++ } END { print count, NR }')" "1 1"
+expect "others cannot read it" "$(on 'stat -c %a /var/lib/private/mgd/. /var/lib/private | tr "\n" " "')" "700 700 "
 client ann type ann 'typed%20' 60
 expect "a stop with an unsaved text" "$(on 'systemctl stop mgd; echo $?') $(state mgd)" "0 0 inactive success "
 expect "its file has it" "$(on 'head -n 1 /var/lib/private/mgd/notes.txt')" "typed first"
@@ -343,7 +349,7 @@ expect "all logins were refused" "$(wait_for 600 'grep -q flooded /root/flood.ou
 on 'sleep 2'
 # Every line of the audit since the part began, and as many in the journal of systemd, which strips the TABs at the end of a line.
 on "journalctl -q --after-cursor='$cursor' -o cat -u mgd-keep --no-pager | grep -P '^20[^\t]*Z\t' > /root/lines; mgd-keep audit /var/lib/private/mgd-keep/journal | grep -P '^20[^\t]*Z\t' | sed 's/\t*\$//' | tail -n \$(wc -l < /root/lines) > /root/audit" > /dev/null
-expect "more than 1,000 lines in a second or two" "$(on 'wc -l < /root/lines' | awk '{ print ($1 > 1000) ? "yes" : $1 }')" yes
+expect "mgd-keep has more than 1,000" "$(on 'wc -l < /root/lines' | awk '{ print ($1 > 1000) ? "yes" : $1 }')" yes
 expect "the journal has each line of the audit" "$(on 'cmp /root/lines /root/audit && echo same')" same
 
 part "a journal that fails"
@@ -357,21 +363,20 @@ expect "put back, it starts" "$(on 'mv /root/taken /var/lib/private/mgd-keep/jou
 expect "with the rights of before" "$(bob_reads)" no
 
 part "a full disk"
-on 'systemctl stop mgd-keep; mkdir /root/journal; cp -a /var/lib/private/mgd-keep/journal/. /root/journal/
-    mount -t tmpfs -o size=3M,mode=0700 none /var/lib/private/mgd-keep/journal && cp -a /root/journal/. /var/lib/private/mgd-keep/journal/
-    chown --reference=/root/journal/journal.sqlite3 /var/lib/private/mgd-keep/journal; systemctl start mgd-keep'
-on 'head -c 3M /dev/zero > /var/lib/private/mgd-keep/journal/ballast 2> /dev/null'
+on 'systemctl stop mgd-keep; cp -a /var/lib/private/mgd-keep /root/kept
+    mount -t tmpfs -o size=3M,mode=0700 none /var/lib/private/mgd-keep && cp -a /root/kept/. /var/lib/private/mgd-keep/; systemctl start mgd-keep'
+on 'head -c 3M /dev/zero > /var/lib/private/mgd-keep/ballast 2> /dev/null'
 client ann type ann '%18bbig%0D%151000x%18h%1Bw%19%19%19%19%19%19' 30
 expect "it ends" "$(wait_for 60 '! systemctl --quiet is-active mgd-keep' && echo yes)" yes
 sleep 8
 expect "and nobody is let in" "$(state mgd-keep) $(on 'perl client.pl health')" "0 exit-code failed  no server"
 expect "a start says what is wrong" "$(on 'systemctl start mgd-keep > /dev/null 2>&1; echo $?') $(has_said mgd-keep '^journal failed' 'the disk is full')" "1 yes"
-on 'systemctl stop mgd-keep; umount /var/lib/private/mgd-keep/journal; rm -r /root/journal'
+on 'systemctl stop mgd-keep; umount /var/lib/private/mgd-keep; rm -r /root/kept'
 expect "with the disk of before it starts" "$(on 'systemctl start mgd-keep; echo $?')" 0
 
 part "a restart with ten joins"
 # Each is at a line of its own. C-] r makes join paint all of its picture, so that the file has the whole mode line.
-server_user=$(on 'stat -c %u /var/lib/private/mgd-keep')
+server_user=$(on 'ps -o uid= -p $(systemctl show -P MainPID mgd-keep)' | tr -d ' ')
 for number in 1 2 3 4 5 6 7 8 9 10; do
     on "mkfifo /root/keys$number; (exec 3<> /root/keys$number; env MGD_TICKET=kx8Vw2Lq5Tz0Rb7Nc4Mf6Hd1 TERM=xterm LANG=C.UTF-8 setsid -f \
         script -qfc 'mgd-join --server-user $server_user ann' /root/join$number < /root/keys$number; sleep 600) > /dev/null 2>&1 &"
