@@ -91,12 +91,13 @@ fn nothing_is_shown_once_the_journal_failed(rt: HostRuntime) {
     assert!(rt; server.pending(ann).is_empty());
 }
 
-// Logins that are refused, before a session is asked for and then, are told with the name that was said, if it is one.
+// Logins that are refused, before a session is asked for and then, are told with the name that was said, if a user has it.
 #[test]
 fn refused_logins_are_told(rt: HostRuntime) {
     let mut server = serve(rt.alloc(), 100, &rt);
     let before = server.journal().words().len();
     server.refused(b"bob", Refusal::Ticket);
+    server.refused(b"eve", Refusal::NoUser);
     server.refused(b"two words", Refusal::NoUser);
     server.refused(b"\xff", Refusal::NoUser);
     server.refused(b"", Refusal::Line);
@@ -105,7 +106,7 @@ fn refused_logins_are_told(rt: HostRuntime) {
     assert!(rt;
         server.journal().words().get(before..)
             == Some(
-                "bob is refused ticket\n- is refused no user\n- is refused no user\n- is refused line\nann is refused size\neve is refused no user\n"
+                "bob is refused ticket\n- is refused no user\n- is refused no user\n- is refused no user\n- is refused line\nann is refused size\n- is refused no user\n"
             )
     );
 }
