@@ -1,5 +1,6 @@
 mod Agreeing
 mod Counts
+mod Followed
 mod ListEnds
 mod Lists
 mod Names

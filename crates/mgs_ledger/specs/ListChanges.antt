@@ -1,8 +1,10 @@
 -- Which entries of a list are others.
-use Rattle.std.specs.Prelude.{ℕ, zero, suc, ◌+◌, ◌-◌, Bool, ◌&&◌, ◌==◌, min, List, [], ◌∷◌, ◌++◌, length, take, drop, codes, decimal, if◌then◌else◌}
+use Rattle.std.specs.Prelude.{◌≡◌, ◌<◌, ◌^◌, true, Some, ℕ, zero, suc, ◌+◌, ◌-◌, Bool, ◌&&◌, ◌==◌, min, List, [], ◌∷◌, ◌++◌, length, take, drop, codes, decimal, if◌then◌else◌}
 use Rattle.std.specs.Str.{bytes_eq}
 use Rattle.mgs_model.specs.declared.entry.Entry.{Entry}
 use Rattle.mgs_model.specs.Draw.{entry_text}
+use Rattle.mgs_acl.specs.Written.{is_writable_who}
+use Rattle.mgs_rewind.specs.ListChanges.{list_told}
 use Rattle.mgs_ledger.specs.Spelling.{arrow, listed}
 
 -- two entries are printed alike
@@ -50,3 +52,12 @@ change_at start old new = change_from (start + 1) (drop start old) (drop start n
 -- how an event tells that a list changed
 abbrev pub list_change : List Entry → List Entry → List ℕ
 list_change old new = change_at (common_start old new) old new
+
+-- the names that entries have are those of users and groups
+abbrev pub AreWritable : List Entry → Type 0
+AreWritable [] = Unit {0}
+AreWritable (e ∷ es) = (is_writable_who e.who ≡ true) × AreWritable es
+
+-- AN EVENT OF A LIST IS FOLLOWED: by the list of before, a start reads the list of after
+abbrev pub ListsAreFollowed : Type 0
+ListsAreFollowed = (old new : List Entry) → AreWritable old → AreWritable new → length old + 1 < 2 ^ 64 → list_told (listed old) (list_change old new) ≡ Some (listed new)

@@ -30,7 +30,7 @@ mod value;
 
 pub use agreement::test_tables;
 pub use event_lines::{AuditFault, Filter, audit};
-pub use laws::{all_is_counted, each_user_is_counted};
+pub use laws::{all_is_counted, each_user_is_counted, lists_are_followed};
 pub use ledger::Ledger;
 pub use ledger_fault::LedgerFault;
 pub use log::GATHER_LIMIT;
