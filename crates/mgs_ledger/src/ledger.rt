@@ -75,9 +75,12 @@ impl<S: Alter + Drop, C: Clock + Drop, W: Write + Drop> Ledger<S, C, W> {
         })
     }
 
-    /// Commits what is gathered, fills the fresh tables of another connection with all that is kept, as the file of this number (from 1), and
-    /// goes on with that connection. Returns the one before. `None` if the fresh tables could not be filled: the ledger goes on with the
-    /// connection that it has, and the other is dropped.
+    /// Commits what is gathered, fills the fresh tables of another connection with the rights and texts that it keeps, and with these names as
+    /// those that users took, as the file of this number (from 1), and goes on with that connection. Returns the one before. `None` if the
+    /// fresh tables could not be filled: the ledger goes on with the connection that it has, and the other is dropped.
+    ///
+    /// The names have to be those of all events so far, also of those since the ledger went on, which `is_taken` does not know: a name that is
+    /// left out is free at the next start.
     ///
     /// # Errors
     ///
@@ -86,19 +89,20 @@ impl<S: Alter + Drop, C: Clock + Drop, W: Write + Drop> Ledger<S, C, W> {
         &mut self,
         conn: Connection<S>,
         file: u64,
+        taken: &[Name],
     ) -> Result<Option<Connection<S>>, LedgerFault>
         ensures rows { self.new.rows.items ≡ self.old.rows.items }
         ensures texts { self.new.texts.items ≡ self.old.texts.items }
         ensures taken { self.new.taken.items ≡ self.old.taken.items }
         ensures gathered { OnOk result (self.new.log.gathered.items ≡ []) }
-        ensures renewed { IfOk result (λ before. IsRenewed S.Store file self.old.rows.items self.old.texts.items self.old.taken.items self.old.log.gathered.items self.old.log.conn conn before self.new.log.conn) }
+        ensures renewed { IfOk result (λ before. IsRenewed S.Store file self.old.rows.items self.old.texts.items taken.now self.old.log.gathered.items self.old.log.conn conn before self.new.log.conn) }
     {
         self.log.renew(
             conn,
             file,
             self.rows.as_slice(),
             self.texts.as_slice(),
-            self.taken.as_slice(),
+            taken,
         )
     }
 

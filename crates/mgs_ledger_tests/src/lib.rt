@@ -17,6 +17,8 @@ mod kept;
 #[cfg(test)]
 mod lists;
 #[cfg(test)]
+mod renewed;
+#[cfg(test)]
 mod taken;
 #[cfg(test)]
 mod texts;
