@@ -1,9 +1,11 @@
 //! The ledger: a journal that keeps in SQLite tables by what access to each buffer is decided, and what happened.
 //!
 //! [`Ledger`] is a `Journal`. The changes of one event are committed with their events in one transaction before the call returns. What else is
-//! told is gathered, and committed with the next change or text, when [`GATHER_LIMIT`] are gathered, or a second later. Each event is a line on a
-//! writer once it is committed. [`audit`] prints the lines of all events again. Both refuse tables whose rights are not those that the events
-//! tell. A text is kept whole, in the place of the one before.
+//! told is gathered, and committed with the next change or text, when [`GATHER_LIMIT`] are gathered, or a second later. Equal denials and
+//! equal refused logins of one second are one event with a count. A user has 20 gathered events a second; past them one event, `more`, counts
+//! the rest. An event of a list names the entries that differ. Each event is a line on a writer once it is committed. [`audit`] prints the
+//! lines of all events again. Both refuse tables whose rights are not those that the events tell. A text is kept whole, in the place of the one
+//! before.
 #![tactic(auto)]
 
 mod agreement;
