@@ -7,8 +7,8 @@ from try_server import TOP, Terminal
 IS_ROOT = os.geteuid() == 0
 NOBODY = 65534
 ROWS, COLS = 24, 80
-USAGE = ("usage: mgd-keep serve FOLDER CONFIG PORT [--forget BUFFER] [--owner BUFFER NAME] | "
-         "mgd-keep audit FOLDER [--user U] [--buffer B] [--since WHEN]\n")
+USAGE = ("usage: mgd-keep serve FOLDER CONFIG PORT [--forget BUFFER] [--discard] [--owner BUFFER NAME] [--owner-of OLD NEW] "
+         "[--list BUFFER ENTRY] | mgd-keep audit FOLDER [--user U] [--buffer B] [--since WHEN]\n")
 TICKETS = {"ann": "apple", "bob": "birch", "cat": "cedar", "eve": "elder", "-": "dogwood"}
 GROUPS = {"staff": ["ann", "bob"], "desk": ["cat"], "-": ["cat"]}
 SECRET = "The door code is 4711."
@@ -366,14 +366,14 @@ def made_journal(desk):
 
 
 def refused(desk, what, status, words, *options):
-    """A start that is refused by these words, or by words of this form, and leaves the file. Its log, which has nothing that is to be taken over,
-    may get another head."""
-    before = desk.contents()["journal.sqlite3"]
+    """A start that is refused by these words, or by words of this form, and leaves all files."""
+    before = desk.contents()
     server = Server(desk, *options)
     got = server.ended() if server.port is None else ("serves", server.kill())
     is_named = got[1] == words if isinstance(words, str) else isinstance(got[1], str) and words.fullmatch(got[1])
     expect(f"{what} is refused", got[0] == status and is_named, got)
-    expect("and left as it is", desk.contents()["journal.sqlite3"] == before)
+    after = desk.contents()
+    expect("and all is left as it is", after == before, changed_files(before, after))
 
 
 def changed_files(before, after):

@@ -16,6 +16,8 @@ from keep_desk import (COLS, DENY_BOB, DROP_FIRST, Desk, EVENT, IS_ROOT, LEAVE, 
                        PLAIN, ROWS, SECRET, Server, State, TICKETS, USAGE, Watch, buffer, command, config, create_detail, expect, fields, finish,
                        go_to, made_journal, miss, refused, seal, see, serving, shows, type_in, wait_for)
 from keep_attacks import ATTACKS
+from keep_output import try_unread_output
+from keep_starts import STARTS
 from moments import Person, rows_of
 from try_server import Terminal
 
@@ -215,7 +217,8 @@ def try_second():
 
 def try_words():
     rows = [(), ("serve",), ("serve", "f"), ("serve", "f", "c"), ("serve", "f", "c", "65536"), ("serve", "f", "c", "0", "x"),
-            ("serve", "f", "c", "0", "--forget"), ("serve", "f", "c", "0", "--owner", "b"), ("audit",), ("audit", "f", "x"),
+            ("serve", "f", "c", "0", "--forget"), ("serve", "f", "c", "0", "--owner", "b"), ("serve", "f", "c", "0", "--owner-of", "b"),
+            ("serve", "f", "c", "0", "--list", "b"), ("serve", "f", "c", "0", "--discard", "b"), ("audit",), ("audit", "f", "x"),
             ("audit", "f", "--since"), ("replay",)]
     for words in rows:
         done = subprocess.run([keep_desk.program, *words], capture_output=True, text=True, timeout=PATIENCE, stdin=subprocess.DEVNULL)
@@ -252,9 +255,10 @@ def try_owner_left():
         got = Server(desk).ended()
         expect("an owner who is no user any more is refused", got[0] == 1 and got[1].endswith("buffer page: owner eve is no user\n"), got)
         got = Server(desk, "--owner", "page", "No Name").ended()
-        expect("nor can it be given to what is no name", got == (1, "No Name: no name of a user\n"), got)
+        left = "buffer page: owner eve is no user\n"
+        expect("nor can it be given to what is no name", got == (1, "No Name: no name of a user\n" + left), got)
         got = Server(desk, "--owner", "none", "ann").ended()
-        expect("nor can a buffer that the journal does not have", got == (1, "buffer none: the journal does not have it\n"), got)
+        expect("nor can a buffer that the journal does not have", got == (1, "buffer none: the journal does not have it\n" + left), got)
         got = Server(desk, "--owner", "page", "eve").ended()
         expect("and cannot be given it again", got[0] == 1, got)
         server = serving(desk, "--owner", "page", "bob")
@@ -813,8 +817,8 @@ def try_closed_pipe():
 
 
 TRIALS = [try_words, try_configurations, try_folders, try_links, try_second, try_shown_then_killed, try_audit, try_gathered, try_saves,
-          try_files_of_texts, try_closed_pipe, try_memory, try_owner_left, try_otherwise, try_names_of_others, try_damage, try_foreign,
-          try_size_limit, try_full_disk]
+          try_files_of_texts, try_closed_pipe, try_unread_output, try_memory, try_owner_left, try_otherwise, try_names_of_others, try_damage, try_foreign,
+          try_size_limit, try_full_disk, *STARTS]
 
 
 def main():

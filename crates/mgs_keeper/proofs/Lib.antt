@@ -1,1 +1,4 @@
+mod Faults
+mod Printing
+mod Rows
 mod Starting

@@ -11,6 +11,18 @@ pub(crate) enum Mending {
     Forget(String),
     /// The owner of the buffer is this user.
     Owner(String, String),
+    /// The owner of each buffer of the one user is the other.
+    OwnerOf(String, String),
+    /// The list of the buffer begins with this entry.
+    List(String, String),
+}
+
+/// What a start does first, in this order.
+#[derive(Drop)]
+pub(crate) struct Mendings {
+    pub all: Vec<Mending>,
+    /// Whether a text that was not saved can go with what is forgotten.
+    pub may_discard: bool,
 }
 
 /// Which events are printed.
@@ -32,7 +44,7 @@ pub(crate) enum Task {
         folder: String,
         config: String,
         port: u16,
-        mendings: Vec<Mending>,
+        mendings: Mendings,
     },
     /// To print the events of the journal in a folder.
     Audit {
@@ -64,26 +76,38 @@ fn take(words: &mut Vec<String>) -> Option<String>
     Some(words.remove(0))
 }
 
+// Reads an option of `serve` with its words. `None`: it is none, or lacks a word.
+fn read_mending(option: &str, words: &mut Vec<String>) -> Option<Mending>
+    ensures { length words.new.items ≤ length words.old.items }
+{
+    let first = take(words)?;
+    if option == "--forget" {
+        return Some(Mending::Forget(first));
+    }
+    let second = take(words)?;
+    match option {
+        "--owner" => Some(Mending::Owner(first, second)),
+        "--owner-of" => Some(Mending::OwnerOf(first, second)),
+        "--list" => Some(Mending::List(first, second)),
+        _ => None,
+    }
+}
+
 // What the options of `serve` ask for; none where one is no option or lacks a word.
-fn read_mendings<R: AllocGlobal>(
-    rt: &R,
-    words: &mut Vec<String>,
-) -> io::Result<Option<Vec<Mending>>> {
-    let mut mendings = Vec::new(rt.alloc());
+fn read_mendings<R: AllocGlobal>(rt: &R, words: &mut Vec<String>) -> io::Result<Option<Mendings>> {
+    let mut all = Vec::new(rt.alloc());
+    let mut may_discard = false;
     while let Some(word) = take(words) {
-        match word.as_str() {
-            "--forget" => match take(words) {
-                Some(buffer) => mendings.push(Mending::Forget(buffer))?,
-                None => return Ok(None),
-            },
-            "--owner" => match (take(words), take(words)) {
-                (Some(buffer), Some(owner)) => mendings.push(Mending::Owner(buffer, owner))?,
-                _ => return Ok(None),
-            },
-            _ => return Ok(None),
+        if word.as_str() == "--discard" {
+            may_discard = true;
+            continue;
+        }
+        match read_mending(word.as_str(), words) {
+            Some(mending) => all.push(mending)?,
+            None => return Ok(None),
         }
     }
-    Ok(Some(mendings))
+    Ok(Some(Mendings { all, may_discard }))
 }
 
 fn read_serve<R: AllocGlobal>(rt: &R, words: &mut Vec<String>) -> io::Result<Task> {

@@ -3,13 +3,18 @@
 
 mod events;
 mod folder;
+mod folder_files;
 mod keep_arguments;
 mod launch;
+mod line_printer;
 mod live;
 mod program;
 mod repair;
 mod service;
+mod shared_printer;
+mod standard_output;
 mod status;
+mod trial;
 mod turns;
 mod watch;
 

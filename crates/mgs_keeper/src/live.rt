@@ -142,3 +142,8 @@ pub(crate) fn open_live(
     }
     Err(last)
 }
+
+/// Opens tables in memory that have nothing.
+pub(crate) fn open_none(rt: &HostRuntime) -> Result<Connection<FileStore<Memory>>, OpenFault> {
+    open_copy(rt.alloc(), &[], &[])
+}

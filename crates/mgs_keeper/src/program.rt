@@ -9,9 +9,9 @@ use std::process::ExitCode;
 use std::sync::Wait;
 
 const USAGE: &str =
-    "usage: mgd-keep serve FOLDER CONFIG PORT [--forget BUFFER] [--owner BUFFER NAME] | mgd-keep audit FOLDER [--user U] [--buffer B] [--since WHEN]";
+    "usage: mgd-keep serve FOLDER CONFIG PORT [--forget BUFFER] [--discard] [--owner BUFFER NAME] [--owner-of OLD NEW] [--list BUFFER ENTRY] | mgd-keep audit FOLDER [--user U] [--buffer B] [--since WHEN]";
 
-fn perform<W: Print + Eprint + Wait>(rt: &HostRuntime, wait: &W, task: Task) -> u8 {
+fn perform<W: Eprint + Wait>(rt: &HostRuntime, wait: &W, task: Task) -> u8 {
     match task {
         Task::Serve {
             folder,
@@ -28,7 +28,7 @@ fn perform<W: Print + Eprint + Wait>(rt: &HostRuntime, wait: &W, task: Task) -> 
 }
 
 /// The whole program: it reads its arguments and does what they ask for. `wait` is the runtime again, as a handle that waits.
-pub fn run<W: Print + Eprint + Wait>(rt: &HostRuntime, wait: &W) -> ExitCode {
+pub fn run<W: Eprint + Wait>(rt: &HostRuntime, wait: &W) -> ExitCode {
     let status = match read_task(rt) {
         Ok(task) => perform(rt, wait, task),
         Err(error) => {

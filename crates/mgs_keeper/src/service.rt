@@ -3,13 +3,13 @@ ghost use Rattle.std.specs.Prelude.{◌≡◌, ◌≢◌, IfErr, IfSome, get_or,
 ghost use Rattle.mgs_buffers.specs.MarkedBuffer.{marked_at};
 ghost use Rattle.mgs_keeper.specs.Unsaved.{AreUnsavedWords, SaysFile, is_unsaved};
 
-use crate::events::{end_fault, end_open, has_journal};
-use crate::folder::{is_private_folder, journal_path, log_path, make_private};
-use crate::keep_arguments::Mending;
+use crate::folder::{is_private_folder, journal_path, log_path};
+use crate::folder_files::FolderFiles;
+use crate::keep_arguments::Mendings;
 use crate::launch::{StartFault, start};
-use crate::live::open_live;
-use crate::repair::mend_all;
-use crate::status::{FAILED, JOURNAL_FAILED};
+use crate::shared_printer::{SharedPrinter, open_printer};
+use crate::status::{FAILED, JOURNAL_FAILED, NO_SOCKETS};
+use crate::trial::{JournalFiles, begin};
 use crate::turns::serve_kept;
 use crate::watch::Watch;
 use mgs_buffers::{Buffers, Rights};
@@ -19,21 +19,16 @@ use mgs_disk::{DiskFiles, FileStore, load_config};
 use mgs_gap::GapText;
 use mgs_journal::{Journal, are_same};
 use mgs_keep::text_sum;
-use mgs_ledger::{Ledger, test_tables};
 use mgs_model::{BUFFER_LIMIT, Name};
+use mgs_server::ListenFault;
 use mgs_store::Store;
-use mgs_tables::{OpenFault, open};
-use sqlite::{Alter, Connection, FileFrom, FileStore as TableStore, Wary};
 use std::fmt::Display;
 use std::fs::Files;
-use std::io::{self, Printer, Write};
+use std::io::ErrorKind;
 use std::mem;
-use std::net::Net;
+use std::net::{Ipv4Addr, Net, SocketAddr, TcpListener};
 use std::sync::Wait;
 use std::time::Clock;
-
-/// The journal of this program: its file, the system's clock and standard output.
-type FileLedger<'a> = Ledger<TableStore<FileFrom<Wary>>, &'a HostRuntime, Printer<'a, HostRuntime>>;
 
 // Tells a cause, and gives the status of what is refused.
 fn refuse<R: Eprint, E: Display + Drop>(rt: &R, cause: E) -> u8
@@ -111,77 +106,6 @@ fn tell_unsaved<R: Eprint, J: Journal>(rt: &R, config: &Buffers<GapText>, journa
     }
 }
 
-// The ledger that goes on with open tables. They are any tables, since what is done with those of a file is dear to prove.
-fn resume_ledger<'a, S: Alter + Drop>(
-    rt: &'a HostRuntime,
-    conn: Connection<S>,
-) -> Result<Ledger<S, &'a HostRuntime, Printer<'a, HostRuntime>>, u8>
-    ensures { IfErr result (λ status. status ≢ 0) }
-{
-    match Ledger::resume(conn, rt.alloc(), rt, io::writer(rt)) {
-        Ok(ledger) => Ok(ledger),
-        Err(fault) => Err(end_fault(rt, fault)),
-    }
-}
-
-// Tests that open tables have the rights that their events tell. They are any tables, as above.
-fn test_open<S: Alter + Drop>(rt: &HostRuntime, mut conn: Connection<S>) -> Result<(), u8>
-    ensures { IfErr result (λ status. status ≢ 0) }
-{
-    match test_tables(&mut conn, rt.alloc()) {
-        Ok(()) => Ok(()),
-        Err(fault) => Err(end_fault(rt, fault)),
-    }
-}
-
-// Tests the journal in these files, if there is one, by a copy in memory: a start that is refused for its tables changes neither file.
-fn test_journal(rt: &HostRuntime, path: &str, log_path: &str) -> Result<(), u8>
-    ensures { IfErr result (λ status. status ≢ 0) }
-{
-    if !has_journal(rt, path, log_path) {
-        return Ok(());
-    }
-    match open_live(rt, path) {
-        Ok(conn) => test_open(rt, conn),
-        Err(fault) => Err(end_open(rt, fault)),
-    }
-}
-
-// The watch of the files of a journal that was opened.
-fn begin_watch(rt: &HostRuntime, path: &str) -> Result<Watch, u8>
-    ensures { IfErr result (λ status. status ≢ 0) }
-{
-    match Watch::new(rt, path) {
-        Ok(watch) => Ok(watch),
-        Err(_) => Err(end_open(rt, OpenFault::System)),
-    }
-}
-
-// The ledger of the journal in a folder, and the watch of its files.
-fn open_ledger<'a>(rt: &'a HostRuntime, folder: &str) -> Result<(FileLedger<'a>, Watch), u8>
-    ensures { IfErr result (λ status. status ≢ 0) }
-{
-    if !matches!(is_private_folder(rt, folder), Ok(true)) {
-        let _ = eprintln!(rt; "{folder}: not a folder of yours with mode 0700");
-        return Err(FAILED);
-    }
-    let Ok(path) = journal_path(rt, folder) else {
-        return Err(refuse(rt, NO_MEMORY));
-    };
-    let Ok(beside) = log_path(rt, path.as_str()) else {
-        return Err(refuse(rt, NO_MEMORY));
-    };
-    test_journal(rt, path.as_str(), beside.as_str())?;
-    make_private(rt, path.as_str(), beside.as_str());
-    let conn = match open(rt, path.as_str()) {
-        Ok(conn) => conn,
-        Err(fault) => return Err(end_open(rt, fault)),
-    };
-    let watch = begin_watch(rt, path.as_str())?;
-    let ledger = resume_ledger(rt, conn)?;
-    Ok((ledger, watch))
-}
-
 // The store of these files on the system's disk.
 fn open_store<'a>(
     rt: &'a HostRuntime,
@@ -212,10 +136,19 @@ fn end_start<R: Eprint>(rt: &R, fault: StartFault) -> u8
 // Serves a configuration, by what a journal keeps.
 fn serve_journal<
     R: AllocGlobal + Net + Clock + Files,
-    W: Print + Eprint + Wait,
+    W: Eprint + Wait,
     S: Store + Drop,
     J: Journal + Drop,
->(rt: &R, wait: &W, port: u16, config: Config, store: S, journal: J, watch: Watch) -> u8
+>(
+    rt: &R,
+    wait: &W,
+    port: u16,
+    config: Config,
+    store: S,
+    journal: J,
+    printer: SharedPrinter<'_>,
+    watch: Watch,
+) -> u8
     ensures { result ≢ 0 }
 {
     let Config {
@@ -227,52 +160,111 @@ fn serve_journal<
     tell_differences(wait, &buffers, &journal);
     tell_unsaved(wait, &buffers, &journal);
     match start(rt.alloc(), directory, &buffers, store, journal) {
-        Ok(kept) => serve_kept(rt, wait, port, kept, tickets, rt, watch),
+        Ok(kept) => serve_kept(rt, wait, port, kept, tickets, rt, printer, watch),
         Err(fault) => end_start(wait, fault),
     }
 }
 
-// Serves a configuration whose texts are saved in the files of the system, by what a ledger keeps, which is mended before.
-fn serve_ledger<W: Print + Eprint + Wait, A: Alter + Drop, C: Clock + Drop, O: Write + Drop>(
+// Tests that a port of the loopback address can be had, before a file is changed: the program's status if not, which is told, or else 0. The
+// listener is closed again, since the server opens its own.
+fn test_port<R: Net, W: Eprint>(rt: &R, wait: &W, port: u16) -> u8 {
+    match TcpListener::bind(rt, SocketAddr::from((Ipv4Addr::LOCALHOST, port))) {
+        Ok(_) => 0,
+        Err(error) if error.kind() == ErrorKind::OutOfMemory => refuse(wait, NO_MEMORY),
+        Err(_) => {
+            tell(wait, ListenFault::Port);
+            NO_SOCKETS
+        }
+    }
+}
+
+// Serves a configuration whose texts are saved in the files of the system, by what the files of a journal keep, which is mended before. The
+// files are opened once nothing refuses the start.
+fn serve_files<
+    W: Eprint + Wait,
+    C: Journal + Drop,
+    O: Journal + Drop,
+    F: JournalFiles<C, O> + Drop,
+>(
     rt: &HostRuntime,
     wait: &W,
     port: u16,
     mut config: Config,
-    mut ledger: Ledger<A, C, O>,
-    mendings: &[Mending],
-    watch: Watch,
+    mut files: F,
+    mendings: &Mendings,
+    printer: SharedPrinter<'_>,
 ) -> u8
     ensures { result ≢ 0 }
 {
-    match mend_all(rt, &mut ledger, mendings) {
-        Ok(()) => {}
+    let texts = mem::replace(&mut config.files, Vec::new(rt.alloc()));
+    let store = match open_store(rt, texts) {
+        Ok(store) => store,
         Err(status) => return status,
-    }
-    let files = mem::replace(&mut config.files, Vec::new(rt.alloc()));
-    match open_store(rt, files) {
-        Ok(store) => serve_journal(rt, wait, port, config, store, ledger, watch),
+    };
+    let refusal = test_port(rt, wait, port);
+    match begin(
+        rt,
+        &mut files,
+        &config.directory,
+        &config.buffers,
+        mendings,
+        refusal,
+    ) {
+        Ok((journal, watch)) => serve_journal(
+            rt, wait, port, config, store, journal, printer, watch,
+        ),
         Err(status) => status,
     }
 }
 
+// Serves a configuration with the journal in a folder.
+fn serve_folder<W: Eprint + Wait>(
+    rt: &HostRuntime,
+    wait: &W,
+    folder: &str,
+    config: Config,
+    port: u16,
+    mendings: &Mendings,
+) -> u8
+    ensures { result ≢ 0 }
+{
+    if !matches!(is_private_folder(rt, folder), Ok(true)) {
+        let _ = eprintln!(rt; "{folder}: not a folder of yours with mode 0700");
+        return FAILED;
+    }
+    let Ok(path) = journal_path(rt, folder) else {
+        return refuse(rt, NO_MEMORY);
+    };
+    let Ok(beside) = log_path(rt, path.as_str()) else {
+        return refuse(rt, NO_MEMORY);
+    };
+    let Ok(printer) = open_printer(rt) else {
+        return refuse(rt, NO_MEMORY);
+    };
+    let files = FolderFiles {
+        rt,
+        path: path.as_str(),
+        log_path: beside.as_str(),
+        printer: &printer,
+    };
+    let shared = SharedPrinter { printer: &printer };
+    serve_files(rt, wait, port, config, files, mendings, shared)
+}
+
 /// Serves the configuration in a file on a port of the loopback address, with the journal in a folder, which is mended before. It returns
 /// where that cannot be begun, or not gone on with, and tells why on standard error. Turns are taken by a handle that waits.
-pub(crate) fn serve<W: Print + Eprint + Wait>(
+pub(crate) fn serve<W: Eprint + Wait>(
     rt: &HostRuntime,
     wait: &W,
     folder: &str,
     config: &str,
     port: u16,
-    mendings: &[Mending],
+    mendings: &Mendings,
 ) -> u8
     ensures { result ≢ 0 }
 {
-    let config = match load_config(rt, config) {
-        Ok(config) => config,
-        Err(fault) => return refuse(rt, fault),
-    };
-    match open_ledger(rt, folder) {
-        Ok((ledger, watch)) => serve_ledger(rt, wait, port, config, ledger, mendings, watch),
-        Err(status) => status,
+    match load_config(rt, config) {
+        Ok(config) => serve_folder(rt, wait, folder, config, port, mendings),
+        Err(fault) => refuse(rt, fault),
     }
 }

@@ -1,2 +1,3 @@
 mod Contents
 mod Walks
+mod Gathering

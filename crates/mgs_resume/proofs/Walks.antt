@@ -25,7 +25,7 @@ module _ {A : Type 0} where
   dropped_all (x ∷ xs) zero none = cc
   dropped_all (x ∷ xs) (suc i) none = dropped_all xs i none
 
-  past : (xs : List A) (i : ℕ) → None ≡ slice_get xs i → None ≡ slice_get xs (suc i)
+  pub past : (xs : List A) (i : ℕ) → None ≡ slice_get xs i → None ≡ slice_get xs (suc i)
   past [] i none = refl
   past (x ∷ xs) zero none = absurd cc
   past (x ∷ xs) (suc i) none = past xs i none
