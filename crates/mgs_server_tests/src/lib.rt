@@ -53,6 +53,8 @@ mod terminal;
 #[cfg(test)]
 mod together;
 #[cfg(test)]
+mod tutorial;
+#[cfg(test)]
 mod undos;
 #[cfg(test)]
 mod windows;
