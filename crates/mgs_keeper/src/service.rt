@@ -19,12 +19,14 @@ use mgs_disk::{DiskFiles, FileStore, load_config};
 use mgs_gap::GapText;
 use mgs_journal::{Journal, are_same};
 use mgs_keep::text_sum;
+use mgs_ledger::Ledger;
 use mgs_model::{BUFFER_LIMIT, Name};
 use mgs_server::ListenFault;
 use mgs_store::Store;
+use sqlite::Alter;
 use std::fmt::Display;
 use std::fs::Files;
-use std::io::ErrorKind;
+use std::io::{ErrorKind, Write};
 use std::mem;
 use std::net::{Ipv4Addr, Net, SocketAddr, TcpListener};
 use std::sync::Wait;
@@ -179,14 +181,17 @@ fn test_port<R: Net, W: Eprint>(rt: &R, wait: &W, port: u16) -> u8 {
 }
 
 // Serves a configuration whose texts are saved in the files of the system, by what the files of a journal keep, which is mended before. The
-// files are opened once nothing refuses the start.
+// files are opened once nothing refuses the start. Their tables are any, since what is done with those of a file is dear to prove.
 fn serve_files<
+    'a,
     W: Eprint + Wait,
-    C: Journal + Drop,
-    O: Journal + Drop,
-    F: JournalFiles<C, O> + Drop,
+    A: Alter + Drop,
+    B: Alter + Drop,
+    V: Write + Drop,
+    P: Write + Drop,
+    F: JournalFiles<Ledger<A, &'a HostRuntime, V>, Ledger<B, &'a HostRuntime, P>> + Drop,
 >(
-    rt: &HostRuntime,
+    rt: &'a HostRuntime,
     wait: &W,
     port: u16,
     mut config: Config,
