@@ -7,7 +7,7 @@ import concurrent.futures, fcntl, functools, itertools, multiprocessing, os, ran
 
 import keep_desk
 from keep_desk import (DENY_BOB, DROP_FIRST, Desk, IS_ROOT, LISTING, NOBODY, NONE, NOTES, OWNERS_LIST, PAGE, PATIENCE, ROWS, SECRET, Server,
-                       State, Watch, buffer, changed_files, command, config, create_detail, expect, fields, file_buffer, go_to, listed, miss, seal, see,
+                       State, Watch, buffer, changed_files, command, config, create_detail, expect, fields, file_buffer, go_to, list_detail, listed, miss, seal, see,
                        serving, shows, type_in)
 
 BASE, LOG = "journal.sqlite3", "journal.sqlite3-wal"
@@ -332,7 +332,7 @@ def try_dashes(long, seed):
         ], desk.events("--user", "-"))
         expect("a group - too", ("ann", "group", "page", " -> -") in events, [line for line in events if line[1] == "group"])
         expect("a buffer - too", desk.events("--buffer", "-") == [
-            ("bob", "create", "-", create_detail([OWNERS_LIST], "bob")), ("bob", "list", "-", f"{OWNERS_LIST} -> {OWNERS_LIST}; ALLOW ann rt"),
+            ("bob", "create", "-", create_detail([OWNERS_LIST], "bob")), ("bob", "list", "-", list_detail([OWNERS_LIST], [OWNERS_LIST, "ALLOW ann rt"])),
         ], desk.events("--buffer", "-"))
         nobody = [line for line in events if line[0] == NONE]
         begun = [(NONE, "create", "notes", create_detail(NOTES))] + [(NONE, "create", name, create_detail(EVERYBODY)) for name in names[1:]]
@@ -660,7 +660,7 @@ FORGED = [
     ("an end that is a login", "UPDATE event SET what = 'login' WHERE what = 'kill'"),
     ("a beginning without words", "UPDATE event SET detail = '' WHERE what = 'create' AND buffer = 'page'"),
     ("a beginning of another owner", "UPDATE event SET detail = 'bob' || substr(detail, 4) WHERE what = 'create' AND buffer = 'page'"),
-    ("the order of two lists", exchange(FIRST_LIST, "what = 'list' AND detail LIKE 'DENY%'")),
+    ("the order of two lists", exchange(FIRST_LIST, "what = 'list' AND detail LIKE '1: DENY%'")),
     ("a list before its buffer", exchange(FIRST_LIST, "what = 'create' AND buffer = 'notes'")),
     ("an end before its beginning", exchange("what = 'kill'", "what = 'create' AND buffer = 'made1'")),
     ("an end more", EVENT_MORE("ann", "kill", "notes", "")),

@@ -79,6 +79,24 @@ def create_detail(entries, owner="ann", owning=""):
     return f"{owner}:{owning} {'; '.join(entries) or '-'}"
 
 
+def list_detail(old, new):
+    """The detail of a line that tells a change of a list: the number of the first entry that differs, and the entries up to the common end."""
+    first = 0
+    while first < min(len(old), len(new)) and old[first] == new[first]:
+        first += 1
+    last = 0
+    while last < min(len(old), len(new)) - first and old[-1 - last] == new[-1 - last]:
+        last += 1
+    gone, come = old[first:len(old) - last], new[first:len(new) - last]
+    return f"{first + 1}: {'; '.join(gone) or '-'} -> {'; '.join(come) or '-'}"
+
+
+def count_of(line):
+    """How many events a line stands for: that is the number after x, if its detail ends with one."""
+    found = re.search(r" x (\d+)$", line[3])
+    return int(found[1]) if found else 1
+
+
 PLAIN = config(buffer("notes", NOTES, text=SECRET), buffer("page", PAGE, text="A page."))
 
 

@@ -13,8 +13,8 @@ from functools import partial
 
 import keep_desk
 from keep_desk import (COLS, DENY_BOB, DROP_FIRST, Desk, EVENT, IS_ROOT, LEAVE, LISTING, NOBODY, NONE, NOTES, OWNERS_LIST, PAGE, PATIENCE,
-                       PLAIN, ROWS, SECRET, Server, State, TICKETS, USAGE, Watch, buffer, command, config, create_detail, expect, fields, finish,
-                       go_to, made_journal, miss, refused, seal, see, serving, shows, type_in, wait_for)
+                       PLAIN, ROWS, SECRET, Server, State, TICKETS, USAGE, Watch, buffer, command, config, count_of, create_detail, expect, fields, finish,
+                       go_to, list_detail, made_journal, miss, refused, seal, see, serving, shows, type_in, wait_for)
 from keep_attacks import ATTACKS
 from keep_output import try_unread_output
 from keep_starts import STARTS
@@ -28,8 +28,8 @@ def change_of(state, chance, number):
     """A change that ann makes: its keys, the state after it, and the event that tells it."""
     kind = chance.choice(["list", "list", "owner", "group", "create", "kill"])
     if kind == "list":
-        denied, plain = "; ".join(["DENY bob rwa"] + NOTES), "; ".join(NOTES)
-        details = f"{denied} -> {plain}" if state.denied else f"{plain} -> {denied}"
+        denied = ["DENY bob rwa"] + NOTES
+        details = list_detail(denied, NOTES) if state.denied else list_detail(NOTES, denied)
         keys = go_to("notes") + (DROP_FIRST if state.denied else DENY_BOB)
         return keys, State(not state.denied, state.page, state.made), ("ann", "list", "notes", details)
     owner, owning = state.page
@@ -449,7 +449,7 @@ def log_in_by(server, line):
 # Login lines that are refused: what is answered, the name that is told, and the cause.
 REFUSED = [
     (b"login bob wrong 24 80\n", b"refused 3 Ticket\n", "bob", "ticket"),
-    (b"login eve birch 24 80\n", b"refused 2 NoUser\n", "eve", "no user"),
+    (b"login eve birch 24 80\n", b"refused 2 NoUser\n", NONE, "no user"),
     (b"login \xff birch 24 80\n", b"refused 2 NoUser\n", NONE, "no user"),
     (b"hello\n", b"refused 1 Line\n", NONE, "no login line"),
     (b"x" * 129, b"refused 1 Line\n", NONE, "no login line"),
@@ -470,8 +470,8 @@ def played(server):
         expect(f"played: {lines or keys.encode()}", is_seen(), [one.shows(row) for row in (1, 2, ROWS - 1, ROWS)])
         done.extend(lines)
 
-    def denied(name, one, keys, echo, detail):
-        does(one, keys, lambda: see(one, echo), (name, "denied", NONE, detail))
+    def denied(name, one, keys, echo, buffer, detail):
+        does(one, keys, lambda: see(one, echo), (name, "denied", buffer, detail))
         # A motion that is granted, or a word that is given up, empties the echo row.
         type_in(one, "\x07")
         see(one, "Quit")
@@ -486,30 +486,29 @@ def played(server):
         got = log_in_by(server, line)
         expect(f"played: {line[:20]} is refused", got == answer, got)
         note(name, "refused", NONE, cause)
-    notes, page = "; ".join(NOTES), "; ".join(PAGE)
     does(bob, "Hello ann. ", lambda: see(ann, "Hello ann."))
-    does(ann, DENY_BOB, lambda: see(bob, "[no read: entry 1]"), ("ann", "list", "notes", f"{notes} -> DENY bob rwa; {notes}"))
-    denied("bob", bob, "x", "Denied: entry 1 denies APPEND_DATA", "APPEND_DATA entry 1")
-    denied("bob", bob, "\x02", "Denied: entry 1 denies READ_DATA", "READ_DATA entry 1")
-    denied("bob", bob, command("acl-insert", "ALLOW bob r", 1), "Denied: no entry grants WRITE_ACL", "WRITE_ACL no entry")
+    does(ann, DENY_BOB, lambda: see(bob, "[no read: entry 1]"), ("ann", "list", "notes", list_detail(NOTES, ["DENY bob rwa"] + NOTES)))
+    denied("bob", bob, "x", "Denied: entry 1 denies APPEND_DATA", "notes", "APPEND_DATA entry 1")
+    denied("bob", bob, "\x02", "Denied: entry 1 denies READ_DATA", "notes", "READ_DATA entry 1")
+    denied("bob", bob, command("acl-insert", "ALLOW bob r", 1), "Denied: no entry grants WRITE_ACL", "notes", "WRITE_ACL no entry")
     does(cat, go_to("page"), lambda: see(cat, "A page."))
-    denied("cat", cat, "x", "Denied: no entry grants WRITE_DATA", "WRITE_DATA no entry")
-    denied("cat", cat, "\x18kpage\r", "Denied: no entry grants DELETE", "DELETE no entry")
+    denied("cat", cat, "x", "Denied: no entry grants WRITE_DATA", "page", "WRITE_DATA no entry")
+    denied("cat", cat, "\x18kpage\r", "Denied: no entry grants DELETE", "page", "DELETE no entry")
     does(ann, go_to("page") + command("set-group", "desk") + LISTING, lambda: see(ann, " page ann:desk"), ("ann", "group", "page", " -> desk"))
     does(ann, go_to("page") + command("set-owner", "cat") + LISTING, lambda: see(ann, " page cat:desk"), ("ann", "owner", "page", "ann -> cat"))
-    denied("cat", cat, command("set-owner", "bob"), "Denied: no entry grants WRITE_OWNER", "WRITE_OWNER no entry")
+    denied("cat", cat, command("set-owner", "bob"), "Denied: no entry grants WRITE_OWNER", "page", "WRITE_OWNER no entry")
     does(ann, go_to("page") + command("acl-replace", "ALLOW EVERYONE@ rwt", 2) + command("acl-list", None), lambda: see(ann, "2 ALLOW EVERYONE@ rwt"),
-         ("ann", "list", "page", f"{page} -> {PAGE[0]}; ALLOW EVERYONE@ rwt"))
+         ("ann", "list", "page", list_detail(PAGE, [PAGE[0], "ALLOW EVERYONE@ rwt"])))
     does(ann, go_to("page"), lambda: see(ann, "A page."))
     does(cat, "Now ", lambda: see(ann, "Now A page."))
     does(bob, go_to("draft") + "mine", lambda: see(bob, "-draft-"), ("bob", "create", "draft", create_detail([OWNERS_LIST], "bob")))
-    denied("ann", ann, go_to("draft"), "Denied: no entry grants READ_ATTRIBUTES", "READ_ATTRIBUTES no entry")
-    does(bob, command("acl-insert", "ALLOW ann rt") + command("acl-list", None), lambda: see(bob, "2 ALLOW ann rt"), ("bob", "list", "draft", f"{OWNERS_LIST} -> {OWNERS_LIST}; ALLOW ann rt"))
+    denied("ann", ann, go_to("draft"), "Denied: no entry grants READ_ATTRIBUTES", "draft", "READ_ATTRIBUTES no entry")
+    does(bob, command("acl-insert", "ALLOW ann rt") + command("acl-list", None), lambda: see(bob, "2 ALLOW ann rt"), ("bob", "list", "draft", list_detail([OWNERS_LIST], [OWNERS_LIST, "ALLOW ann rt"])))
     does(ann, go_to("draft"), lambda: see(ann, "mine"))
-    denied("ann", ann, "\x18kdraft\r", "Denied: no entry grants DELETE", "DELETE no entry")
+    denied("ann", ann, "\x18kdraft\r", "Denied: no entry grants DELETE", "draft", "DELETE no entry")
     does(bob, "\x18kdraft\r", lambda: miss(ann, "mine"), ("bob", "kill", "draft", NONE))
     does(ann, go_to("page") + command("set-group", "") + LISTING, lambda: miss(ann, "cat:desk"), ("ann", "group", "page", "desk -> "))
-    does(ann, go_to("notes") + DROP_FIRST, lambda: True, ("ann", "list", "notes", f"DENY bob rwa; {notes} -> {notes}"))
+    does(ann, go_to("notes") + DROP_FIRST, lambda: True, ("ann", "list", "notes", list_detail(["DENY bob rwa"] + NOTES, NOTES)))
     does(bob, go_to("notes"), lambda: see(bob, "Hello ann."))
     type_in(cat, LEAVE)
     cat.read_until(lambda one: one.ended, PATIENCE)
@@ -520,7 +519,7 @@ def played(server):
     time.sleep(0.3)
     cat = server.join("cat")
     note("cat", "login", NONE, NONE)
-    does(ann, command("acl-insert", "DENY cat r", 1), lambda: see(cat, "[no read: entry 1]"), ("ann", "list", "notes", f"{notes} -> DENY cat r; {notes}"))
+    does(ann, command("acl-insert", "DENY cat r", 1), lambda: see(cat, "[no read: entry 1]"), ("ann", "list", "notes", list_detail(NOTES, ["DENY cat r"] + NOTES)))
     type_in(ann, LEAVE)
     ann.read_until(lambda one: one.ended, PATIENCE)
     note("ann", "end", NONE, "quit")
@@ -582,7 +581,7 @@ def try_gathered():
         time.sleep(1.5)
         server.kill()
         events = desk.events("--user", "bob")
-        expect("what was gathered for a second outlasts a kill", events == [("bob", "login", NONE, NONE), ("bob", "denied", NONE, "WRITE_DATA no entry")], events)
+        expect("what was gathered for a second outlasts a kill", events == [("bob", "login", NONE, NONE), ("bob", "denied", "page", "WRITE_DATA no entry")], events)
         server = serving(desk)
         cat = server.join("cat")
         type_in(cat, go_to("page") + "x" * 600)
@@ -590,7 +589,8 @@ def try_gathered():
         time.sleep(1.5)
         server.kill()
         denials = [line for line in desk.events("--user", "cat") if line[1] == "denied"]
-        expect("each of 600 denials is told", len(denials) == 600, len(denials))
+        expect("each of 600 denials is counted", sum(map(count_of, denials)) == 600, denials)
+        expect("in a line a second, with the buffer", len(denials) <= 5 and {line[2] for line in denials} == {"page"}, denials)
 
 
 def try_saves():

@@ -12,7 +12,7 @@ import argparse, bisect, collections, concurrent.futures, copy, multiprocessing,
 
 import keep_desk
 from keep_desk import (DENY_BOB, DROP_FIRST, Desk, LISTING, NOTES, OWNERS_LIST, PAGE, SECRET, Server, TOP, buffer, command, config, create_detail,
-                       expect, file_buffer, finish, go_to, listed, see, shows, type_in)
+                       expect, file_buffer, finish, go_to, list_detail, listed, see, shows, type_in)
 from try_server import Terminal
 
 SECTOR = 512
@@ -246,9 +246,8 @@ class Rights:
         old = self.rows[name]
         new = tuple(before if part is None else part for part, before in zip((owner, owning, entries), old))
         self.rows[name] = new
-        spelled = [(what, *(part if what != "list" else "; ".join(part) for part in (before, after)))
-                   for what, before, after in zip(("owner", "group", "list"), old, new) if before != after]
-        return [(what, name, f"{before} -> {after}") for what, before, after in spelled]
+        return [(what, name, list_detail(list(before), list(after)) if what == "list" else f"{before} -> {after}")
+                for what, before, after in zip(("owner", "group", "list"), old, new) if before != after]
 
     def kill(self, name):
         del self.rows[name]
