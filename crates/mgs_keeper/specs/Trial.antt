@@ -13,9 +13,3 @@ pub record IsTried {J : Type 0} (rows : J → List KeptRights) (bodies : J → L
   pub after : J
   pub mended : AreMended rows bodies taken config mendings.may_discard mendings.all.items journal after
   pub users : AreUsers directory (rules_in_rows (rows after))
-
--- that was so of a copy
-pub record WouldStart {J : Type 0} (rows : J → List KeptRights) (bodies : J → List (Option KeptText)) (taken : J → List ℕ → Bool) (copies : J → Type 0) (directory : Directory) (config : List MarkedBuffer) (mendings : Mendings) : Type 0 where
-  pub copy : J
-  pub copied : copies copy
-  pub tried : IsTried rows bodies taken directory config mendings copy

@@ -1,33 +1,26 @@
 // The files of a journal in a folder.
-ghost use Rattle.std.specs.Prelude.{◌≢◌, IfErr};
+ghost use Rattle.std.specs.Prelude.{◌≡◌, ◌≢◌, IfErr, OnOk};
 
 use crate::events::{end_fault, end_open, has_journal};
 use crate::folder::{has_room, make_private, room_path};
+use crate::keep_arguments::Mendings;
 use crate::live::{open_live, open_none};
-use crate::shared_printer::{OutputPrinter, SharedPrinter};
+use crate::repair::first_status;
 use crate::status::FAILED;
-use crate::trial::JournalFiles;
+use crate::trial::{Tried, try_start};
 use crate::watch::Watch;
+use mgs_buffers::Buffers;
 use mgs_command::{NO_MEMORY, tell};
 use mgs_ledger::Ledger;
+use mgs_marks::Marked;
+use mgs_policy::Directory;
 use mgs_tables::{OpenFault, open};
 use sqlite::{Alter, Connection, FileFrom, FileStore, Wary};
 use sqlite_disk::Memory;
-use std::io::{self, Sink, Write};
+use std::io::{self, Write};
 
-/// The files of a journal, and where its events are printed once they are opened.
-#[derive(Drop)]
-pub(crate) struct FolderFiles<'a> {
-    pub rt: &'a HostRuntime,
-    /// The path of the database.
-    pub path: &'a str,
-    /// The path of its log.
-    pub log_path: &'a str,
-    pub printer: &'a OutputPrinter,
-}
-
-// The ledger that goes on with open tables. They are any tables, since what is done with those of a file is dear to prove.
-fn resume_ledger<'a, S: Alter + Drop, W: Write + Drop>(
+/// The ledger that goes on with open tables. They are any tables, since what is done with those of a file is dear to prove.
+pub(crate) fn resume_ledger<'a, S: Alter + Drop, W: Write + Drop>(
     rt: &'a HostRuntime,
     conn: Connection<S>,
     out: W,
@@ -52,8 +45,8 @@ fn open_copied(
     open_none(rt)
 }
 
-// The watch of the files of a journal that was opened.
-fn begin_watch(rt: &HostRuntime, path: &str) -> Result<Watch, u8>
+/// The watch of the files of a journal that was opened.
+pub(crate) fn begin_watch(rt: &HostRuntime, path: &str) -> Result<Watch, u8>
     ensures { IfErr result (λ status. status ≢ 0) }
 {
     match Watch::new(rt, path) {
@@ -77,11 +70,56 @@ fn test_room(rt: &HostRuntime, path: &str) -> Result<(), u8>
     }
 }
 
-// Opens the files of a journal, which are made if there are none.
-fn open_files(
+// Tries a start over a copy of the journal's tables. They are any tables, as above.
+fn try_tables<S: Alter + Drop, T: Marked + Drop>(
+    rt: &HostRuntime,
+    conn: Connection<S>,
+    directory: &Directory,
+    config: &Buffers<T>,
+    mendings: &Mendings,
+    refusal: u8,
+) -> Result<Tried, u8>
+    ensures free { OnOk result (refusal ≡ 0) }
+    ensures failed { IfErr result (λ status. status ≢ 0) }
+{
+    let copy = resume_ledger(rt, conn, io::sink())?;
+    try_start(rt, directory, config, mendings, copy, refusal)
+}
+
+/// Tries a start over a copy of the files of a journal, and tells each of its faults. `refusal` is the status of what was told already, or 0.
+/// The files stay as they are.
+///
+/// # Errors
+///
+/// The program's status, if the start has a fault or was refused already.
+pub(crate) fn try_files<T: Marked + Drop>(
     rt: &HostRuntime,
     path: &str,
     log_path: &str,
+    directory: &Directory,
+    config: &Buffers<T>,
+    mendings: &Mendings,
+    refusal: u8,
+) -> Result<Tried, u8>
+    ensures free { OnOk result (refusal ≡ 0) }
+    ensures failed { IfErr result (λ status. status ≢ 0) }
+{
+    match open_copied(rt, path, log_path) {
+        Ok(conn) => try_tables(rt, conn, directory, config, mendings, refusal),
+        Err(fault) => Err(first_status(refusal, end_open(rt, fault))),
+    }
+}
+
+/// Opens the files of a journal, which are made if there are none, after a start was tried over a copy of them.
+///
+/// # Errors
+///
+/// The program's status, which is told.
+pub(crate) fn open_files(
+    rt: &HostRuntime,
+    path: &str,
+    log_path: &str,
+    _tried: Tried,
 ) -> Result<Connection<FileStore<FileFrom<Wary>>>, u8>
     ensures { IfErr result (λ status. status ≢ 0) }
 {
@@ -90,36 +128,5 @@ fn open_files(
     match open(rt, path) {
         Ok(conn) => Ok(conn),
         Err(fault) => Err(end_open(rt, fault)),
-    }
-}
-
-/// A copy of a journal in memory.
-pub(crate) type Copied<'a> = Ledger<FileStore<Memory>, &'a HostRuntime, Sink>;
-
-/// A journal in its files.
-pub(crate) type Opened<'a> = Ledger<FileStore<FileFrom<Wary>>, &'a HostRuntime, SharedPrinter<'a>>;
-
-impl<'a> JournalFiles<Copied<'a>, Opened<'a>> for FolderFiles<'a> {
-    ghost use Rattle.std.specs.Prelude.{true};
-
-    ghost opened = { λ files. true };
-
-    ghost copies = { λ files copy. Unit {0} };
-
-    fn copy(&self) -> Result<Copied<'a>, u8> {
-        match open_copied(self.rt, self.path, self.log_path) {
-            Ok(conn) => resume_ledger(self.rt, conn, io::sink()),
-            Err(fault) => Err(end_open(self.rt, fault)),
-        }
-    }
-
-    fn open(&mut self) -> Result<(Opened<'a>, Watch), u8> {
-        let conn = open_files(self.rt, self.path, self.log_path)?;
-        let watch = begin_watch(self.rt, self.path)?;
-        let printer = SharedPrinter {
-            printer: self.printer,
-        };
-        let ledger = resume_ledger(self.rt, conn, printer)?;
-        Ok((ledger, watch))
     }
 }

@@ -4,12 +4,12 @@ ghost use Rattle.mgs_buffers.specs.MarkedBuffer.{marked_at};
 ghost use Rattle.mgs_keeper.specs.Unsaved.{AreUnsavedWords, SaysFile, is_unsaved};
 
 use crate::folder::{is_private_folder, journal_path, log_path};
-use crate::folder_files::FolderFiles;
+use crate::folder_files::{begin_watch, open_files, resume_ledger, try_files};
 use crate::keep_arguments::Mendings;
 use crate::launch::{StartFault, start};
+use crate::repair::mend_all;
 use crate::shared_printer::{SharedPrinter, open_printer};
 use crate::status::{FAILED, JOURNAL_FAILED, NO_SOCKETS};
-use crate::trial::{JournalFiles, begin};
 use crate::turns::serve_kept;
 use crate::watch::Watch;
 use mgs_buffers::{Buffers, Rights};
@@ -19,14 +19,13 @@ use mgs_disk::{DiskFiles, FileStore, load_config};
 use mgs_gap::GapText;
 use mgs_journal::{Journal, are_same};
 use mgs_keep::text_sum;
-use mgs_ledger::Ledger;
 use mgs_model::{BUFFER_LIMIT, Name};
 use mgs_server::ListenFault;
 use mgs_store::Store;
-use sqlite::Alter;
+use sqlite::{Alter, Connection};
 use std::fmt::Display;
 use std::fs::Files;
-use std::io::{ErrorKind, Write};
+use std::io::ErrorKind;
 use std::mem;
 use std::net::{Ipv4Addr, Net, SocketAddr, TcpListener};
 use std::sync::Wait;
@@ -180,54 +179,95 @@ fn test_port<R: Net, W: Eprint>(rt: &R, wait: &W, port: u16) -> u8 {
     }
 }
 
-// Serves a configuration whose texts are saved in the files of the system, by what the files of a journal keep, which is mended before. The
-// files are opened once nothing refuses the start. Their tables are any, since what is done with those of a file is dear to prove.
-fn serve_files<
-    'a,
-    W: Eprint + Wait,
-    A: Alter + Drop,
-    B: Alter + Drop,
-    V: Write + Drop,
-    P: Write + Drop,
-    F: JournalFiles<Ledger<A, &'a HostRuntime, V>, Ledger<B, &'a HostRuntime, P>> + Drop,
->(
-    rt: &'a HostRuntime,
+// Serves a configuration whose texts are saved in a store, by what a journal keeps, which is mended before.
+fn serve_mended<W: Eprint + Wait, S: Store + Drop, J: Journal + Drop>(
+    rt: &HostRuntime,
     wait: &W,
     port: u16,
-    mut config: Config,
-    mut files: F,
+    config: Config,
+    store: S,
+    mut journal: J,
+    mendings: &Mendings,
+    printer: SharedPrinter<'_>,
+    watch: Watch,
+) -> u8
+    ensures { result ≢ 0 }
+{
+    let mended = mend_all(rt, &mut journal, &config.buffers, mendings);
+    if mended != 0 {
+        return mended;
+    }
+    serve_journal(rt, wait, port, config, store, journal, printer, watch)
+}
+
+// Serves a configuration by what open tables keep. They are any tables, since what is done with those of a file is dear to prove.
+fn serve_tables<W: Eprint + Wait, A: Alter + Drop, S: Store + Drop>(
+    rt: &HostRuntime,
+    wait: &W,
+    port: u16,
+    config: Config,
+    store: S,
+    conn: Connection<A>,
+    mendings: &Mendings,
+    printer: SharedPrinter<'_>,
+    watch: Watch,
+) -> u8
+    ensures { result ≢ 0 }
+{
+    match resume_ledger(rt, conn, printer) {
+        Ok(journal) => serve_mended(
+            rt, wait, port, config, store, journal, mendings, printer, watch,
+        ),
+        Err(status) => status,
+    }
+}
+
+// Serves a configuration with the journal in these files, which are opened once nothing refuses the start.
+fn serve_files<W: Eprint + Wait, S: Store + Drop>(
+    rt: &HostRuntime,
+    wait: &W,
+    path: &str,
+    log_path: &str,
+    port: u16,
+    config: Config,
+    store: S,
     mendings: &Mendings,
     printer: SharedPrinter<'_>,
 ) -> u8
     ensures { result ≢ 0 }
 {
-    let texts = mem::replace(&mut config.files, Vec::new(rt.alloc()));
-    let store = match open_store(rt, texts) {
-        Ok(store) => store,
-        Err(status) => return status,
-    };
     let refusal = test_port(rt, wait, port);
-    match begin(
+    let tried = match try_files(
         rt,
-        &mut files,
+        path,
+        log_path,
         &config.directory,
         &config.buffers,
         mendings,
         refusal,
     ) {
-        Ok((journal, watch)) => serve_journal(
-            rt, wait, port, config, store, journal, printer, watch,
+        Ok(tried) => tried,
+        Err(status) => return status,
+    };
+    let conn = match open_files(rt, path, log_path, tried) {
+        Ok(conn) => conn,
+        Err(status) => return status,
+    };
+    match begin_watch(rt, path) {
+        Ok(watch) => serve_tables(
+            rt, wait, port, config, store, conn, mendings, printer, watch,
         ),
         Err(status) => status,
     }
 }
 
 // Serves a configuration with the journal in a folder.
-fn serve_folder<W: Eprint + Wait>(
+fn serve_folder<W: Eprint + Wait, S: Store + Drop>(
     rt: &HostRuntime,
     wait: &W,
     folder: &str,
     config: Config,
+    store: S,
     port: u16,
     mendings: &Mendings,
 ) -> u8
@@ -246,14 +286,36 @@ fn serve_folder<W: Eprint + Wait>(
     let Ok(printer) = open_printer(rt) else {
         return refuse(rt, NO_MEMORY);
     };
-    let files = FolderFiles {
-        rt,
-        path: path.as_str(),
-        log_path: beside.as_str(),
-        printer: &printer,
-    };
     let shared = SharedPrinter { printer: &printer };
-    serve_files(rt, wait, port, config, files, mendings, shared)
+    serve_files(
+        rt,
+        wait,
+        path.as_str(),
+        beside.as_str(),
+        port,
+        config,
+        store,
+        mendings,
+        shared,
+    )
+}
+
+// Serves a configuration whose texts are saved in the files of the system, with the journal in a folder.
+fn serve_config<W: Eprint + Wait>(
+    rt: &HostRuntime,
+    wait: &W,
+    folder: &str,
+    mut config: Config,
+    port: u16,
+    mendings: &Mendings,
+) -> u8
+    ensures { result ≢ 0 }
+{
+    let texts = mem::replace(&mut config.files, Vec::new(rt.alloc()));
+    match open_store(rt, texts) {
+        Ok(store) => serve_folder(rt, wait, folder, config, store, port, mendings),
+        Err(status) => status,
+    }
 }
 
 /// Serves the configuration in a file on a port of the loopback address, with the journal in a folder, which is mended before. It returns
@@ -269,7 +331,7 @@ pub(crate) fn serve<W: Eprint + Wait>(
     ensures { result ≢ 0 }
 {
     match load_config(rt, config) {
-        Ok(config) => serve_folder(rt, wait, folder, config, port, mendings),
+        Ok(config) => serve_config(rt, wait, folder, config, port, mendings),
         Err(fault) => refuse(rt, fault),
     }
 }
