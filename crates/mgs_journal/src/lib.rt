@@ -37,10 +37,12 @@ pub enum Told {
     Closed(Name),
     /// A user's session was ended, since its terminal fell behind.
     FellBehind(Name),
-    /// A user was denied something, and what decided that.
-    Denied(Name, Decision),
+    /// A user was denied something at the buffer of this name, and what decided that.
+    Denied(Name, Name, Decision),
     /// A user saved the buffer of this name.
     Saved(Name, Name),
+    /// One key of a user did and was denied more than is told one by one.
+    Crowded(Name),
 }
 
 /// Persistent store for the rights of each buffer, the texts of buffers, and the audit events.

@@ -8,7 +8,7 @@ use Rattle.mgs_journal.specs.declared.Told.{Told}
 use Rattle.mgs_journal.specs.declared.change.Change.{Change}
 use Rattle.mgs_engine.specs.Serving.{Serving}
 use Rattle.mgs_keep.specs.Differences.{AreDifferences}
-use Rattle.mgs_keep.specs.Keeping.{AreKept, ArePut, Asked, HasChanged, HasPut, IsSnapshot, OrFails, WereTold, altered, rows_in}
+use Rattle.mgs_keep.specs.Keeping.{AreKept, Asked, HasChanged, HasPut, IsSnapshot, OrFails, WereTold, altered, rows_in}
 use Rattle.mgs_keep.proofs.Differences.{lead_behind, none_differ}
 
 map_then : {A B : Type 0} (f : A → B) (xs ys : List A) → map f (xs ++ ys) ≡ map f xs ++ map f ys

@@ -1,6 +1,6 @@
 -- The changes that make the rows of a journal those of the buffers, and the walk that finds them.
-use Rattle.std.proofs.Common.{◌≡◌, ℕ, zero, suc, ◌+◌, ◌-◌, ◌<◌, ◌≤◌, List, [], ◌∷◌, ◌++◌, drop, length, map, Option, Some, None, ◌⊎◌, inl, inr, refl, sym, ap, ◌∙◌, subst, append-nil, append_assoc, arith}
-use Rattle.std.specs.Prelude.{remove, slice_get, slice_set, ◌≢◌}
+use Rattle.std.proofs.Common.{◌≡◌, ℕ, zero, suc, ◌+◌, ◌-◌, ◌<◌, ◌≤◌, List, [], ◌∷◌, ◌++◌, drop, length, Option, Some, None, inl, inr, refl, sym, ap, ◌∙◌, subst, append-nil, append_assoc, arith}
+use Rattle.std.specs.Prelude.{remove, slice_get, slice_set}
 use Rattle.mgs_laws.specs.Apart.{Rules}
 use Rattle.mgs_journal.specs.Changes.{row_set, rows_changed}
 use Rattle.mgs_journal.specs.Rows.{KeptRights}

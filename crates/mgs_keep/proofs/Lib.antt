@@ -3,8 +3,10 @@ mod Bodies
 mod Calls
 mod Differences
 mod Ends
+mod EventDeeds
 mod Noted
 mod Places
+mod Retaped
 mod Rows
 mod Rules
 mod Running

@@ -1,18 +1,12 @@
--- What is told of a session, by its echo line and whose it is, and the names that are read.
+-- The names that are read.
 use Rattle.std.proofs.Common.{◌≡◌, Bool, true, false, List, ℕ, Option, Some, None, refl, ap}
 use Rattle.std.specs.Prelude.{IsSome, IfSome, IsTrue, cond, ◌↔◌}
 use Rattle.mgs_model.specs.Names.{IsName, is_name}
-use Rattle.mgs_model.specs.World.{Session}
 use Rattle.mgs_keys.specs.Words.{◌>>=◌}
-use Rattle.mgs_core.specs.Calls.{echo_in, user_in}
-use Rattle.mgs_keep.specs.Keeping.{name_in_text, said, said_to}
+use Rattle.mgs_keep.specs.Keeping.{name_in_text}
 
 some_is : {A : Type 0} (a b : A) → Some a ≡ Some b → a ≡ b
 some_is a b e = cc
-
-pub said_is : (o : Option Session) (user : List ℕ) → Some user ≡ user_in o → said user (echo_in o) ≡ said_to o
-said_is None user is = cc
-said_is (Some x) user is = ap (λ (u : List ℕ). said u x.state.echo) (some_is user x.user is)
 
 read_by : (b : Bool) (text : List ℕ) (o : Option (List ℕ)) → (IsSome o ↔ IsTrue b) → IfSome o (λ n. n ≡ text) → o ≡ cond b (Some text) None
 read_by true text (Some n) is value = ap (λ (x : List ℕ). Some x) value

@@ -3,9 +3,7 @@ use Rattle.std.specs.Str.{encode_utf8_all}
 use Rattle.std.specs.Prelude.{◌≡◌, ◌⊎◌, ◌<◌, ℕ, ℤ, pos, Bool, true, false, cond, List, [], ◌∷◌, ◌++◌, map, find, length, slice_get, get_or, Option, Some, None, Ok, Err, if◌then◌else◌}
 use Rattle.mgs_model.specs.Names.{is_name}
 use Rattle.mgs_model.specs.Access.{is_among}
-use Rattle.mgs_model.specs.World.{Buffer, Session, find_session, is_named}
-use Rattle.mgs_model.specs.declared.echo_text.Message.{Message}
-use Rattle.mgs_model.specs.declared.echo_text.Message.TheVariants as messages
+use Rattle.mgs_model.specs.World.{Buffer, find_session, is_named}
 use Rattle.mgs_laws.specs.Apart.{Rules, rules_in}
 use Rattle.mgs_keys.specs.Words.{◌>>=◌, utf8_of}
 use Rattle.mgs_core.specs.Calls.{user_in}
@@ -16,12 +14,16 @@ use Rattle.mgs_engine.specs.Does.{Does}
 use Rattle.mgs_engine.specs.Running.{Ran}
 use Rattle.mgs_engine.specs.Serving.{Serving, is_to_tell, pending_of}
 use Rattle.mgs_births.specs.Births.{Births, number_of}
+use Rattle.mgs_births.specs.Tapes.{Tape, blank_tape}
+use Rattle.mgs_births.specs.declared.deed.Deed.{Deed}
+use Rattle.mgs_births.specs.declared.deed.Deed.TheVariants as deeds
+use Rattle.mgs_births.specs.declared.tape.TheConstants.{DEED_LIMIT}
 use Rattle.mgs_journal.specs.Acts.{Act, Alter, Put, Tell, Tick, AreDone}
 use Rattle.mgs_journal.specs.Rows.{KeptRights}
 use Rattle.mgs_journal.specs.Texts.{KeptText}
 use Rattle.mgs_journal.specs.declared.change.Change.{Change}
 use Rattle.mgs_journal.specs.declared.Told.{Told}
-use Rattle.mgs_journal.specs.declared.Told.TheVariants.{Came, Refused, RefusedUnnamed, Denied, Saved}
+use Rattle.mgs_journal.specs.declared.Told.TheVariants.{Came, Refused, RefusedUnnamed, Denied, Saved, Crowded}
 use Rattle.mgs_keep.specs.Differences.{AreDifferences}
 use Rattle.mgs_keep.specs.Ends.{AreNoted, ends_told, listed, noted_after, noted_left}
 use Rattle.mgs_keep.specs.Sums.{sum_of}
@@ -82,23 +84,30 @@ abbrev pub refused : Option (List ℕ) → Refusal → Told
 refused None cause = RefusedUnnamed cause
 refused (Some name) cause = Refused name cause
 
--- what an echo line tells of its session's last event: what was denied and by what, or which buffer was saved last
-abbrev pub said : List ℕ → Message → Option Told
-said user (messages.Denied d) = Some (Denied user d)
-said user (messages.Wrote name) = Some (Saved user name)
-said user _ = None
+-- a deed is told if something was denied, at which buffer and by what, or if a buffer was saved
+abbrev pub deed_told : List ℕ → Deed → Option Told
+deed_told user (deeds.Denied buffer d) = Some (Denied user buffer d)
+deed_told user (deeds.Saved buffer) = Some (Saved user buffer)
+deed_told user _ = None
 
-abbrev pub said_to : Option Session → Option Told
-said_to None = None
-said_to (Some x) = said x.user x.state.echo
+abbrev pub all_told : List ℕ → List Deed → List Told
+all_told user [] = []
+all_told user (d ∷ ds) = listed (deed_told user d) ++ all_told user ds
 
-abbrev pub told_of : Call → Serving → List Told
-told_of (Open user rows cols (Ok id)) new = listed (came (user_in (find_session id new.world.sessions)))
-told_of (Open user rows cols (Err fault)) new = refused (user_among new.world.directory.users (name_in_text user)) (refusal_of fault) ∷ []
-told_of (Refuse name cause) new = refused (user_among new.world.directory.users (name_in_bytes name)) cause ∷ []
-told_of (Byte id byte answer) new = listed (said_to (find_session id new.world.sessions))
-told_of (Close id) new = []
-told_of (Took id n) new = []
+-- the deeds of a user's event, in their order; or that there were more than the tape has room for
+abbrev pub event_told : Option (List ℕ) → Option (List Deed) → List Told
+event_told None ds = []
+event_told (Some user) None = Crowded user ∷ []
+event_told (Some user) (Some ds) = all_told user ds
+
+-- of a byte, by the deeds of its acts alone
+abbrev pub told_of : Option (List ℕ) → Call → Serving → List Told
+told_of by (Open user rows cols (Ok id)) new = listed (came (user_in (find_session id new.world.sessions)))
+told_of by (Open user rows cols (Err fault)) new = refused (user_among new.world.directory.users (name_in_text user)) (refusal_of fault) ∷ []
+told_of by (Refuse name cause) new = refused (user_among new.world.directory.users (name_in_bytes name)) cause ∷ []
+told_of by (Byte id byte answer) new = event_told by new.store.tape.deeds
+told_of by (Close id) new = []
+told_of by (Took id n) new = []
 
 -- whose event it is
 abbrev pub user_by : Call → Serving → Option (List ℕ)
@@ -173,15 +182,33 @@ pub record OrFails {J : Type 0} (fails : J → J → Type 0) (does : J → J →
 abbrev pub FailsOrCrowds : {J : Type 0} → (J → J → Type 0) → (J → List KeptRights) → List KeptRights → J → J → Type 0
 FailsOrCrowds fails rows now old new = fails old new ⊎ ((new ≡ old) × ((256 < length now) ⊎ (256 < length (rows old))))
 
+-- DEEDS: each byte records its own on a tape that was cleared, and no other call clears it
+
+-- what is served, with this tape in the place of its own
+abbrev pub with_tape : Tape → Serving → Serving
+with_tape t s = record s { store = record s.store { tape = t } }
+
+-- from now on deeds are recorded
+abbrev pub recording : Serving → Serving
+recording s = with_tape (blank_tape DEED_LIMIT) s
+
+-- those that were recorded go
+abbrev pub cleared : Serving → Serving
+cleared s = with_tape (blank_tape s.store.tape.room) s
+
+abbrev pub DoesCleared : Serving → Call → Serving → Type 0
+DoesCleared old (Byte id byte answer) new = Does (cleared old) (Byte id byte answer) new
+DoesCleared old call new = Does old call new
+
 -- A CALL: the server does it, and whose the session is that it opened is noted. Unless the journal failed it keeps by what access is
 -- decided from then on, and was asked for the changes that are the doing of the call's user, and told of the call.
 pub record Keeps {J : Type 0} (rows : J → List KeptRights) (texts : J → List (Option KeptText)) (does : J → Act → J → Type 0) (fails : J → J → Type 0)
     (old : Held J) (call : Call) (new : Held J) : Type 0 where
-  pub done : Does old.serving call new.serving
+  pub done : DoesCleared old.serving call new.serving
   pub users : new.users ≡ noted_after call new.serving old.users
   pub noted : AreNoted old.serving old.users → AreNoted new.serving new.users
   pub kept : new.failed ≡ false → AreKept rows new.serving new.journal
-  pub journal : OrFails (FailsOrCrowds fails rows (rows_in new.serving)) (Asked rows texts does (user_by call old.serving) (told_of call new.serving) new.serving) old.failed old.journal new.failed new.journal
+  pub journal : OrFails (FailsOrCrowds fails rows (rows_in new.serving)) (Asked rows texts does (user_by call old.serving) (told_of (user_by call old.serving) call new.serving) new.serving) old.failed old.journal new.failed new.journal
 
 -- it was told of these ends, then to keep texts as they stand, and then what it gathered for long enough
 abbrev pub EndsTold : {J : Type 0} → (J → List (Option KeptText)) → (J → Act → J → Type 0) → List Told → Serving → J → J → Type 0
@@ -196,6 +223,7 @@ pub record HasTold {J : Type 0} (rows : J → List KeptRights) (texts : J → Li
   pub kept : new.failed ≡ false → AreKept rows new.serving new.journal
   pub journal : OrFails fails (EndsTold texts does (ends_told old.users old.serving.ended) new.serving) old.failed old.journal new.failed new.journal
 
--- what calls lead to is what the server ran
-abbrev pub HasRun : {J : Type 0} → Held J → List Call → Held J → Held J → Type 0
-HasRun first calls mid new = Ran first.serving calls mid.serving new.serving
+-- What calls lead to is what the server ran, but for the tape, which each byte clears: whatever tape it is that no byte clears, the calls put
+-- the deeds of all of them on it.
+pub record HasRun {J : Type 0} (first : Held J) (calls : List Call) (mid new : Held J) : Type 0 where
+  pub over : (before : Tape) → (after : Tape) × Ran (with_tape before first.serving) calls (with_tape after mid.serving) (with_tape after new.serving)

@@ -2,13 +2,13 @@
 ghost use Rattle.std.specs.Prelude.{◌≡◌, ℕ, List, None, IfOk, false, []};
 ghost use Rattle.mgs_wire.specs.Calls.{Open};
 ghost use Rattle.mgs_keep.specs.Ends.{AreNoted, ends_told, ids_due, noted_after, noted_left};
-ghost use Rattle.mgs_keep.specs.Keeping.{AreKept, HasChanged, OrFails, WereTold, held};
+ghost use Rattle.mgs_keep.specs.Keeping.{AreKept, HasChanged, OrFails, WereTold, held, recording};
 
 use crate::access_changes::{keep, keep_all};
 use crate::kept_texts::{keep_next, keep_saved};
 use crate::round::Round;
 use crate::session_users::Users;
-use crate::tellings::{name_in_bytes, opening_told, refused, said_to, tell, tick};
+use crate::tellings::{name_in_bytes, opening_told, refused, tell, tell_event, tick};
 use mgs_engine::Engine;
 use mgs_journal::{Journal, JournalFault, Room};
 use mgs_marks::Marked;
@@ -53,13 +53,14 @@ impl<T: Marked + Drop, S: Store + Drop, J: Journal + Drop> Model for Kept<T, S, 
 
 impl<T: Marked + Drop, S: Store + Drop, J: Journal + Drop> Kept<T, S, J> {
     /// A server of which nothing was shown yet, and its journal, which keeps from now on by what access its buffers may be shown.
-    /// `JournalFault`: it did not take that, it keeps more than 256 buffers, or memory was refused.
+    /// The deeds of each byte are recorded, to be told. `JournalFault`: it did not take that, it keeps more than 256 buffers, or memory was
+    /// refused.
     pub fn new(
         alloc: Global,
-        engine: Engine<T, S>,
+        mut engine: Engine<T, S>,
         mut journal: J,
     ) -> Result<Kept<T, S, J>, JournalFault>
-        ensures serving { IfOk result (λ k. k.serving ≡ engine) }
+        ensures serving { IfOk result (λ k. k.serving ≡ recording engine) }
         ensures kept { IfOk result (λ k. AreKept J.rows k.serving k.journal) }
         ensures changed { IfOk result (λ k. HasChanged J.rows J.does None k.serving journal k.journal) }
         ensures users { IfOk result (λ k. k.users ≡ []) }
@@ -67,6 +68,9 @@ impl<T: Marked + Drop, S: Store + Drop, J: Journal + Drop> Kept<T, S, J> {
         ensures failed { IfOk result (λ k. k.failed ≡ false) }
     {
         let Ok(room) = Room::new(alloc, ROOM) else {
+            return Err(JournalFault);
+        };
+        let Ok(()) = engine.record_deeds() else {
             return Err(JournalFault);
         };
         keep_all(&engine, &mut journal, &None)?;
@@ -142,6 +146,7 @@ impl<T: Marked + Drop, S: Store + Drop, J: Journal + Drop> Sessions for Kept<T, 
 
     fn byte(&mut self, id: SessionId, byte: u8) -> Keyed {
         let user = self.engine.user(id);
+        self.engine.clear_deeds();
         let (keyed, ruled) = self.engine.byte_told(id, byte);
         keep(
             &self.engine,
@@ -150,8 +155,7 @@ impl<T: Marked + Drop, S: Store + Drop, J: Journal + Drop> Sessions for Kept<T, 
             &user,
             ruled,
         );
-        let told = said_to(&self.engine, id);
-        tell(&mut self.journal, &mut self.failed, told);
+        tell_event(&self.engine, &mut self.journal, &mut self.failed, &user);
         let saved = saved_by(self.engine.echo(id));
         self.round.type_on(ruled);
         keep_saved(

@@ -1,16 +1,17 @@
 // What a journal is told.
-ghost use Rattle.std.specs.Prelude.{◌≡◌, ◌∷◌, [], false, ℕ};
-ghost use Rattle.mgs_model.specs.World.{find_session};
+ghost use Rattle.std.specs.Prelude.{◌≡◌, ◌∷◌, [], None, Some, false, ℕ};
+ghost use Rattle.std.specs.Option.{option_map};
 ghost use Rattle.mgs_journal.specs.Acts.{Tick, AreDone};
 ghost use Rattle.mgs_keep.specs.Ends.{listed};
-ghost use Rattle.mgs_keep.specs.Keeping.{OrFails, WereTold, came, name_in_bytes, name_in_text, refused, said, said_to, told_of, user_among};
+ghost use Rattle.mgs_keep.specs.Keeping.{OrFails, WereTold, all_told, came, deed_told, event_told, name_in_bytes, name_in_text, refused, told_of, user_among};
 ghost use Rattle.mgs_wire.specs.Calls.{Open};
 
+use mgs_births::Deed;
 use mgs_engine::Engine;
 use mgs_journal::{Journal, JournalFault, Told};
 use mgs_keys::utf8;
 use mgs_marks::Marked;
-use mgs_model::{Message, Name, OpenFault, SessionId};
+use mgs_model::{Name, OpenFault, SessionId};
 use mgs_store::Store;
 use mgs_wire::Refusal;
 
@@ -112,7 +113,7 @@ pub(crate) fn opening_told<T: Marked + Drop, S: Store + Drop>(
     user: &str,
     answer: Result<SessionId, OpenFault>,
 ) -> Option<Told>
-    ensures { (rows cols : ℕ) → listed result ≡ told_of (Open user.now rows cols answer) engine.now }
+    ensures { (rows cols : ℕ) → listed result ≡ told_of None (Open user.now rows cols answer) engine.now }
 {
     match answer {
         Ok(id) => came(engine.user(id)),
@@ -120,27 +121,49 @@ pub(crate) fn opening_told<T: Marked + Drop, S: Store + Drop>(
     }
 }
 
-// What an echo line tells of its user's last event.
-fn said(user: Name, message: Message) -> Option<Told>
-    ensures { result ≡ said user message }
+// What is told of a deed of a user's event, if anything is.
+fn deed_told(user: Name, deed: &Deed) -> Option<Told>
+    ensures { result ≡ deed_told user deed.now }
 {
-    match message {
-        Message::Denied(decision) => Some(Told::Denied(user, decision)),
-        Message::Wrote(name) => Some(Told::Saved(user, name)),
+    match deed {
+        Deed::Denied(buffer, decision) => Some(Told::Denied(user, *buffer, *decision)),
+        Deed::Saved(buffer) => Some(Told::Saved(user, *buffer)),
         _ => None,
     }
 }
 
-/// What a session was denied by the last event, or which buffer it saved.
-#[tactic(auto, using(crate::proofs::Sayings::said_is))]
-pub(crate) fn said_to<T: Marked + Drop, S: Store + Drop>(
-    engine: &Engine<T, S>,
-    id: SessionId,
-) -> Option<Told>
-    ensures { result ≡ said_to (find_session id engine.now.world.sessions) }
+// Tells the journal of deeds of a user's event, one after another.
+fn tell_each<J: Journal>(journal: &mut J, failed: &mut bool, user: Name, deeds: &[Deed])
+    ensures kept { failed.new ≡ false → J.rows journal.new ≡ J.rows journal.old }
+    ensures journal { OrFails J.fails (WereTold J.does (all_told user deeds.now)) failed.old journal.old failed.new journal.new }
 {
-    match engine.user(id) {
-        Some(user) => said(user, engine.echo(id)),
-        None => None,
+    for deed in deeds {
+        tell(journal, failed, deed_told(user, deed));
+    }
+}
+
+// Tells the journal of all deeds of a user's event, or that there were too many.
+fn tell_some<J: Journal>(journal: &mut J, failed: &mut bool, user: Name, deeds: Option<&[Deed]>)
+    ensures kept { failed.new ≡ false → J.rows journal.new ≡ J.rows journal.old }
+    ensures journal { OrFails J.fails (WereTold J.does (event_told (Some user) (option_map (λ ds. ds.now) deeds.entry))) failed.old journal.old failed.new journal.new }
+{
+    match deeds {
+        Some(deeds) => tell_each(journal, failed, user, deeds),
+        None => tell(journal, failed, Some(Told::Crowded(user))),
+    }
+}
+
+/// Tells the journal what was denied by the last event and which buffers it saved, in the order of its acts, if it was a user's.
+pub(crate) fn tell_event<T: Marked + Drop, S: Store + Drop, J: Journal>(
+    engine: &Engine<T, S>,
+    journal: &mut J,
+    failed: &mut bool,
+    user: &Option<Name>,
+)
+    ensures kept { failed.new ≡ false → J.rows journal.new ≡ J.rows journal.old }
+    ensures journal { OrFails J.fails (WereTold J.does (event_told user.now engine.now.store.tape.deeds)) failed.old journal.old failed.new journal.new }
+{
+    if let Some(user) = user {
+        tell_some(journal, failed, *user, engine.deeds());
     }
 }

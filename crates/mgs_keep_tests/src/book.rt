@@ -128,6 +128,20 @@ fn word_of(name: Option<&Name>) -> &str {
     }
 }
 
+// Takes one call more, if it does not fail, and writes these words down.
+fn write(words: &mut String, left: &mut usize, line: &[&str]) -> Result<(), JournalFault> {
+    if *left == 0 {
+        return Err(JournalFault);
+    }
+    *left -= 1;
+    for word in line {
+        if words.push_str(word).is_err() {
+            return Err(JournalFault);
+        }
+    }
+    Ok(())
+}
+
 // Takes one call more, if it does not fail, and writes it down.
 fn note(
     words: &mut String,
@@ -136,16 +150,24 @@ fn note(
     what: &str,
     detail: &str,
 ) -> Result<(), JournalFault> {
-    if *left == 0 {
-        return Err(JournalFault);
-    }
-    *left -= 1;
-    for word in &[word_of(user), " ", what, " ", detail, "\n"] {
-        if words.push_str(word).is_err() {
-            return Err(JournalFault);
-        }
-    }
-    Ok(())
+    write(words, left, &[word_of(user), " ", what, " ", detail, "\n"])
+}
+
+// The same of a denial, with its buffer.
+fn note_denial(
+    words: &mut String,
+    left: &mut usize,
+    user: &Name,
+    buffer: &Name,
+    decision: &Decision,
+) -> Result<(), JournalFault> {
+    let user = word_of(Some(user));
+    let buffer = word_of(Some(buffer));
+    write(
+        words,
+        left,
+        &[user, " is denied ", buffer, " ", right_of(decision), "\n"],
+    )
 }
 
 fn right_of(decision: &Decision) -> &str {
@@ -400,12 +422,13 @@ impl Journal for Book {
             Told::Quit(user) => note(words, left, Some(&user), "quits", ""),
             Told::Closed(user) => note(words, left, Some(&user), "is closed", ""),
             Told::FellBehind(user) => note(words, left, Some(&user), "falls behind", ""),
-            Told::Denied(user, decision) => {
-                note(words, left, Some(&user), "is denied", right_of(&decision))
+            Told::Denied(user, buffer, decision) => {
+                note_denial(words, left, &user, &buffer, &decision)
             }
             Told::Saved(user, buffer) => {
                 note(words, left, Some(&user), "saves", word_of(Some(&buffer)))
             }
+            Told::Crowded(user) => note(words, left, Some(&user), "does more", ""),
         }
     }
 

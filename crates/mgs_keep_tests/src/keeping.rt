@@ -46,10 +46,10 @@ fn serve_with<S: Store + Drop>(
 // Who types what (`true`: ann), and what the journal is told by it.
 const STEPS: [(bool, &[u8], &str); 8] = [
     (true, b"x", "notes is edited xn\n"),
-    (false, b"y", "bob is denied WRITE_DATA\n"),
+    (false, b"y", "bob is denied notes WRITE_DATA\n"),
     (true, b"\x152\x1bxacl-delete\r", "ann changes notes\n"),
     // Who may not read types at the text's end.
-    (false, b"y", "bob is denied APPEND_DATA\n"),
+    (false, b"y", "bob is denied notes APPEND_DATA\n"),
     (true, b"\x18bplan\r", "ann makes plan\n"),
     (true, b"\x18knotes\r", "ann kills notes\n"),
     (
@@ -72,6 +72,54 @@ fn a_journal_is_told_of_each_change_and_denial(rt: HostRuntime) {
         server.tell_ended();
         assert!(rt; server.journal().words().get(before..) == Some(told));
         assert!(rt; !server.has_failed());
+    }
+}
+
+// What bob presses while `notes` is shown to him, and what the journal is told by it.
+const DENIALS: [(&[u8], &str); 3] = [
+    (b"\x18bplan\r", "bob is denied plan READ_ATTRIBUTES\n"),
+    (
+        b"\x1bxinsert-buffer\rplan\r",
+        "bob is denied plan READ_DATA\n",
+    ),
+    (b"y", "bob is denied notes WRITE_DATA\n"),
+];
+
+// The buffer of a denial is the one whose list denies, and not always the one that is shown.
+#[test]
+fn a_denial_is_told_with_its_buffer(rt: HostRuntime) {
+    let mut server = serve(rt.alloc(), 100, &rt);
+    let ann = sit(&mut server, "ann", &rt);
+    let bob = sit(&mut server, "bob", &rt);
+    press(&mut server, ann, b"\x18bplan\r");
+    for &(keys, told) in &DENIALS {
+        let before = server.journal().words().len();
+        press(&mut server, bob, keys);
+        assert!(rt; server.journal().words().get(before..) == Some(told));
+    }
+}
+
+// What ann presses, and what the journal is told by it.
+const PLAYS: [(&[u8], &str); 4] = [
+    // A macro makes a buffer and kills it, twice.
+    (
+        b"\x18(\x18ba\r\x18ka\r\x18ba\r\x18ka\r\x18)",
+        "ann makes a\nann kills a\nann makes a\nann kills a\n",
+    ),
+    // 256 acts of one key that did something are as many as are told one by one.
+    (b"\x1564\x18e", ""),
+    (b"\x1565\x18e", "ann does more \n"),
+    (b"\x1564\x18e", ""),
+];
+
+#[test]
+fn a_key_that_does_too_much_is_told_as_such(rt: HostRuntime) {
+    let mut server = serve(rt.alloc(), 100, &rt);
+    let ann = sit(&mut server, "ann", &rt);
+    for &(keys, told) in &PLAYS {
+        let before = server.journal().words().len();
+        press(&mut server, ann, keys);
+        assert!(rt; server.journal().words().get(before..) == Some(told));
     }
 }
 

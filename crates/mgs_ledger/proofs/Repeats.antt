@@ -89,10 +89,12 @@ decision_self Granted = refl
 decision_self (DeniedBy n r) = both (n == n) (bit_of r == bit_of r) (self n) (self (bit_of r))
 decision_self (NotGranted r) = self (bit_of r)
 
-one_denial : (user : List ℕ) (d : Decision) (t : Told) → is_denial_of user d t ≡ true → told.Denied user d ≡ t
-one_denial user d (told.Denied other f) e =
-    ap₂ (λ n k. told.Denied n k) (one_name user other (left (same_name user other) (same_decision d f) e)) (one_decision d f (right (same_name user other) (same_decision d f) e))
-one_denial user d t e = absurd cc
+one_denial : (user buffer : List ℕ) (d : Decision) (t : Told) → is_denial_of user buffer d t ≡ true → told.Denied user buffer d ≡ t
+one_denial user buffer d (told.Denied other b f) e =
+    let rest = right (same_name user other) (same_name buffer b && same_decision d f) e in
+    ap₂ (λ n k. told.Denied n buffer k) (one_name user other (left (same_name user other) (same_name buffer b && same_decision d f) e)) (one_decision d f (right (same_name buffer b) (same_decision d f) rest))
+    ∙ ap (λ n. told.Denied other n f) (one_name buffer b (left (same_name buffer b) (same_decision d f) rest))
+one_denial user buffer d t e = absurd cc
 
 one_refusal : (user : List ℕ) (c : Refusal) (t : Told) → is_refusal_of user c t ≡ true → told.Refused user c ≡ t
 one_refusal user c (told.Refused other b) e =
@@ -104,13 +106,14 @@ one_unnamed c (told.RefusedUnnamed b) e = ap (λ k. told.RefusedUnnamed k) (one_
 one_unnamed c t e = absurd cc
 
 pub equal : (a b : Told) → is_repeat a b ≡ true → a ≡ b
-equal (told.Denied user d) b e = one_denial user d b e
+equal (told.Denied user buffer d) b e = one_denial user buffer d b e
 equal (told.Refused user c) b e = one_refusal user c b e
 equal (told.RefusedUnnamed c) b e = one_unnamed c b e
 equal a b e = absurd cc
 
 repeats_self : (a : Told) → is_countable a ≡ true → is_repeat a a ≡ true
-repeats_self (told.Denied user d) e = both (same_name user user) (same_decision d d) (same_self user) (decision_self d)
+repeats_self (told.Denied user buffer d) e =
+    both (same_name user user) (same_name buffer buffer && same_decision d d) (same_self user) (both (same_name buffer buffer) (same_decision d d) (same_self buffer) (decision_self d))
 repeats_self (told.Refused user c) e = both (same_name user user) (same_cause c c) (same_self user) (self (cause_number c))
 repeats_self (told.RefusedUnnamed c) e = self (cause_number c)
 repeats_self a e = absurd cc

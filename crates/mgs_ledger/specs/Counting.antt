@@ -61,9 +61,9 @@ same_decision Granted other = is_granted other
 same_decision (DeniedBy entry bit) other = is_denied_by entry (bit_of bit) other
 same_decision (NotGranted bit) other = is_not_granted (bit_of bit) other
 
-abbrev pub is_denial_of : List ℕ → Decision → Told → Bool
-is_denial_of user decision (told.Denied other d) = same_name user other && same_decision decision d
-is_denial_of user decision other = false
+abbrev pub is_denial_of : List ℕ → List ℕ → Decision → Told → Bool
+is_denial_of user buffer decision (told.Denied other b d) = same_name user other && (same_name buffer b && same_decision decision d)
+is_denial_of user buffer decision other = false
 
 abbrev pub is_refusal_of : List ℕ → Refusal → Told → Bool
 is_refusal_of user cause (told.Refused other c) = same_name user other && same_cause cause c
@@ -75,14 +75,14 @@ is_unnamed_refusal_of cause other = false
 
 -- two denials, or two refused logins, are equal. Nothing else is counted with its like.
 abbrev pub is_repeat : Told → Told → Bool
-is_repeat (told.Denied user decision) other = is_denial_of user decision other
+is_repeat (told.Denied user buffer decision) other = is_denial_of user buffer decision other
 is_repeat (told.Refused user cause) other = is_refusal_of user cause other
 is_repeat (told.RefusedUnnamed cause) other = is_unnamed_refusal_of cause other
 is_repeat one other = false
 
 -- denials and refused logins
 abbrev pub is_countable : Told → Bool
-is_countable (told.Denied user decision) = true
+is_countable (told.Denied user buffer decision) = true
 is_countable (told.Refused user cause) = true
 is_countable (told.RefusedUnnamed cause) = true
 is_countable other = false

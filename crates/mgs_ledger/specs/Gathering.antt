@@ -7,7 +7,7 @@ use Rattle.mgs_model.specs.declared.entry.Decision.TheVariants.{Granted, DeniedB
 use Rattle.mgs_wire.specs.declared.refusal.Refusal.{Refusal}
 use Rattle.mgs_wire.specs.declared.refusal.Refusal.TheVariants.{Line, NoUser, Ticket, Size, Full, Short}
 use Rattle.mgs_journal.specs.declared.Told.{Told}
-use Rattle.mgs_journal.specs.declared.Told.TheVariants.{Came, Refused, RefusedUnnamed, Quit, Closed, FellBehind, Denied, Saved}
+use Rattle.mgs_journal.specs.declared.Told.TheVariants.{Came, Refused, RefusedUnnamed, Quit, Closed, FellBehind, Denied, Saved, Crowded}
 use Rattle.mgs_ledger.specs.declared.batch.EventKind.{EventKind}
 use Rattle.mgs_ledger.specs.declared.batch.EventKind.TheVariants.{One, More}
 use Rattle.mgs_ledger.specs.declared.batch.Gathered.{Gathered}
@@ -21,8 +21,9 @@ told_user (RefusedUnnamed cause) = None
 told_user (Quit user) = Some user
 told_user (Closed user) = Some user
 told_user (FellBehind user) = Some user
-told_user (Denied user decision) = Some user
+told_user (Denied user buffer decision) = Some user
 told_user (Saved user buffer) = Some user
+told_user (Crowded user) = Some user
 
 abbrev pub told_what : Told → List ℕ
 told_what (Came user) = codes "login"
@@ -31,8 +32,9 @@ told_what (RefusedUnnamed cause) = codes "refused"
 told_what (Quit user) = codes "end"
 told_what (Closed user) = codes "end"
 told_what (FellBehind user) = codes "end"
-told_what (Denied user decision) = codes "denied"
+told_what (Denied user buffer decision) = codes "denied"
 told_what (Saved user buffer) = codes "save"
+told_what (Crowded user) = codes "more"
 
 abbrev pub told_buffer : Told → Option (List ℕ)
 told_buffer (Came user) = None
@@ -41,8 +43,9 @@ told_buffer (RefusedUnnamed cause) = None
 told_buffer (Quit user) = None
 told_buffer (Closed user) = None
 told_buffer (FellBehind user) = None
-told_buffer (Denied user decision) = None
+told_buffer (Denied user buffer decision) = Some buffer
 told_buffer (Saved user buffer) = Some buffer
+told_buffer (Crowded user) = None
 
 abbrev pub refusal_word : Refusal → List ℕ
 refusal_word Line = codes "no login line"
@@ -65,8 +68,9 @@ told_detail (RefusedUnnamed cause) = refusal_word cause
 told_detail (Quit user) = codes "quit"
 told_detail (Closed user) = codes "closed"
 told_detail (FellBehind user) = codes "slow"
-told_detail (Denied user decision) = decision_detail decision
+told_detail (Denied user buffer decision) = decision_detail decision
 told_detail (Saved user buffer) = []
+told_detail (Crowded user) = codes "over 256 acts of one key"
 
 -- an event of that user, or one that counts those of a user past the limit
 abbrev pub kind_user : EventKind → Option (List ℕ)

@@ -104,7 +104,8 @@ fn told_detail(alloc: Global, told: Told) -> Result<String, AllocError>
         Told::Quit(_) => String::from_str(alloc, "quit"),
         Told::Closed(_) => String::from_str(alloc, "closed"),
         Told::FellBehind(_) => String::from_str(alloc, "slow"),
-        Told::Denied(_, decision) => decision_detail(alloc, decision),
+        Told::Denied(_, _, decision) => decision_detail(alloc, decision),
+        Told::Crowded(_) => String::from_str(alloc, "over 256 acts of one key"),
     }
 }
 
@@ -115,8 +116,9 @@ fn told_what(told: Told) -> &'static str
         Told::Came(_) => "login",
         Told::Refused(_, _) | Told::RefusedUnnamed(_) => "refused",
         Told::Quit(_) | Told::Closed(_) | Told::FellBehind(_) => "end",
-        Told::Denied(_, _) => "denied",
+        Told::Denied(_, _, _) => "denied",
         Told::Saved(_, _) => "save",
+        Told::Crowded(_) => "more",
     }
 }
 
@@ -131,8 +133,9 @@ pub(crate) fn told_user(told: Told) -> Option<Name>
         Told::Quit(user) => Some(user),
         Told::Closed(user) => Some(user),
         Told::FellBehind(user) => Some(user),
-        Told::Denied(user, _) => Some(user),
+        Told::Denied(user, _, _) => Some(user),
         Told::Saved(user, _) => Some(user),
+        Told::Crowded(user) => Some(user),
     }
 }
 
@@ -140,6 +143,7 @@ fn told_buffer(told: Told) -> Option<Name>
     ensures { result ≡ told_buffer told }
 {
     match told {
+        Told::Denied(_, buffer, _) => Some(buffer),
         Told::Saved(_, buffer) => Some(buffer),
         _ => None,
     }

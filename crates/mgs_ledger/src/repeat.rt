@@ -67,11 +67,13 @@ fn is_same_decision(a: Decision, b: Decision) -> bool
     }
 }
 
-fn is_denial_of(user: &Name, decision: Decision, told: Told) -> bool
-    ensures { result ≡ is_denial_of user.now decision told }
+fn is_denial_of(user: &Name, buffer: &Name, decision: Decision, told: Told) -> bool
+    ensures { result ≡ is_denial_of user.now buffer.now decision told }
 {
     match told {
-        Told::Denied(other, d) => *user == other && is_same_decision(decision, d),
+        Told::Denied(other, b, d) => {
+            *user == other && (*buffer == b && is_same_decision(decision, d))
+        }
         _ => false,
     }
 }
@@ -98,7 +100,7 @@ fn compare(told: Told, other: Told) -> bool
     ensures { result ≡ is_repeat told other }
 {
     match told {
-        Told::Denied(user, decision) => is_denial_of(&user, decision, other),
+        Told::Denied(user, buffer, decision) => is_denial_of(&user, &buffer, decision, other),
         Told::Refused(user, cause) => is_refusal_of(&user, cause, other),
         Told::RefusedUnnamed(cause) => is_unnamed_refusal_of(cause, other),
         _ => false,

@@ -157,7 +157,7 @@ pub(crate) fn come_in_rounds<J: Journal>(
     Ok(())
 }
 
-/// Tells that an entry denied a user this right, so many times.
+/// Tells that an entry of `notes` denied a user this right, so many times.
 pub(crate) fn deny<J: Journal>(
     desk: &mut J,
     user: &str,
@@ -167,7 +167,7 @@ pub(crate) fn deny<J: Journal>(
 ) -> Result<(), Fail> {
     let decision = Decision::DeniedBy { entry, bit };
     for _ in 0..times {
-        desk.tell(Told::Denied(name(user)?, decision))?;
+        desk.tell(Told::Denied(name(user)?, name("notes")?, decision))?;
     }
     Ok(())
 }

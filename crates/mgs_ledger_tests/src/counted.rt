@@ -16,12 +16,21 @@ fn deny_all_kinds<J: Journal>(desk: &mut J) -> Result<(), Fail> {
     deny(desk, "bob", 2, Right::ReadData, 12)?;
     let missing = Told::Denied(
         name("bob")?,
+        name("notes")?,
         Decision::NotGranted {
             bit: Right::ReadData,
         },
     );
     tell(desk, missing)?;
-    tell(desk, missing)
+    tell(desk, missing)?;
+    let other = Told::Denied(
+        name("bob")?,
+        name("plan")?,
+        Decision::NotGranted {
+            bit: Right::ReadData,
+        },
+    );
+    tell(desk, other)
 }
 
 #[test]
@@ -29,11 +38,12 @@ fn equal_denials_are_one_event_with_a_count(rt: HostRuntime) -> Result<(), Fail>
     let dial = Dial::new();
     let mut desk = begin(rt.alloc(), &dial)?;
     deny_all_kinds(&mut desk)?;
-    let text = "2026-11-29T01:22:33Z\t1\tbob\tdenied\t\tREAD_DATA entry 2 x 312\n\
-         2026-11-29T01:22:33Z\t2\tcat\tdenied\t\tREAD_DATA entry 2\n\
-         2026-11-29T01:22:33Z\t3\tbob\tdenied\t\tREAD_DATA entry 3\n\
-         2026-11-29T01:22:33Z\t4\tbob\tdenied\t\tWRITE_DATA entry 2 x 2\n\
-         2026-11-29T01:22:33Z\t5\tbob\tdenied\t\tREAD_DATA no entry x 2\n";
+    let text = "2026-11-29T01:22:33Z\t1\tbob\tdenied\tnotes\tREAD_DATA entry 2 x 312\n\
+         2026-11-29T01:22:33Z\t2\tcat\tdenied\tnotes\tREAD_DATA entry 2\n\
+         2026-11-29T01:22:33Z\t3\tbob\tdenied\tnotes\tREAD_DATA entry 3\n\
+         2026-11-29T01:22:33Z\t4\tbob\tdenied\tnotes\tWRITE_DATA entry 2 x 2\n\
+         2026-11-29T01:22:33Z\t5\tbob\tdenied\tnotes\tREAD_DATA no entry x 2\n\
+         2026-11-29T01:22:33Z\t6\tbob\tdenied\tplan\tREAD_DATA no entry\n";
     assert_eq!(rt; last_lines(rt.alloc(), desk)?.as_str(), text);
     Ok(())
 }
@@ -93,7 +103,9 @@ fn past_twenty_rows_a_second_one_event_counts_the_rest(rt: HostRuntime) -> Resul
     pass_the_limit(&mut desk)?;
     let text = last_lines(rt.alloc(), desk)?;
     assert!(rt;
-        text.as_str().starts_with("2026-11-29T01:22:33Z\t1\tbob\tdenied\t\tREAD_DATA entry 1 x 4\n")
+        text.as_str().starts_with(
+            "2026-11-29T01:22:33Z\t1\tbob\tdenied\tnotes\tREAD_DATA entry 1 x 4\n"
+        )
     );
     assert!(rt;
         text.as_str().ends_with(
@@ -123,10 +135,12 @@ fn the_next_second_has_rows_of_its_own(rt: HostRuntime) -> Result<(), Fail> {
     pass_a_second(&mut desk, &dial)?;
     let text = last_lines(rt.alloc(), desk)?;
     assert!(rt;
-        text.as_str().starts_with("2026-11-29T01:22:33Z\t1\tbob\tdenied\t\tREAD_DATA entry 1 x 2\n")
+        text.as_str().starts_with(
+            "2026-11-29T01:22:33Z\t1\tbob\tdenied\tnotes\tREAD_DATA entry 1 x 2\n"
+        )
     );
     let next = "2026-11-29T01:22:33Z\t21\tbob\tmore\t\t1 events\n\
-         2026-11-29T01:22:34Z\t22\tbob\tdenied\t\tREAD_DATA entry 1 x 3\n\
+         2026-11-29T01:22:34Z\t22\tbob\tdenied\tnotes\tREAD_DATA entry 1 x 3\n\
          2026-11-29T01:22:34Z\t23\tbob\tlogin\t\t\n";
     assert!(rt; text.as_str().contains(next));
     assert!(rt;
@@ -154,7 +168,7 @@ fn a_commit_does_not_begin_the_rows_of_a_second_again(rt: HostRuntime) -> Result
     assert!(rt;
         text.as_str().ends_with(
             "2026-11-29T01:22:33Z\t16\tann\tcreate\tnotes\tann: ALLOW OWNER@ rw\n\
-         2026-11-29T01:22:33Z\t17\tbob\tdenied\t\tREAD_DATA entry 1 x 3\n\
+         2026-11-29T01:22:33Z\t17\tbob\tdenied\tnotes\tREAD_DATA entry 1 x 3\n\
          2026-11-29T01:22:33Z\t18\tbob\tlogin\t\t\n\
          2026-11-29T01:22:33Z\t19\tbob\tlogin\t\t\n\
          2026-11-29T01:22:33Z\t20\tbob\tlogin\t\t\n\

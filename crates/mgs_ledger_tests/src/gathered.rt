@@ -17,8 +17,8 @@ fn tell_all<J: Journal>(desk: &mut J) -> Result<(), Fail> {
         bit: Right::WriteData,
     };
     tell(desk, Told::Came(bob))?;
-    tell(desk, Told::Denied(bob, denied))?;
-    tell(desk, Told::Denied(bob, missing))?;
+    tell(desk, Told::Denied(bob, name("notes")?, denied))?;
+    tell(desk, Told::Denied(bob, name("plan")?, missing))?;
     tell(desk, Told::Quit(bob))?;
     tell(desk, Told::Closed(bob))?;
     tell(desk, Told::FellBehind(bob))
@@ -32,8 +32,8 @@ fn what_is_told_comes_before_the_next_change(rt: HostRuntime) -> Result<(), Fail
     assert_eq!(rt; dial.line_count(), 0);
     add(&mut desk, "notes", "ann", "-", "ALLOW OWNER@ rw")?;
     let text = "2026-11-29T01:22:33Z\t1\tbob\tlogin\t\t\n\
-         2026-11-29T01:22:33Z\t2\tbob\tdenied\t\tREAD_DATA entry 2\n\
-         2026-11-29T01:22:33Z\t3\tbob\tdenied\t\tWRITE_DATA no entry\n\
+         2026-11-29T01:22:33Z\t2\tbob\tdenied\tnotes\tREAD_DATA entry 2\n\
+         2026-11-29T01:22:33Z\t3\tbob\tdenied\tplan\tWRITE_DATA no entry\n\
          2026-11-29T01:22:33Z\t4\tbob\tend\t\tquit\n\
          2026-11-29T01:22:33Z\t5\tbob\tend\t\tclosed\n\
          2026-11-29T01:22:33Z\t6\tbob\tend\t\tslow\n\

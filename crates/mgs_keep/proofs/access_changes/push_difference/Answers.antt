@@ -1,6 +1,5 @@
-use Rattle.std.proofs.Common.{List, length, arith}
+use Rattle.std.proofs.Common.{length, arith}
 use Rattle.std.proofs.lemmas.Option.{slice_get_within}
-use Rattle.mgs_journal.specs.Rows.{KeptRights}
 use Rattle.mgs_keep.specs.Keeping.{rows_in}
 use Rattle.mgs_keep.proofs.Differences.{found_changed, found_killed, found_made, found_over, found_same, further_both, further_kept, further_now, less_both, less_kept, less_now}
 use Rattle.mgs_keep.proofs.access_changes.push_difference.Goals as goal

@@ -14,6 +14,8 @@ returns-clause-told g c =
     old.failed now.new.failed c.keep_next.new.failed last.new.failed now.ensures.engine now.ensures.users c.self.invariant now.ensures.kept now.ensures.journal c.keep_next.ensures.kept c.keep_next.ensures.journal last.ensures.kept last.ensures.journal)
 
 pub returns-clause-runs : goal.returns-clause-runs
-returns-clause-runs g c =
-    has_run g.J.Journal.rows g.J.Journal.texts g.J.Journal.does g.J.Journal.fails c.args.self.now c.tell_all.new.engine
-    (c.tell_all.ensures.engine ∙ ap (λ (s : Held g.row.J.Denot). record s.serving { ended = [] }) c.self.view_is)
+returns-clause-runs g c first calls made = record {
+  over =
+      has_run g.J.Journal.rows g.J.Journal.texts g.J.Journal.does g.J.Journal.fails c.args.self.now c.tell_all.new.engine
+      (c.tell_all.ensures.engine ∙ ap (λ (s : Held g.row.J.Denot). record s.serving { ended = [] }) c.self.view_is) first calls made;
+}
