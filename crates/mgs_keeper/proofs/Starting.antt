@@ -13,7 +13,7 @@ use Rattle.mgs_resume.specs.Contents.{StartsWith}
 use Rattle.mgs_resume.specs.Joined.{with_others}
 use Rattle.mgs_server.specs.Listening.{at_first, first_world}
 use Rattle.mgs_keep.specs.Ends.{AreNoted, ids_due}
-use Rattle.mgs_keep.specs.Keeping.{AreKept, HasChanged, Held}
+use Rattle.mgs_keep.specs.Keeping.{AreKept, HasChanged, Held, recording}
 use Rattle.mgs_keeper.specs.Start.{Starts}
 
 -- with these buffers
@@ -22,7 +22,7 @@ pub starts : {J S : Type 0} (rows : J → List KeptRights) (does : J → Act →
     (buffers : List MarkedBuffer) (e : Serving) (k : Held J)
     → rules_kept buffers ≡ with_others (taken journal) (rules_in_rows (rows journal)) (rules_kept configured)
     → StartsWith (taken journal) configured (rules_in_rows (rows journal)) (bodies journal) buffers
-    → e ≡ at_first (first_world directory buffers) (first_told failed accepted store) → k.serving ≡ e → (ids_due e ≡ [] → AreNoted k.serving k.users) → AreKept rows k.serving k.journal → HasChanged rows does None k.serving journal k.journal → k.failed ≡ false
+    → e ≡ at_first (first_world directory buffers) (first_told failed accepted store) → k.serving ≡ recording e → (ids_due e ≡ [] → AreNoted k.serving k.users) → AreKept rows k.serving k.journal → HasChanged rows does None k.serving journal k.journal → k.failed ≡ false
     → Starts rows does bodies taken failed accepted directory configured store journal k
 starts rows does bodies taken failed accepted directory configured store journal buffers e k rules texts first serves noted kept changed sound =
-    record { buffers = buffers; rules = rules; texts = texts; serving = serves ∙ first; noted = noted (ap ids_due first); kept = kept; changed = changed; sound = sound }
+    record { buffers = buffers; rules = rules; texts = texts; serving = serves ∙ ap recording first; noted = noted (ap ids_due first); kept = kept; changed = changed; sound = sound }

@@ -12,7 +12,7 @@ use Rattle.mgs_resume.specs.Contents.{StartsWith}
 use Rattle.mgs_resume.specs.Joined.{with_others}
 use Rattle.mgs_server.specs.Listening.{at_first, first_world}
 use Rattle.mgs_keep.specs.Ends.{AreNoted}
-use Rattle.mgs_keep.specs.Keeping.{AreKept, HasChanged, Held}
+use Rattle.mgs_keep.specs.Keeping.{AreKept, HasChanged, Held, recording}
 
 -- The buffers are those that the journal keeps, decided by what it keeps and with the texts that it keeps, and behind them those of a
 -- configuration whose names it does not have; nobody is there yet, nor noted, and the journal keeps by what access each is decided: it made
@@ -22,7 +22,7 @@ pub record Starts {J S : Type 0} (rows : J → List KeptRights) (does : J → Ac
   pub buffers : List MarkedBuffer
   pub rules : rules_kept buffers ≡ with_others (taken journal) (rules_in_rows (rows journal)) (rules_kept configured)
   pub texts : StartsWith (taken journal) configured (rules_in_rows (rows journal)) (bodies journal) buffers
-  pub serving : k.serving ≡ at_first (first_world directory buffers) (first_told failed accepted store)
+  pub serving : k.serving ≡ recording (at_first (first_world directory buffers) (first_told failed accepted store))
   pub noted : AreNoted k.serving k.users
   pub kept : AreKept rows k.serving k.journal
   pub changed : HasChanged rows does None k.serving journal k.journal
