@@ -988,11 +988,12 @@ def try_reader_stops(long, seed):
     """An audit ends with 0 if its reader stops reading."""
     with Desk() as desk:
         server = serving(desk)
-        cat = server.join("cat")
-        for _ in range(4):
-            type_in(cat, go_to("page") + "x" * 100)
-            see(cat, "Denied")
-            time.sleep(0.5)
+        ann = server.join("ann")
+        type_in(ann, go_to("notes"))
+        for _ in range(10):
+            type_in(ann, (DENY_BOB + DROP_FIRST) * 10)
+        type_in(ann, go_to("page"))
+        see(ann, "A page.")
         time.sleep(1.2)
         server.kill()
         whole = desk.audit()[1]

@@ -486,6 +486,8 @@ def played(server):
         got = log_in_by(server, line)
         expect(f"played: {line[:20]} is refused", got == answer, got)
         note(name, "refused", NONE, cause)
+        # Equal refusals of one second are one line.
+        time.sleep(1.1)
     does(bob, "Hello ann. ", lambda: see(ann, "Hello ann."))
     does(ann, DENY_BOB, lambda: see(bob, "[no read: entry 1]"), ("ann", "list", "notes", list_detail(NOTES, ["DENY bob rwa"] + NOTES)))
     denied("bob", bob, "x", "Denied: entry 1 denies APPEND_DATA", "notes", "APPEND_DATA entry 1")
