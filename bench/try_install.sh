@@ -203,7 +203,7 @@ fi
 
 # The archive and the Debian package.
 if ! command -v git > /dev/null || ! command -v dpkg-deb > /dev/null; then
-    skip 17 "git or dpkg-deb is not installed"
+    skip 18 "git or dpkg-deb is not installed"
 else
     name=mgd-$version-linux-x86_64
     deb=mgd_${version}_amd64.deb
