@@ -85,7 +85,7 @@ fn what_was_revoked_stays_revoked(rt: HostRuntime) -> Result<(), Fail> {
     press(&mut server, bob, b"x");
     assert!(rt;
         server.journal().words()
-            == "- makes letters\nbob comes \nbob is denied plan READ_ATTRIBUTES\n"
+            == "- makes letters\nbob comes \nbob is denied notes READ_ATTRIBUTES\n"
     );
     assert!(rt; !server.has_failed());
     assert!(rt; has(server.pending(bob), b"kept words"));
